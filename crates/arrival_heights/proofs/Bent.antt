@@ -1,11 +1,11 @@
 -- The lesser of two lines, before and after they meet.
 use Rattle.std.specs.Prelude.{◌≡◌, ◌⊎◌, ◌+◌, ◌-◌, ◌<◌, ◌≤◌, [], ◌∷◌, Option, Some, None, MatchOption}
 use Rattle.std.proofs.Common.{arith, sym, ap, ◌∙◌, refl, inl, inr}
-use Rattle.min_plus.specs.rational.specs.Rational.{ℚ, ◌+ℚ◌, ◌*ℚ◌, ◌≤ℚ◌}
-use Rattle.min_plus.specs.rational.specs.MinMax.{min_q}
-use Rattle.min_plus.specs.rational.proofs.Laws.{add_mul, mul_le_mul_right}
-use Rattle.min_plus.specs.rational.proofs.MinMax.{min_q_left, min_q_is_right, min_q_comm}
-use Rattle.min_plus.specs.rational.proofs.Linear.{with4, with6}
+use Rattle.rational.specs.Rational.{ℚ, ◌+ℚ◌, ◌*ℚ◌, ◌≤ℚ◌}
+use Rattle.rational.specs.MinMax.{min_q}
+use Rattle.rational.proofs.Laws.{add_mul, mul_le_mul_right}
+use Rattle.rational.proofs.MinMax.{min_q_left, min_q_is_right, min_q_comm}
+use Rattle.rational.proofs.Linear.{with4, with6}
 use Rattle.arrival_lines.specs.Grid.{bits, speed, line_value, lesser}
 use Rattle.arrival_lines.specs.Steps.{burst_with, rate_with}
 use Rattle.arrival_lines.specs.declared.grid.Line.{Line}

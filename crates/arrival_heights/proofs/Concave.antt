@@ -3,10 +3,10 @@ use Rattle.std.specs.Prelude.{◌≡◌, ℕ, zero, suc, ◌+◌, ◌-◌, ◌*�
 use Rattle.std.proofs.Common.{arith, ap, ◌∙◌, refl, subst, inl, inr}
 use Rattle.std.proofs.lemmas.Bool.{cases_lt}
 use Rattle.std.proofs.lemmas.Bool.Decides.{nat_tests}
-use Rattle.min_plus.specs.rational.specs.Rational.{ℚ, ◌+ℚ◌, ◌*ℚ◌, ◌≤ℚ◌}
-use Rattle.min_plus.specs.rational.proofs.Laws.{add_mul, le_refl, le_trans, le_total}
-use Rattle.min_plus.specs.rational.proofs.Linear.{with6}
-use Rattle.min_plus.specs.rational.proofs.Quotients.{div_nonneg}
+use Rattle.rational.specs.Rational.{ℚ, ◌+ℚ◌, ◌*ℚ◌, ◌≤ℚ◌}
+use Rattle.rational.proofs.Laws.{add_mul, le_refl, le_trans, le_total}
+use Rattle.rational.proofs.Linear.{with6}
+use Rattle.rational.proofs.Quotients.{div_nonneg}
 use Rattle.min_plus.specs.Functions.{zero_q}
 use Rattle.arrival_lines.specs.Grid.{bits, speed, micros, line_value, parts_value}
 use Rattle.arrival_lines.specs.Steps.{AreSteps}

@@ -4,11 +4,11 @@ use Rattle.std.specs.List.{sum_by}
 use Rattle.std.proofs.Common.{arith, ap, ◌∙◌, inl, inr}
 use Rattle.std.proofs.lemmas.Bool.{cases_lt}
 use Rattle.std.proofs.lemmas.List.Sums.{sum_by-cons}
-use Rattle.min_plus.specs.rational.specs.Rational.{ℚ, ◌+ℚ◌, ◌-ℚ◌, ◌*ℚ◌, ◌≤ℚ◌, ◌<ℚ◌}
-use Rattle.min_plus.specs.rational.specs.MinMax.{min_q}
-use Rattle.min_plus.specs.rational.proofs.Laws.{add_mul, mul_sub, mul_nonneg, mul_le_mul_right, mul_lt_mul_right, le_of_lt}
-use Rattle.min_plus.specs.rational.proofs.MinMax.{min_q_le_left, min_q_le_right, min_q_one}
-use Rattle.min_plus.specs.rational.proofs.Linear.{sub_nonneg, sub_pos, with1, with5, with7}
+use Rattle.rational.specs.Rational.{ℚ, ◌+ℚ◌, ◌-ℚ◌, ◌*ℚ◌, ◌≤ℚ◌, ◌<ℚ◌}
+use Rattle.rational.specs.MinMax.{min_q}
+use Rattle.rational.proofs.Laws.{add_mul, mul_sub, mul_nonneg, mul_le_mul_right, mul_lt_mul_right, le_of_lt}
+use Rattle.rational.proofs.MinMax.{min_q_le_left, min_q_le_right, min_q_one}
+use Rattle.rational.proofs.Linear.{sub_nonneg, sub_pos, with1, with5, with7}
 use Rattle.min_plus.specs.Functions.{zero_q}
 use Rattle.arrival_lines.specs.Grid.{bits, speed, line_value, lesser, part_value, parts_value}
 use Rattle.arrival_lines.specs.Steps.{IsStep, rate_with, most_rate}

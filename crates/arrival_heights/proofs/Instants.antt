@@ -3,10 +3,10 @@ use Rattle.std.specs.Prelude.{◌≡◌, ℕ, zero, suc, pos, nat_abs, ◌*◌, 
 use Rattle.std.proofs.Common.{arith, sym, ap, ◌∙◌, refl, subst, inl, inr}
 use Rattle.std.proofs.lemmas.Bool.{cases_lt}
 use Rattle.std.proofs.lemmas.Int.{ints}
-use Rattle.min_plus.specs.rational.specs.Rational.{ℚ, frac, ◌*ℚ◌, ◌≤ℚ◌, ◌<ℚ◌}
-use Rattle.min_plus.specs.rational.specs.Fractions.{frac-same}
-use Rattle.min_plus.specs.rational.proofs.Over.{mul_frac}
-use Rattle.min_plus.specs.rational.proofs.Laws.{nonneg_frac, mul_comm, mul_assoc, mul_le_mul, le_of_mul, le_or_lt, lt_le_trans, lt_irrefl, mul_zero}
+use Rattle.rational.specs.Rational.{ℚ, frac, ◌*ℚ◌, ◌≤ℚ◌, ◌<ℚ◌}
+use Rattle.rational.specs.Fractions.{frac-same}
+use Rattle.rational.proofs.Over.{mul_frac}
+use Rattle.rational.proofs.Laws.{nonneg_frac, mul_comm, mul_assoc, mul_le_mul, le_of_mul, le_or_lt, lt_le_trans, lt_irrefl, mul_zero}
 use Rattle.min_plus.specs.Functions.{zero_q, whole}
 use Rattle.arrival_lines.specs.Grid.{grain, grain_a_second, bits, speed}
 use Rattle.arrival_lines.proofs.Units.{bits_le, bits_lt, bits_times, speed_times, speed_nonneg, speed_some}

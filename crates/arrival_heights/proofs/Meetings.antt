@@ -4,8 +4,8 @@ use Rattle.std.proofs.Common.{arith, sym, subst, inl, inr}
 use Rattle.std.specs.Int.{div_ceil}
 use Rattle.std.proofs.lemmas.Bool.{cases_lt}
 use Rattle.std.proofs.lemmas.List.{get_or_default}
-use Rattle.min_plus.specs.rational.specs.Rational.{ℚ, ◌*ℚ◌}
-use Rattle.min_plus.specs.rational.proofs.Laws.{add_le_add, le_refl, le_trans, lt_le_trans}
+use Rattle.rational.specs.Rational.{ℚ, ◌*ℚ◌}
+use Rattle.rational.proofs.Laws.{add_le_add, le_refl, le_trans, lt_le_trans}
 use Rattle.arrival_lines.specs.Grid.{grain, bits, speed, micros, line_value, parts_value}
 use Rattle.arrival_lines.specs.Steps.{AreSteps}
 use Rattle.arrival_lines.specs.declared.grid.Line.{Line}

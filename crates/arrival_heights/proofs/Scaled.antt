@@ -6,10 +6,10 @@ use Rattle.std.proofs.lemmas.Bool.{cases_lt}
 use Rattle.std.proofs.lemmas.Grind.{div_ceil_times}
 use Rattle.std.proofs.lemmas.List.Sums.{sum_by-cons}
 use Rattle.std.proofs.Math.Nat.{mul-le-mul_right}
-use Rattle.min_plus.specs.rational.specs.Rational.{ℚ, ◌+ℚ◌, ◌*ℚ◌, ◌≤ℚ◌, ◌<ℚ◌}
-use Rattle.min_plus.specs.rational.proofs.Laws.{mul_add, mul_comm, mul_assoc, mul_zero, le_of_mul, lt_of_mul, antisym}
-use Rattle.min_plus.specs.rational.proofs.MinMax.{min_q_left, min_q_is_right}
-use Rattle.min_plus.specs.rational.proofs.Integers.{nat_lt}
+use Rattle.rational.specs.Rational.{ℚ, ◌+ℚ◌, ◌*ℚ◌, ◌≤ℚ◌, ◌<ℚ◌}
+use Rattle.rational.proofs.Laws.{mul_add, mul_comm, mul_assoc, mul_zero, le_of_mul, lt_of_mul, antisym}
+use Rattle.rational.proofs.MinMax.{min_q_left, min_q_is_right}
+use Rattle.rational.proofs.Integers.{nat_lt}
 use Rattle.min_plus.specs.Functions.{zero_q, whole}
 use Rattle.arrival_lines.specs.Grid.{grain, bits, speed, micros, line_value, lesser, part_value, parts_value}
 use Rattle.arrival_lines.specs.declared.grid.Line.{Line}

@@ -6,9 +6,9 @@ use Rattle.std.proofs.lemmas.Bool.{cases_lt}
 use Rattle.std.proofs.lemmas.List.{get_or_default}
 use Rattle.std.proofs.lemmas.List.Elements.{All-head, All-tail}
 use Rattle.std.proofs.Common.{arith, sym, ap, ◌∙◌, refl, subst, inl, inr}
-use Rattle.min_plus.specs.rational.specs.Rational.{ℚ, ◌+ℚ◌, ◌-ℚ◌, ◌*ℚ◌, ◌/ℚ◌, ◌≤ℚ◌}
-use Rattle.min_plus.specs.rational.proofs.Laws.{add_zero, add_assoc, add_comm, zero_mul, add_mul, mul_sub, le_refl, le_trans, le_total, le_of_mul, mul_le_mul, mul_le_mul_right, mul_comm, div_mul, not_zero}
-use Rattle.min_plus.specs.rational.proofs.Linear.{with2, with4, with7, with8}
+use Rattle.rational.specs.Rational.{ℚ, ◌+ℚ◌, ◌-ℚ◌, ◌*ℚ◌, ◌/ℚ◌, ◌≤ℚ◌}
+use Rattle.rational.proofs.Laws.{add_zero, add_assoc, add_comm, zero_mul, add_mul, mul_sub, le_refl, le_trans, le_total, le_of_mul, mul_le_mul, mul_le_mul_right, mul_comm, div_mul, not_zero}
+use Rattle.rational.proofs.Linear.{with2, with4, with7, with8}
 use Rattle.min_plus.specs.Functions.{zero_q}
 use Rattle.arrival_lines.specs.Grid.{bits, speed, micros, part_value, parts_value}
 use Rattle.arrival_lines.specs.declared.grid.Part.{Part}

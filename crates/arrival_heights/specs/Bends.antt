@@ -1,7 +1,7 @@
 -- Where the lesser of two lines goes over from the one to the other. Own choice.
 use Rattle.std.specs.Prelude.{◌≡◌, ◌<◌, ◌≤◌}
-use Rattle.min_plus.specs.rational.specs.Rational.{ℚ, ◌*ℚ◌, ◌≤ℚ◌}
-use Rattle.min_plus.specs.rational.specs.MinMax.{min_q}
+use Rattle.rational.specs.Rational.{ℚ, ◌*ℚ◌, ◌≤ℚ◌}
+use Rattle.rational.specs.MinMax.{min_q}
 use Rattle.min_plus.specs.Functions.{zero_q}
 use Rattle.arrival_lines.specs.Grid.{bits, speed, line_value, part_value}
 use Rattle.arrival_lines.specs.declared.grid.Line.{Line}

@@ -1,8 +1,8 @@
 -- How far parts are above a rate at most between two times, rounded up to grains. (Le Boudec and Thiran, chapter 1: the
 -- largest distance of an arrival curve from a line.)
 use Rattle.std.specs.Prelude.{◌≡◌, ◌⊎◌, ℕ, ◌<◌, max, List, [], ◌∷◌, Option, Some, None}
-use Rattle.min_plus.specs.rational.specs.Rational.{ℚ, ◌+ℚ◌, ◌≤ℚ◌, ◌<ℚ◌}
-use Rattle.min_plus.specs.rational.specs.Line.{line_at}
+use Rattle.rational.specs.Rational.{ℚ, ◌+ℚ◌, ◌≤ℚ◌, ◌<ℚ◌}
+use Rattle.rational.specs.Line.{line_at}
 use Rattle.arrival_lines.specs.Grid.{grain, bits, speed, micros, part_value, parts_value}
 use Rattle.arrival_lines.specs.declared.grid.Part.{Part}
 use Rattle.arrival_heights.specs.Heights.{AreMoments, ahead_of, most_ahead}

@@ -1,7 +1,7 @@
 -- How far steps are above a rate at most where neighbours meet between two times. Own choice.
 use Rattle.std.specs.Prelude.{◌≡◌, ℕ, suc, ◌+◌, ◌*◌, ◌^◌, ◌<◌, ◌≤◌, max, List, length, get_or}
-use Rattle.min_plus.specs.rational.specs.Rational.{ℚ, ◌+ℚ◌, ◌*ℚ◌, ◌≤ℚ◌, ◌<ℚ◌}
-use Rattle.min_plus.specs.rational.specs.Line.{line_at}
+use Rattle.rational.specs.Rational.{ℚ, ◌+ℚ◌, ◌*ℚ◌, ◌≤ℚ◌, ◌<ℚ◌}
+use Rattle.rational.specs.Line.{line_at}
 use Rattle.arrival_lines.specs.Grid.{grain, bits, speed, micros, line_value}
 use Rattle.arrival_lines.specs.Steps.{AreSlowing}
 use Rattle.arrival_lines.specs.declared.grid.Line.{Line}

@@ -2,11 +2,11 @@
 use Rattle.std.specs.Prelude.{◌≡◌, ℕ, zero, suc, ◌+◌, ◌-◌, ◌*◌, ◌<◌, ◌≤◌, List, get_or, length, nat_lt, Bool, true}
 use Rattle.std.proofs.Common.{arith, sym, ap, subst, ◌∙◌, inl, inr}
 use Rattle.std.proofs.lemmas.Bool.Decides.{nat_tests}
-use Rattle.min_plus.specs.rational.specs.Rational.{ℚ, ◌+ℚ◌, ◌-ℚ◌, ◌*ℚ◌, ◌/ℚ◌, ◌≤ℚ◌, ◌<ℚ◌}
-use Rattle.min_plus.specs.rational.proofs.Laws.{le_or_lt, le_refl, mul_comm, mul_assoc, mul_add, mul_sub, add_mul, mul_zero, mul_le_mul, mul_le_mul_right, div_mul, not_zero}
-use Rattle.min_plus.specs.rational.proofs.Quotients.{div_nonneg, times_above}
-use Rattle.min_plus.specs.rational.proofs.Integers.{nat_nonneg}
-use Rattle.min_plus.specs.rational.proofs.Linear.{with2, with4, with5, with6, with7, with8}
+use Rattle.rational.specs.Rational.{ℚ, ◌+ℚ◌, ◌-ℚ◌, ◌*ℚ◌, ◌/ℚ◌, ◌≤ℚ◌, ◌<ℚ◌}
+use Rattle.rational.proofs.Laws.{le_or_lt, le_refl, mul_comm, mul_assoc, mul_add, mul_sub, add_mul, mul_zero, mul_le_mul, mul_le_mul_right, div_mul, not_zero}
+use Rattle.rational.proofs.Quotients.{div_nonneg, times_above}
+use Rattle.rational.proofs.Integers.{nat_nonneg}
+use Rattle.rational.proofs.Linear.{with2, with4, with5, with6, with7, with8}
 use Rattle.min_plus.specs.Functions.{zero_q, whole}
 use Rattle.arrival_lines.specs.Grid.{grain, bits, speed, line_value, parts_value}
 use Rattle.arrival_lines.specs.Steps.{AreSteps, AreSlowing}

@@ -5,12 +5,12 @@ use Rattle.std.specs.Int.{div_ceil}
 use Rattle.std.proofs.lemmas.Grind.{div_ceil_times}
 use Rattle.std.proofs.lemmas.Bool.{cases_lt}
 use Rattle.std.proofs.lemmas.List.{get_or_default}
-use Rattle.min_plus.specs.rational.specs.Rational.{ℚ, ◌+ℚ◌, ◌-ℚ◌, ◌*ℚ◌, ◌/ℚ◌, ◌≤ℚ◌, ◌<ℚ◌}
-use Rattle.min_plus.specs.rational.specs.MinMax.{max_q}
-use Rattle.min_plus.specs.rational.proofs.Laws.{le_or_lt, le_of_lt, le_refl, le_of_mul, lt_of_mul, mul_comm, mul_assoc, mul_add, mul_sub, mul_le_mul, mul_le_mul_right, div_mul, not_zero}
-use Rattle.min_plus.specs.rational.proofs.MinMax.{max_q_ge_left, max_q_ge_right, max_q_le}
-use Rattle.min_plus.specs.rational.proofs.Quotients.{div_nonneg}
-use Rattle.min_plus.specs.rational.proofs.Linear.{with2, with3, with4, with5, with6, with7, with8}
+use Rattle.rational.specs.Rational.{ℚ, ◌+ℚ◌, ◌-ℚ◌, ◌*ℚ◌, ◌/ℚ◌, ◌≤ℚ◌, ◌<ℚ◌}
+use Rattle.rational.specs.MinMax.{max_q}
+use Rattle.rational.proofs.Laws.{le_or_lt, le_of_lt, le_refl, le_of_mul, lt_of_mul, mul_comm, mul_assoc, mul_add, mul_sub, mul_le_mul, mul_le_mul_right, div_mul, not_zero}
+use Rattle.rational.proofs.MinMax.{max_q_ge_left, max_q_ge_right, max_q_le}
+use Rattle.rational.proofs.Quotients.{div_nonneg}
+use Rattle.rational.proofs.Linear.{with2, with3, with4, with5, with6, with7, with8}
 use Rattle.min_plus.specs.Functions.{zero_q, whole}
 use Rattle.arrival_lines.specs.Grid.{grain, bits, speed, line_value, parts_value}
 use Rattle.arrival_lines.specs.Steps.{IsAbove, AreSteps}

@@ -7,11 +7,11 @@ use Rattle.std.proofs.Math.Nat.{mul-le-mul_right, mul-lt-mul_of_pos_right, lt_of
 use Rattle.std.proofs.lemmas.Bool.{cases_lt}
 use Rattle.std.proofs.lemmas.List.{length-append, get_or_push, get_or_append_left, get_or_default, drop_all}
 use Rattle.std.proofs.lemmas.List.Sums.{sum_by-cons, sum_by_push, sum_by-take-le}
-use Rattle.min_plus.specs.rational.specs.Rational.{ℚ, ◌+ℚ◌, ◌-ℚ◌, ◌*ℚ◌, ◌≤ℚ◌}
-use Rattle.min_plus.specs.rational.specs.MinMax.{min_q}
-use Rattle.min_plus.specs.rational.proofs.Laws.{add_mul, le_or_lt, le_of_lt}
-use Rattle.min_plus.specs.rational.proofs.MinMax.{min_q_left, min_q_is_right}
-use Rattle.min_plus.specs.rational.proofs.Linear.{with2, with3, with4, with6, with7}
+use Rattle.rational.specs.Rational.{ℚ, ◌+ℚ◌, ◌-ℚ◌, ◌*ℚ◌, ◌≤ℚ◌}
+use Rattle.rational.specs.MinMax.{min_q}
+use Rattle.rational.proofs.Laws.{add_mul, le_or_lt, le_of_lt}
+use Rattle.rational.proofs.MinMax.{min_q_left, min_q_is_right}
+use Rattle.rational.proofs.Linear.{with2, with3, with4, with6, with7}
 use Rattle.min_plus.specs.Functions.{zero_q}
 use Rattle.arrival_lines.specs.Grid.{bits, speed}
 use Rattle.arrival_lines.specs.Turns.{ahead, taken, AreInOrder, AreApart, AreJoined, Ties, both_turns, AllFit, IsJoined}

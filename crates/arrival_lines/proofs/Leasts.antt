@@ -4,10 +4,10 @@ use Rattle.std.proofs.Common.{arith, sym, ap, ap₂, ◌∙◌, refl, subst, inl
 use Rattle.std.specs.Int.{div_ceil}
 use Rattle.std.proofs.lemmas.Bool.{cases_lt}
 use Rattle.std.proofs.lemmas.List.{get_or_default}
-use Rattle.min_plus.specs.rational.specs.Rational.{ℚ, ◌+ℚ◌, ◌*ℚ◌, ◌≤ℚ◌, ◌<ℚ◌}
-use Rattle.min_plus.specs.rational.specs.Line.{line_at}
-use Rattle.min_plus.specs.rational.proofs.Integers.{nat_le, nat_next}
-use Rattle.min_plus.specs.rational.proofs.Linear.{with2, with5, with7}
+use Rattle.rational.specs.Rational.{ℚ, ◌+ℚ◌, ◌*ℚ◌, ◌≤ℚ◌, ◌<ℚ◌}
+use Rattle.rational.specs.Line.{line_at}
+use Rattle.rational.proofs.Integers.{nat_le, nat_next}
+use Rattle.rational.proofs.Linear.{with2, with5, with7}
 use Rattle.min_plus.specs.Functions.{whole}
 use Rattle.arrival_lines.specs.Grid.{grain, bits, speed, parts_value}
 use Rattle.arrival_lines.specs.Excess.{IsExcess, IsEndless}

@@ -3,10 +3,10 @@ use Rattle.std.specs.Prelude.{◌≡◌, ℕ, zero, suc, ◌*◌, ◌<◌, ◌�
 use Rattle.std.proofs.Common.{arith, sym, ap, ap₂, ◌∙◌, subst, inl, inr}
 use Rattle.std.proofs.lemmas.Bool.{cases_lt}
 use Rattle.std.proofs.lemmas.List.{get_or_default}
-use Rattle.min_plus.specs.rational.specs.Rational.{ℚ, int, ◌+ℚ◌, ◌-ℚ◌, ◌*ℚ◌, ◌/ℚ◌, ◌≤ℚ◌, ◌<ℚ◌}
-use Rattle.min_plus.specs.rational.proofs.Laws.{half, half_is, le_refl, le_of_lt, le_trans, mul_comm, mul_assoc, mul_add, mul_sub, mul_one, mul_lt_mul_right, lt_of_mul, div_mul, not_zero}
-use Rattle.min_plus.specs.rational.proofs.Quotients.{div_nonneg, div_pos, lt_div}
-use Rattle.min_plus.specs.rational.proofs.Linear.{with1, with2, with3, with4, with6}
+use Rattle.rational.specs.Rational.{ℚ, int, ◌+ℚ◌, ◌-ℚ◌, ◌*ℚ◌, ◌/ℚ◌, ◌≤ℚ◌, ◌<ℚ◌}
+use Rattle.rational.proofs.Laws.{half, half_is, le_refl, le_of_lt, le_trans, mul_comm, mul_assoc, mul_add, mul_sub, mul_one, mul_lt_mul_right, lt_of_mul, div_mul, not_zero}
+use Rattle.rational.proofs.Quotients.{div_nonneg, div_pos, lt_div}
+use Rattle.rational.proofs.Linear.{with1, with2, with3, with4, with6}
 use Rattle.min_plus.specs.Functions.{zero_q}
 use Rattle.arrival_lines.specs.Grid.{bits, speed, line_value, parts_value}
 use Rattle.arrival_lines.specs.Steps.{IsAbove, IsStep}

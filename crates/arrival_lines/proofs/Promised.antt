@@ -1,15 +1,15 @@
 -- What the delay and the backlog of parts at a service promise of what the parts bring and of what is at least the service.
 use Rattle.std.specs.Prelude.{◌≡◌, ℕ, ◌+◌, ◌*◌, ◌^◌, ◌≤◌, List}
 use Rattle.std.proofs.Common.{arith}
-use Rattle.min_plus.specs.rational.specs.Rational.{ℚ, ◌+ℚ◌, ◌-ℚ◌, ◌*ℚ◌, ◌≤ℚ◌}
-use Rattle.min_plus.specs.rational.specs.MinMax.{max_q}
-use Rattle.min_plus.specs.rational.specs.Extended.{Ext, ◌≤ₑ◌, ◌-ₑ◌}
-use Rattle.min_plus.specs.rational.specs.declared.Extended.TheVariants.{Fin, Inf}
-use Rattle.min_plus.specs.rational.proofs.Bounds.{smallest}
-use Rattle.min_plus.specs.rational.proofs.ExtendedOrder.{le_ext_trans, fin_same}
-use Rattle.min_plus.specs.rational.proofs.Laws.{le_refl, le_trans, mul_add, mul_le_mul}
-use Rattle.min_plus.specs.rational.proofs.Linear.{with3, with4, with5, with6, with7}
-use Rattle.min_plus.specs.rational.proofs.MinMax.{max_q_ge_left, max_q_ge_right, max_q_le}
+use Rattle.rational.specs.Rational.{ℚ, ◌+ℚ◌, ◌-ℚ◌, ◌*ℚ◌, ◌≤ℚ◌}
+use Rattle.rational.specs.MinMax.{max_q}
+use Rattle.rational.specs.Extended.{Ext, ◌≤ₑ◌, ◌-ₑ◌}
+use Rattle.rational.specs.declared.Extended.TheVariants.{Fin, Inf}
+use Rattle.rational.proofs.Bounds.{smallest}
+use Rattle.rational.proofs.ExtendedOrder.{le_ext_trans, fin_same}
+use Rattle.rational.proofs.Laws.{le_refl, le_trans, mul_add, mul_le_mul}
+use Rattle.rational.proofs.Linear.{with3, with4, with5, with6, with7}
+use Rattle.rational.proofs.MinMax.{max_q_ge_left, max_q_ge_right, max_q_le}
 use Rattle.min_plus.specs.Functions.{zero_q, whole, Time, FiniteTime}
 use Rattle.min_plus.specs.Pointwise.{excess, packetised}
 use Rattle.min_plus.specs.Deviations.{Lag}

@@ -1,9 +1,9 @@
 -- The delay of what parts bring at a service. (Le Boudec and Thiran, chapter 1: of an arrival curve and a rate-latency service curve.)
 use Rattle.std.specs.Prelude.{◌≡◌, ◌⊎◌, ℕ, ◌+◌, ◌*◌, ◌^◌, ◌<◌, List}
 use Rattle.std.specs.Int.{div_ceil}
-use Rattle.min_plus.specs.rational.specs.Rational.{ℚ, ◌+ℚ◌, ◌≤ℚ◌}
-use Rattle.min_plus.specs.rational.specs.Extended.{Ext, ◌≤ₑ◌}
-use Rattle.min_plus.specs.rational.specs.declared.Extended.TheVariants.{Fin}
+use Rattle.rational.specs.Rational.{ℚ, ◌+ℚ◌, ◌≤ℚ◌}
+use Rattle.rational.specs.Extended.{Ext, ◌≤ₑ◌}
+use Rattle.rational.specs.declared.Extended.TheVariants.{Fin}
 use Rattle.min_plus.specs.Functions.{zero_q}
 use Rattle.min_plus.specs.Deviations.{IsHorizontalDeviation}
 use Rattle.arrival_lines.specs.Grid.{micros, parts_value}

@@ -1,8 +1,8 @@
 -- The excess of what parts bring over a rate: the supremum over the times from 0 on of their sum less the rate for the time, rounded up to
 -- grains. (Le Boudec and Thiran, chapter 1: the largest distance of an arrival curve from a line.)
 use Rattle.std.specs.Prelude.{ℕ, List}
-use Rattle.min_plus.specs.rational.specs.Rational.{ℚ, ◌+ℚ◌, ◌≤ℚ◌, ◌<ℚ◌}
-use Rattle.min_plus.specs.rational.specs.Line.{line_at}
+use Rattle.rational.specs.Rational.{ℚ, ◌+ℚ◌, ◌≤ℚ◌, ◌<ℚ◌}
+use Rattle.rational.specs.Line.{line_at}
 use Rattle.min_plus.specs.Functions.{zero_q}
 use Rattle.arrival_lines.specs.Grid.{grain, bits, speed, parts_value}
 use Rattle.arrival_lines.specs.declared.grid.Part.{Part}

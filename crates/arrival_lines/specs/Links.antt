@@ -1,8 +1,8 @@
 -- The lines of links: above a stair, of two together, and as they are behind a queue. (Le Boudec and Thiran, chapter 1.)
 use Rattle.std.specs.Prelude.{◌≡◌, ℕ}
-use Rattle.min_plus.specs.rational.specs.Rational.{ℚ, ◌+ℚ◌, ◌*ℚ◌, ◌≤ℚ◌, ◌<ℚ◌}
-use Rattle.min_plus.specs.rational.specs.Extended.{◌≤ₑ◌}
-use Rattle.min_plus.specs.rational.specs.declared.Extended.TheVariants.{Fin}
+use Rattle.rational.specs.Rational.{ℚ, ◌+ℚ◌, ◌*ℚ◌, ◌≤ℚ◌, ◌<ℚ◌}
+use Rattle.rational.specs.Extended.{◌≤ₑ◌}
+use Rattle.rational.specs.declared.Extended.TheVariants.{Fin}
 use Rattle.min_plus.specs.Functions.{zero_q}
 use Rattle.min_plus.specs.Formulas.{bucket_value, stair_value}
 use Rattle.arrival_lines.specs.Grid.{bits, micros, line_value}

@@ -1,7 +1,7 @@
 -- The steps of a sum of parts, which is concave: its affine pieces. (Le Boudec and Thiran, chapter 1: the least of token buckets.)
 use Rattle.std.specs.Prelude.{◌≡◌, ℕ, suc, max, ◌<◌, ◌≤◌, ◌^◌, List, All, Contains, length, get_or, Option, Some, None}
 use Rattle.std.specs.List.{sum_by}
-use Rattle.min_plus.specs.rational.specs.Rational.{ℚ, ◌≤ℚ◌, ◌<ℚ◌}
+use Rattle.rational.specs.Rational.{ℚ, ◌≤ℚ◌, ◌<ℚ◌}
 use Rattle.min_plus.specs.Functions.{zero_q}
 use Rattle.arrival_lines.specs.Grid.{line_value, parts_value}
 use Rattle.arrival_lines.specs.declared.grid.Line.{Line}

@@ -4,9 +4,9 @@ use Rattle.std.proofs.Common.{arith, ap, sym, ◌∙◌, refl, subst, inl, inr}
 use Rattle.std.proofs.lemmas.Bool.{cases_lt}
 use Rattle.std.proofs.lemmas.List.{get_or-map, length-map}
 use Rattle.std.proofs.Math.Nat.{mul-le-mul_left}
-use Rattle.min_plus.specs.rational.specs.Rational.{ℚ, ◌+ℚ◌, ◌*ℚ◌, ◌≤ℚ◌, ◌<ℚ◌}
-use Rattle.min_plus.specs.rational.proofs.Laws.{le_trans, le_or_lt, le_of_lt, mul_le_mul_right}
-use Rattle.min_plus.specs.rational.proofs.Linear.{with_atoms}
+use Rattle.rational.specs.Rational.{ℚ, ◌+ℚ◌, ◌*ℚ◌, ◌≤ℚ◌, ◌<ℚ◌}
+use Rattle.rational.proofs.Laws.{le_trans, le_or_lt, le_of_lt, mul_le_mul_right}
+use Rattle.rational.proofs.Linear.{with_atoms}
 use Rattle.min_plus.specs.Functions.{zero_q}
 use Rattle.arrival_lines.specs.Grid.{grain, bits, speed, micros, line_value, parts_value}
 use Rattle.arrival_lines.specs.Steps.{AreSteps}

@@ -6,15 +6,15 @@ use Rattle.std.proofs.lemmas.Bool.{cases_lt}
 use Rattle.std.proofs.lemmas.List.Elements.{All-head, All-tail}
 use Rattle.std.proofs.lemmas.List.Sums.{sum_by-cons}
 use Rattle.std.proofs.Math.Nat.{lt-mul-div-succ, div-mul-le_self}
-use Rattle.min_plus.specs.rational.specs.Rational.{ℚ, ◌+ℚ◌, ◌*ℚ◌, ◌/ℚ◌, ◌≤ℚ◌, ◌<ℚ◌}
-use Rattle.min_plus.specs.rational.specs.MinMax.{min_q}
-use Rattle.min_plus.specs.rational.specs.Whole.{whole_part}
-use Rattle.min_plus.specs.rational.proofs.Integers.{int_mul}
-use Rattle.min_plus.specs.rational.proofs.Laws.{add_zero, zero_mul, mul_comm, mul_assoc, mul_zero, mul_le_mul_right, mul_lt_mul_right, div_mul, not_zero, le_trans, lt_le_trans, lt_irrefl, le_refl, add_le_add}
-use Rattle.min_plus.specs.rational.proofs.Quotients.{le_div, div_lt, div_nonneg}
-use Rattle.min_plus.specs.rational.proofs.Whole.{whole_le, whole_gt, whole_unique}
-use Rattle.min_plus.specs.rational.proofs.Linear.{with2, with3, with_atoms}
-use Rattle.min_plus.specs.rational.proofs.MinMax.{min_q_mono}
+use Rattle.rational.specs.Rational.{ℚ, ◌+ℚ◌, ◌*ℚ◌, ◌/ℚ◌, ◌≤ℚ◌, ◌<ℚ◌}
+use Rattle.rational.specs.MinMax.{min_q}
+use Rattle.rational.specs.Whole.{whole_part}
+use Rattle.rational.proofs.Integers.{int_mul}
+use Rattle.rational.proofs.Laws.{add_zero, zero_mul, mul_comm, mul_assoc, mul_zero, mul_le_mul_right, mul_lt_mul_right, div_mul, not_zero, le_trans, lt_le_trans, lt_irrefl, le_refl, add_le_add}
+use Rattle.rational.proofs.Quotients.{le_div, div_lt, div_nonneg}
+use Rattle.rational.proofs.Whole.{whole_le, whole_gt, whole_unique}
+use Rattle.rational.proofs.Linear.{with2, with3, with_atoms}
+use Rattle.rational.proofs.MinMax.{min_q_mono}
 use Rattle.min_plus.specs.Functions.{zero_q, whole}
 use Rattle.arrival_lines.specs.Grid.{grain, bits, speed, micros, picosecond, grain_a_second, line_value, part_value, parts_value}
 use Rattle.arrival_lines.specs.declared.grid.Line.{Line}

@@ -3,14 +3,14 @@ use Rattle.std.specs.Prelude.{◌≡◌, ℕ, ◌+◌, ◌*◌, ◌<◌, List, [
 use Rattle.std.proofs.Common.{arith, sym, subst, ◌∙◌, inl, inr}
 use Rattle.std.specs.Int.{div_ceil}
 use Rattle.std.proofs.lemmas.Grind.{div_ceil_times}
-use Rattle.min_plus.specs.rational.specs.Rational.{ℚ, ◌+ℚ◌, ◌-ℚ◌, ◌*ℚ◌, ◌/ℚ◌, ◌≤ℚ◌, ◌<ℚ◌}
-use Rattle.min_plus.specs.rational.specs.Extended.{Ext}
-use Rattle.min_plus.specs.rational.specs.declared.Extended.TheVariants.{Fin}
-use Rattle.min_plus.specs.rational.proofs.ExtendedOrder.{le_ext_trans}
-use Rattle.min_plus.specs.rational.proofs.Laws.{add_zero, le_refl, mul_comm, div_mul, not_zero}
-use Rattle.min_plus.specs.rational.proofs.Linear.{with2, with_atoms}
-use Rattle.min_plus.specs.rational.proofs.MinMax.{max_q_ge_right, max_q_le}
-use Rattle.min_plus.specs.rational.proofs.Quotients.{div_nonneg}
+use Rattle.rational.specs.Rational.{ℚ, ◌+ℚ◌, ◌-ℚ◌, ◌*ℚ◌, ◌/ℚ◌, ◌≤ℚ◌, ◌<ℚ◌}
+use Rattle.rational.specs.Extended.{Ext}
+use Rattle.rational.specs.declared.Extended.TheVariants.{Fin}
+use Rattle.rational.proofs.ExtendedOrder.{le_ext_trans}
+use Rattle.rational.proofs.Laws.{add_zero, le_refl, mul_comm, div_mul, not_zero}
+use Rattle.rational.proofs.Linear.{with2, with_atoms}
+use Rattle.rational.proofs.MinMax.{max_q_ge_right, max_q_le}
+use Rattle.rational.proofs.Quotients.{div_nonneg}
 use Rattle.min_plus.specs.Functions.{zero_q, whole}
 use Rattle.arrival_lines.specs.Grid.{grain, bits, speed, parts_value}
 use Rattle.arrival_lines.specs.Excess.{IsExcess}

@@ -8,8 +8,8 @@ use Rattle.std.proofs.lemmas.Bool.{cases_lt}
 use Rattle.std.proofs.lemmas.List.{get_or_default, get_or-drop, length-drop}
 use Rattle.std.proofs.lemmas.List.Elements.{All-nil, All-more, All-take}
 use Rattle.std.proofs.lemmas.List.Sums.{sum_by-cons, sum_by_more, sum_by-le, sum_by-take-drop}
-use Rattle.min_plus.specs.rational.specs.Rational.{ℚ, ◌*ℚ◌, ◌≤ℚ◌}
-use Rattle.min_plus.specs.rational.proofs.Laws.{mul_comm, le_of_mul, le_refl, le_trans, lt_le_trans, add_le_add}
+use Rattle.rational.specs.Rational.{ℚ, ◌*ℚ◌, ◌≤ℚ◌}
+use Rattle.rational.proofs.Laws.{mul_comm, le_of_mul, le_refl, le_trans, lt_le_trans, add_le_add}
 use Rattle.min_plus.specs.Functions.{zero_q, whole}
 use Rattle.arrival_lines.specs.Grid.{grain, bits, speed, micros, line_value}
 use Rattle.arrival_lines.specs.declared.grid.Line.{Line}

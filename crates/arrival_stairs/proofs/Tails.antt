@@ -4,9 +4,9 @@ use Rattle.std.proofs.Common.{arith, ap, sym, ◌∙◌, refl, subst, inl, inr}
 use Rattle.std.specs.Int.{div_ceil}
 use Rattle.std.proofs.lemmas.Bool.{cases_lt}
 use Rattle.std.proofs.lemmas.List.{get_or_default}
-use Rattle.min_plus.specs.rational.specs.Rational.{ℚ, ◌+ℚ◌, ◌*ℚ◌, ◌≤ℚ◌}
-use Rattle.min_plus.specs.rational.proofs.Laws.{add_mul, mul_le_mul, le_trans, le_or_lt, le_of_lt}
-use Rattle.min_plus.specs.rational.proofs.Linear.{with_atoms}
+use Rattle.rational.specs.Rational.{ℚ, ◌+ℚ◌, ◌*ℚ◌, ◌≤ℚ◌}
+use Rattle.rational.proofs.Laws.{add_mul, mul_le_mul, le_trans, le_or_lt, le_of_lt}
+use Rattle.rational.proofs.Linear.{with_atoms}
 use Rattle.arrival_lines.specs.Grid.{bits, speed, micros, line_value}
 use Rattle.arrival_lines.specs.Steps.{AreSteps}
 use Rattle.arrival_lines.specs.declared.grid.Line.{Line}

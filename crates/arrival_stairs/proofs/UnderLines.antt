@@ -5,10 +5,10 @@ use Rattle.std.specs.List.{sum_by}
 use Rattle.std.specs.Int.{div_ceil}
 use Rattle.std.proofs.lemmas.List.Elements.{All-head, All-tail}
 use Rattle.std.proofs.lemmas.List.Sums.{sum_by-cons}
-use Rattle.min_plus.specs.rational.specs.Rational.{ℚ, ◌+ℚ◌, ◌*ℚ◌, ◌≤ℚ◌}
-use Rattle.min_plus.specs.rational.proofs.Laws.{add_mul, add_le_add, le_refl, mul_nonneg}
-use Rattle.min_plus.specs.rational.proofs.MinMax.{min_q_mono}
-use Rattle.min_plus.specs.rational.proofs.Linear.{with2, with_atoms}
+use Rattle.rational.specs.Rational.{ℚ, ◌+ℚ◌, ◌*ℚ◌, ◌≤ℚ◌}
+use Rattle.rational.proofs.Laws.{add_mul, add_le_add, le_refl, mul_nonneg}
+use Rattle.rational.proofs.MinMax.{min_q_mono}
+use Rattle.rational.proofs.Linear.{with2, with_atoms}
 use Rattle.min_plus.specs.Functions.{zero_q}
 use Rattle.arrival_lines.specs.Grid.{bits, speed, line_value, part_value, parts_value}
 use Rattle.arrival_lines.specs.declared.grid.Line.{Line}

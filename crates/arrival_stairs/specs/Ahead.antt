@@ -1,7 +1,7 @@
 -- How far bundles are above a rate at most: from 0 to a time, and for ever. (Le Boudec and Thiran, chapter 1: the
 -- largest distance of an arrival curve from a line.)
 use Rattle.std.specs.Prelude.{ℕ, ◌<◌, List}
-use Rattle.min_plus.specs.rational.specs.Rational.{ℚ, ◌≤ℚ◌}
+use Rattle.rational.specs.Rational.{ℚ, ◌≤ℚ◌}
 use Rattle.min_plus.specs.Functions.{zero_q}
 use Rattle.arrival_lines.specs.Grid.{micros}
 use Rattle.arrival_heights.specs.Greatest.{IsBelow, IsNear}

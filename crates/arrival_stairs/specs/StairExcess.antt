@@ -2,7 +2,7 @@
 -- (Le Boudec and Thiran, chapter 1: the largest distance of an arrival curve from a line.)
 use Rattle.std.specs.Prelude.{ℕ, ◌-◌, ◌*◌, ◌^◌, ◌<◌, ◌≤◌, ◌≡◌, max, List}
 use Rattle.std.specs.Int.{div_ceil}
-use Rattle.min_plus.specs.rational.specs.Rational.{ℚ, ◌≤ℚ◌}
+use Rattle.rational.specs.Rational.{ℚ, ◌≤ℚ◌}
 use Rattle.min_plus.specs.Functions.{zero_q}
 use Rattle.arrival_lines.specs.Steps.{IsStep}
 use Rattle.arrival_lines.specs.declared.grid.Line.{Line}

@@ -2,9 +2,9 @@
 -- that port. (Le Boudec and Thiran, stair functions; grouping of flows by their input link.)
 use Rattle.std.specs.Prelude.{ℕ, suc, ◌+◌, ◌*◌, ◌/◌, ◌^◌, ◌<◌, List, [], ◌∷◌, All, map, Option, Some, None}
 use Rattle.std.specs.List.{sum_by}
-use Rattle.min_plus.specs.rational.specs.Rational.{ℚ, ◌+ℚ◌, ◌*ℚ◌, ◌/ℚ◌}
-use Rattle.min_plus.specs.rational.specs.MinMax.{min_q}
-use Rattle.min_plus.specs.rational.specs.Whole.{whole_part}
+use Rattle.rational.specs.Rational.{ℚ, ◌+ℚ◌, ◌*ℚ◌, ◌/ℚ◌}
+use Rattle.rational.specs.MinMax.{min_q}
+use Rattle.rational.specs.Whole.{whole_part}
 use Rattle.min_plus.specs.Functions.{zero_q, whole}
 use Rattle.arrival_lines.specs.Grid.{bits, micros, line_value}
 use Rattle.arrival_lines.specs.Steps.{most_burst, most_rate}

@@ -5,12 +5,12 @@ use Rattle.std.proofs.lemmas.Bool.{cases_lt}
 use Rattle.std.proofs.lemmas.Int.{ints}
 use Rattle.std.proofs.lemmas.List.{get_or_past, length-map}
 use Rattle.std.proofs.lemmas.Option.{slice_get-map}
-use Rattle.min_plus.specs.rational.specs.Rational.{ℚ, frac, ◌<ℚ◌}
-use Rattle.min_plus.specs.rational.specs.Fractions.{frac-same}
-use Rattle.min_plus.specs.rational.proofs.Integers.{mul_whole}
+use Rattle.rational.specs.Rational.{ℚ, frac, ◌<ℚ◌}
+use Rattle.rational.specs.Fractions.{frac-same}
+use Rattle.rational.proofs.Integers.{mul_whole}
 use Rattle.arrival_lines.specs.Grid.{micros, picosecond}
 use Rattle.arrival_lines.specs.declared.grid.Queue.{Queue}
-use Rattle.min_plus.specs.rational.proofs.Over.{lt_over}
+use Rattle.rational.proofs.Over.{lt_over}
 use Rattle.arrival_lines.proofs.Units.{micros_le}
 use Rattle.tree_network.specs.Networks.{IsNetwork}
 use Rattle.tree_network.specs.declared.network.Link.{Link}

@@ -1,6 +1,6 @@
 -- What holds of the replies on two tables.
 use Rattle.std.specs.Prelude.{◌≡◌, ◌⊎◌, ℕ, ◌+◌, Bool, true, false, List, get_or, slice_get, Some, None, Ok}
-use Rattle.min_plus.specs.rational.specs.Rational.{◌≤ℚ◌, ◌<ℚ◌}
+use Rattle.rational.specs.Rational.{◌≤ℚ◌, ◌<ℚ◌}
 use Rattle.arrival_lines.specs.Grid.{micros}
 use Rattle.table_cells.specs.declared.amount.Amount.{Amount}
 use Rattle.table_cells.specs.Amounts.{amount_in}

@@ -3,11 +3,11 @@ use Rattle.std.proofs.Common.{◌≡◌, ℕ, suc, ◌<◌, ◌≤◌, ◌+◌, 
 use Rattle.std.specs.Prelude.{Option, None, Some, Ok, Err, Result, IfOk, ◌==◌}
 use Rattle.std.specs.List.{range_with_len}
 use Rattle.std.proofs.lemmas.Bool.{ltb-true, and_parts}
-use Rattle.upp_limits.specs.rational.specs.Extended.{Ext}
+use Rattle.rational.specs.Extended.{Ext}
 use Rattle.upp_limits.specs.declared.op_kind.OpFault.{OpFault}
 use Rattle.upp_limits.specs.declared.op_kind.OpFault.TheVariants.{NoMemory}
-use Rattle.upp_limits.specs.upp_curve.specs.Curve.{SpecCurve, value_at}
-use Rattle.upp_limits.specs.min_plus.specs.Deviations.{IsHorizontalDeviation}
+use Rattle.upp_curve.specs.Curve.{SpecCurve, value_at}
+use Rattle.min_plus.specs.Deviations.{IsHorizontalDeviation}
 use Rattle.residuals.specs.left.Left.{Left, all, above, share, EachBefore}
 use Rattle.net_model.specs.Networks.{Net}
 use Rattle.net_cells.specs.declared.cell.Cell.{Cell}
@@ -44,8 +44,8 @@ use Rattle.cell_eval.proofs.Rises.{grows_served}
 use Rattle.cell_eval.proofs.Meeting.{InList, meets_below, operand, curve_map, number_map, curve_from, number_from, sum_leaf, served_leaf}
 use Rattle.cell_eval.proofs.Choosing.{queue_visits, other_visits, part_visits}
 use Rattle.cell_eval.proofs.Shapes.{in_rises, cross_rises, total_rises, higher_rises, queue_served, hop_served, residual_grows, path_grows, queue_delay_ahead, hop_delay_ahead}
-use Rattle.net_model.specs.run_laws.proofs.Members.{Has, has_map, has_flat}
-use Rattle.upp_limits.specs.min_plus.specs.Functions.{IsNonneg}
+use Rattle.run_laws.proofs.Members.{Has, has_map, has_flat}
+use Rattle.min_plus.specs.Functions.{IsNonneg}
 
 -- ---- what stands in the table
 some_curve : (at : CellTable) (c : Cell) (Q : SpecCurve → Type 0) → HasCurve at c Q → IsCurveAt at c

@@ -1,24 +1,24 @@
 -- What calls answer once their curve is shared, and what operands of a formula add to that.
 use Rattle.std.proofs.Common.{◌≡◌, ℕ, List, refl, sym, subst}
 use Rattle.std.specs.Prelude.{Some, Result, Ok, Err, IfOk, IfErr}
-use Rattle.upp_limits.specs.rational.specs.Rational.{ℚ}
-use Rattle.upp_limits.specs.rational.specs.Extended.{Ext}
+use Rattle.rational.specs.Rational.{ℚ}
+use Rattle.rational.specs.Extended.{Ext}
 use Rattle.upp_limits.specs.declared.op_kind.OpKind.{OpKind}
 use Rattle.upp_limits.specs.declared.op_kind.OpFault.{OpFault}
 use Rattle.upp_limits.specs.declared.op_kind.OpFault.TheVariants.{NoMemory}
-use Rattle.upp_limits.specs.upp_curve.specs.Curve.{SpecCurve, value_at}
+use Rattle.upp_curve.specs.Curve.{SpecCurve, value_at}
 use Rattle.upp_limits.specs.declared.op_kind.OpKind.TheVariants.{PosMinus, Vertical}
-use Rattle.upp_limits.specs.min_plus.specs.Functions.{IsFinite}
+use Rattle.min_plus.specs.Functions.{IsFinite}
 use Rattle.upp_limits.specs.Outcome.{KeepsLimits}
-use Rattle.plain_operators.specs.curve_call.specs.Again.{IsAgain}
-use Rattle.plain_operators.specs.curve_call.specs.Calls.{Applies, AppliesTo}
+use Rattle.curve_call.specs.Again.{IsAgain}
+use Rattle.curve_call.specs.Calls.{Applies, AppliesTo}
 use Rattle.outcomes.specs.Calls.{Then, goes_on, stops}
 use Rattle.residuals.specs.calls.PriorityCalls.{MakesPriority}
 use Rattle.residuals.proofs.calls.PriorityCalls.{above_finite}
 use Rattle.residuals.specs.calls.DrrCalls.{MakesDrr}
 use Rattle.net_cells.specs.declared.cell.Cell.{Cell}
 use Rattle.net_cells.specs.Meanings.{curve, number, CellTable}
-use Rattle.upp_limits.specs.min_plus.specs.Deviations.{IsVerticalDeviation}
+use Rattle.min_plus.specs.Deviations.{IsVerticalDeviation}
 use Rattle.net_cells.specs.Formulas.{Formula, value_of, vertical}
 use Rattle.net_cells.specs.cell_table.Gives.{Gives}
 use Rattle.net_cells.specs.Answers.{Answer, Answers, IsOnly, MakesCurve, MakesNumber, Deviates, ThenCurve, ThenNumber}

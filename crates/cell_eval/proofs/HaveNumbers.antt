@@ -1,12 +1,12 @@
 -- Numbers of cells.
 use Rattle.std.proofs.Common.{◌≡◌, suc, List, [], ◌∷◌, ◌++◌, length, refl, ap, inl, inr}
 use Rattle.std.specs.Prelude.{Some}
-use Rattle.upp_limits.specs.rational.specs.Extended.{Ext}
+use Rattle.rational.specs.Extended.{Ext}
 use Rattle.net_cells.specs.declared.cell.Cell.{Cell}
 use Rattle.net_cells.specs.Meanings.{number, CellTable}
 use Rattle.net_cells.specs.Means.{HaveNumbers}
 use Rattle.cell_eval.specs.TableValues.{IsNumberAt}
-use Rattle.net_model.specs.run_laws.proofs.Members.{Has}
+use Rattle.run_laws.proofs.Members.{Has}
 
 pub record HaveMore (at : CellTable) (cs : List Cell) (c : Cell) (xs : List Ext) : Type 0 where
   pub front : List Ext

@@ -1,12 +1,12 @@
 -- The rate of a link is nowhere below 0, and so its bucket is refused only for want of memory.
 use Rattle.std.specs.Prelude.{◌≡◌, ◌⊎◌, ◌↔◌, ℕ, Option, Some, None, Result, Err, slice_get}
 use Rattle.std.proofs.Common.{refl, ap, subst, inl, inr}
-use Rattle.upp_limits.specs.rational.specs.Rational.{ℚ, ◌≤ℚ◌, ◌<ℚ◌}
-use Rattle.upp_limits.specs.rational.proofs.Laws.{le_refl, le_of_lt, lt_irrefl, le_lt_trans}
-use Rattle.upp_limits.specs.rational.proofs.Integers.{nat_nonneg}
-use Rattle.upp_limits.specs.min_plus.specs.Functions.{zero_q}
-use Rattle.net_model.specs.run_laws.specs.Cards.{whole}
-use Rattle.upp_limits.specs.upp_curve.specs.Curve.{SpecCurve}
+use Rattle.rational.specs.Rational.{ℚ, ◌≤ℚ◌, ◌<ℚ◌}
+use Rattle.rational.proofs.Laws.{le_refl, le_of_lt, lt_irrefl, le_lt_trans}
+use Rattle.rational.proofs.Integers.{nat_nonneg}
+use Rattle.min_plus.specs.Functions.{zero_q}
+use Rattle.run_laws.specs.Cards.{whole}
+use Rattle.upp_curve.specs.Curve.{SpecCurve}
 use Rattle.curve_library.specs.Causes.{OneNegative}
 use Rattle.curve_library.specs.declared.fault.CurveFault.{CurveFault}
 use Rattle.curve_library.specs.declared.fault.CurveFault.TheVariants.{Negative, NoMemory}

@@ -2,9 +2,9 @@
 use Rattle.std.proofs.Common.{◌≡◌, ℕ, zero, suc, ◌≤◌, List, [], ◌∷◌, refl, sym, ap, ◌∙◌, subst, arith, inl, inr}
 use Rattle.std.specs.Prelude.{Some, Contains}
 use Rattle.std.proofs.lemmas.Bool.{cases_lt}
-use Rattle.upp_limits.specs.rational.specs.Extended.{Ext}
+use Rattle.rational.specs.Extended.{Ext}
 use Rattle.upp_limits.specs.declared.op_kind.OpKind.TheVariants.{Sum}
-use Rattle.upp_limits.specs.upp_curve.specs.Curve.{SpecCurve}
+use Rattle.upp_curve.specs.Curve.{SpecCurve}
 use Rattle.net_model.specs.Networks.{Net}
 use Rattle.net_cells.specs.declared.cell.Cell.{Cell}
 use Rattle.net_cells.specs.declared.cell.Kind.TheVariants.{Residual}
@@ -14,7 +14,7 @@ use Rattle.net_cells.specs.Formulas.{Formula, leaves, made, value_of}
 use Rattle.net_cells.specs.CellFormulas.{formula, sum_of_cells, sum_from, packets_to, served_to}
 use Rattle.net_cells.specs.Equations.{MeetsEquation, MeetsBelow}
 use Rattle.cell_eval.specs.TableValues.{HasCurve, HasNumber}
-use Rattle.net_model.specs.run_laws.proofs.Members.{Has, has_contains, has_left, has_right}
+use Rattle.run_laws.proofs.Members.{Has, has_contains, has_left, has_right}
 pub use Rattle.net_cells.proofs.TableValues.{has_number}
 
 -- the cells of P meet their equations, and what they are made of is of P too

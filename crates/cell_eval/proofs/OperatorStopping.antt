@@ -5,10 +5,10 @@ use Rattle.upp_limits.specs.declared.op_kind.OpKind.{OpKind}
 use Rattle.upp_limits.specs.declared.op_kind.OpKind.TheVariants.{PosMinus, Vertical}
 use Rattle.upp_limits.specs.declared.op_kind.OpFault.{OpFault}
 use Rattle.upp_limits.specs.declared.op_kind.OpFault.TheVariants.{NoMemory}
-use Rattle.upp_limits.specs.upp_curve.specs.Curve.{SpecCurve}
-use Rattle.upp_limits.specs.min_plus.specs.Deviations.{IsVerticalDeviation}
-use Rattle.net_model.specs.run_laws.specs.Cards.{whole}
-use Rattle.plain_operators.specs.curve_call.specs.Calls.{Applies, AppliesTo}
+use Rattle.upp_curve.specs.Curve.{SpecCurve}
+use Rattle.min_plus.specs.Deviations.{IsVerticalDeviation}
+use Rattle.run_laws.specs.Cards.{whole}
+use Rattle.curve_call.specs.Calls.{Applies, AppliesTo}
 use Rattle.outcomes.specs.Calls.{goes_on, stops}
 use Rattle.residuals.specs.calls.PriorityCalls.{MakesPriority}
 use Rattle.residuals.specs.calls.DrrCalls.{MakesDrr}

@@ -6,9 +6,9 @@ use Rattle.std.proofs.lemmas.List.Elements.{All-get_or}
 use Rattle.upp_limits.specs.declared.op_kind.OpKind.TheVariants.{Sum}
 use Rattle.upp_limits.specs.declared.op_kind.OpFault.{OpFault}
 use Rattle.upp_limits.specs.declared.op_kind.OpFault.TheVariants.{NoMemory}
-use Rattle.upp_limits.specs.upp_curve.specs.Curve.{SpecCurve}
-use Rattle.plain_operators.specs.curve_call.specs.Again.{IsAgain}
-use Rattle.plain_operators.specs.curve_call.specs.Calls.{Applies}
+use Rattle.upp_curve.specs.Curve.{SpecCurve}
+use Rattle.curve_call.specs.Again.{IsAgain}
+use Rattle.curve_call.specs.Calls.{Applies}
 use Rattle.outcomes.specs.Calls.{goes_on, stops}
 use Rattle.net_cells.specs.declared.cell.Cell.{Cell}
 use Rattle.net_cells.specs.Numbered.{zero_curve}

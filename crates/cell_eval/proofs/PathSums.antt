@@ -5,9 +5,9 @@ use Rattle.std.specs.Prelude.{Some, Result, Ok, Err}
 use Rattle.std.specs.List.{range_with_len}
 use Rattle.std.proofs.lemmas.List.{length-map, length-append, map-append, map_more}
 use Rattle.std.proofs.lemmas.List.FromFn.{length-map-range_with_len, map-range_with_len_more}
-use Rattle.upp_limits.specs.rational.specs.Rational.{ℚ}
-use Rattle.upp_limits.specs.rational.specs.Extended.{Ext, min_ext}
-use Rattle.upp_limits.specs.rational.specs.declared.Extended.TheVariants.{Fin}
+use Rattle.rational.specs.Rational.{ℚ}
+use Rattle.rational.specs.Extended.{Ext, min_ext}
+use Rattle.rational.specs.declared.Extended.TheVariants.{Fin}
 use Rattle.upp_limits.specs.declared.op_kind.OpFault.{OpFault}
 use Rattle.net_model.specs.Networks.{Net}
 use Rattle.net_model.specs.Accepted.{IsAccepted}
@@ -29,7 +29,7 @@ use Rattle.cell_eval.specs.TableValues.{IsNumberAt}
 use Rattle.cell_eval.specs.declared.number_sums.Added.{Added}
 use Rattle.cell_eval.specs.Tallies.{AreAdded}
 use Rattle.cell_eval.proofs.HaveNumbers.{have_all, have_more, have_none}
-use Rattle.net_model.specs.run_laws.proofs.Members.{Has}
+use Rattle.run_laws.proofs.Members.{Has}
 use Rattle.net_cells.proofs.TableValues.{same_number}
 
 -- ---- hop after hop

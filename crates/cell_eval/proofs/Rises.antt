@@ -1,29 +1,29 @@
 -- Which functions rise, by how they are made, whatever their values at 0.
 use Rattle.std.specs.Prelude.{ℕ}
 use Rattle.std.proofs.Common.{arith, subst}
-use Rattle.upp_limits.specs.rational.specs.Rational.{ℚ, ◌+ℚ◌, ◌-ℚ◌, ◌≤ℚ◌}
-use Rattle.upp_limits.specs.rational.specs.Extended.{Ext, ◌≤ₑ◌, ◌-ₑ◌, ◌+ₑ◌, min_ext}
-use Rattle.upp_limits.specs.rational.specs.declared.Extended.TheVariants.{Fin, Inf}
-use Rattle.upp_limits.specs.rational.proofs.Bounds.{smallest, supremum_le}
-use Rattle.upp_limits.specs.rational.proofs.ExtendedOrder.{le_ext_refl, le_ext_trans, le_inf, add_le_ext, min_ext_mono}
-use Rattle.upp_limits.specs.rational.proofs.Laws.{le_refl, le_trans, add_le_add}
-use Rattle.upp_limits.specs.rational.proofs.Linear.{with3}
-use Rattle.upp_limits.specs.rational.proofs.MinMax.{max_q_mono}
+use Rattle.rational.specs.Rational.{ℚ, ◌+ℚ◌, ◌-ℚ◌, ◌≤ℚ◌}
+use Rattle.rational.specs.Extended.{Ext, ◌≤ₑ◌, ◌-ₑ◌, ◌+ₑ◌, min_ext}
+use Rattle.rational.specs.declared.Extended.TheVariants.{Fin, Inf}
+use Rattle.rational.proofs.Bounds.{smallest, supremum_le}
+use Rattle.rational.proofs.ExtendedOrder.{le_ext_refl, le_ext_trans, le_inf, add_le_ext, min_ext_mono}
+use Rattle.rational.proofs.Laws.{le_refl, le_trans, add_le_add}
+use Rattle.rational.proofs.Linear.{with3}
+use Rattle.rational.proofs.MinMax.{max_q_mono}
 use Rattle.upp_limits.specs.declared.op_kind.OpKind.TheVariants.{Sum, Min, Shift, Deconvolve}
-use Rattle.upp_limits.specs.upp_curve.specs.Curve.{SpecCurve, value_at}
-use Rattle.upp_limits.specs.min_plus.specs.Functions.{zero_q, UpTo, FiniteTime, IsRising}
-use Rattle.upp_limits.specs.min_plus.specs.Pointwise.{excess, shifted}
-use Rattle.net_model.specs.run_laws.specs.Cards.{whole}
-use Rattle.net_model.specs.run_laws.proofs.Sizes.{whole_nonneg}
-use Rattle.plain_operators.specs.curve_call.specs.Answers.{IsMadeBy}
-use Rattle.plain_operators.specs.curve_call.specs.Growth.{GrowsFromZero}
-use Rattle.plain_operators.specs.curve_call.proofs.Excesses.{finite_excess, excess_nonneg, excess_mono, excess_most}
-use Rattle.plain_operators.specs.curve_call.proofs.FiniteAnswers.{supremum_finite}
-use Rattle.plain_operators.specs.curve_call.proofs.GrowingAnswers.{same_rising}
+use Rattle.upp_curve.specs.Curve.{SpecCurve, value_at}
+use Rattle.min_plus.specs.Functions.{zero_q, UpTo, FiniteTime, IsRising}
+use Rattle.min_plus.specs.Pointwise.{excess, shifted}
+use Rattle.run_laws.specs.Cards.{whole}
+use Rattle.run_laws.proofs.Sizes.{whole_nonneg}
+use Rattle.curve_call.specs.Answers.{IsMadeBy}
+use Rattle.curve_call.specs.Growth.{GrowsFromZero}
+use Rattle.curve_call.proofs.Excesses.{finite_excess, excess_nonneg, excess_mono, excess_most}
+use Rattle.curve_call.proofs.FiniteAnswers.{supremum_finite}
+use Rattle.curve_call.proofs.GrowingAnswers.{same_rising}
 use Rattle.curve_deconv.proofs.Kept.{sub_le}
-use Rattle.residuals.specs.residual_laws.specs.PriorityLaws.{IsPriorityService, priority_left}
+use Rattle.residual_laws.specs.PriorityLaws.{IsPriorityService, priority_left}
 use Rattle.cell_eval.specs.Shapes.{IsServed}
-use Rattle.upp_limits.specs.min_plus.proofs.TimeSums.{nonneg_sum}
+use Rattle.min_plus.proofs.TimeSums.{nonneg_sum}
 
 -- ---- calls
 pub sum_rises : (f g h : SpecCurve) → IsRising (value_at f) → IsRising (value_at g) → IsMadeBy Sum f g h → IsRising (value_at h)

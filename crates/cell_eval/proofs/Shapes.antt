@@ -5,22 +5,22 @@ use Rattle.std.specs.List.{range_with_len}
 use Rattle.std.proofs.lemmas.Bool.{cases_lt}
 use Rattle.std.proofs.lemmas.List.{get_or_default, get_or_past}
 use Rattle.std.proofs.lemmas.Option.{slice_get_within, get_or_from_slice_get}
-use Rattle.upp_limits.specs.rational.specs.Rational.{ℚ, ◌≤ℚ◌}
-use Rattle.upp_limits.specs.rational.specs.Extended.{min_ext}
-use Rattle.upp_limits.specs.rational.specs.declared.Extended.TheVariants.{Fin}
-use Rattle.upp_limits.specs.rational.proofs.ExtendedOrder.{min_greatest}
-use Rattle.upp_limits.specs.rational.proofs.Laws.{le_refl, le_of_lt}
+use Rattle.rational.specs.Rational.{ℚ, ◌≤ℚ◌}
+use Rattle.rational.specs.Extended.{min_ext}
+use Rattle.rational.specs.declared.Extended.TheVariants.{Fin}
+use Rattle.rational.proofs.ExtendedOrder.{min_greatest}
+use Rattle.rational.proofs.Laws.{le_refl, le_of_lt}
 use Rattle.upp_limits.specs.declared.op_kind.OpKind.TheVariants.{Sum, Min, PosMinus, Shift, FifoLeft, Convolve, Deconvolve}
-use Rattle.upp_limits.specs.upp_curve.specs.Curve.{SpecCurve, value_at}
-use Rattle.upp_limits.specs.upp_curve.specs.Kinds.{bucket}
-use Rattle.upp_limits.specs.min_plus.specs.Functions.{IsNonneg, zero_q}
-use Rattle.upp_limits.specs.min_plus.specs.Deviations.{IsHorizontalDeviation}
-use Rattle.upp_limits.specs.min_plus.proofs.DeviationSigns.{horizontals_are_nonnegative}
-use Rattle.net_model.specs.run_laws.specs.Cards.{whole}
-use Rattle.net_model.specs.run_laws.specs.Servers.{queue_count}
-use Rattle.net_model.specs.run_laws.proofs.Sizes.{whole_nonneg}
-use Rattle.plain_operators.specs.curve_call.specs.Answers.{IsMadeBy}
-use Rattle.plain_operators.specs.curve_call.proofs.GrowingAnswers.{grown, growing_answers}
+use Rattle.upp_curve.specs.Curve.{SpecCurve, value_at}
+use Rattle.upp_curve.specs.Kinds.{bucket}
+use Rattle.min_plus.specs.Functions.{IsNonneg, zero_q}
+use Rattle.min_plus.specs.Deviations.{IsHorizontalDeviation}
+use Rattle.min_plus.proofs.DeviationSigns.{horizontals_are_nonnegative}
+use Rattle.run_laws.specs.Cards.{whole}
+use Rattle.run_laws.specs.Servers.{queue_count}
+use Rattle.run_laws.proofs.Sizes.{whole_nonneg}
+use Rattle.curve_call.specs.Answers.{IsMadeBy}
+use Rattle.curve_call.proofs.GrowingAnswers.{grown, growing_answers}
 use Rattle.residuals.proofs.fifo.FifoGrowth as fifo
 use Rattle.residuals.specs.left.Left.{Left, all, above, share, EachBefore, IsFit}
 use Rattle.residuals.proofs.left.Laws.{grows as left_grows}
@@ -49,7 +49,7 @@ use Rattle.cell_eval.specs.Shapes.{Rises, Serving, Grows}
 use Rattle.cell_eval.specs.TableValues.{HasCurve, HasNumber}
 use Rattle.cell_eval.proofs.Rises.{sum_rises, min_rises, shift_rises, deconvolution_rises, grows_served, priority_served}
 use Rattle.cell_eval.proofs.Meeting.{Meets, curve_from, number_from, has_curve, has_number, curve_holds, number_holds, sum_leaf, served_leaf}
-use Rattle.net_model.specs.run_laws.proofs.Members.{Has}
+use Rattle.run_laws.proofs.Members.{Has}
 
 -- ---- numbers that are deviations
 deviation_ahead : (at : CellTable) (F G : Formula) (v : Meaning) → Means at (horizontal F G) v → IsNumberIn IsNonneg v

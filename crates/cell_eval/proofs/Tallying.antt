@@ -1,20 +1,20 @@
 -- Numbers that are added up one after the other, and those of some cells.
 use Rattle.std.proofs.Common.{◌≡◌, ℕ, ◌≤◌, ◌^◌, List, [], ◌∷◌, ◌++◌, refl, sym, ap, ◌∙◌, subst, arith, true, false, append_assoc}
 use Rattle.std.specs.Prelude.{Option, Some, None, IfSome, IfNone, IsSome, ◌*◌, ◌/◌}
-use Rattle.upp_limits.specs.rational.specs.Rational.{ℚ, den, ◌+ℚ◌}
-use Rattle.upp_limits.specs.rational.specs.Extended.{Ext}
-use Rattle.upp_limits.specs.rational.specs.declared.Extended.TheVariants.{Fin, Inf}
-use Rattle.upp_limits.specs.rational.specs.Gauge.{lcm}
+use Rattle.rational.specs.Rational.{ℚ, den, ◌+ℚ◌}
+use Rattle.rational.specs.Extended.{Ext}
+use Rattle.rational.specs.declared.Extended.TheVariants.{Fin, Inf}
+use Rattle.rational.specs.Gauge.{lcm}
 use Rattle.upp_limits.proofs.Gathering.{den_more}
 use Rattle.net_cells.specs.NumberSums.{has_infinite, finite}
 use Rattle.cell_eval.specs.declared.number_sums.Tally.{Tally}
 use Rattle.cell_eval.specs.declared.number_sums.Added.{Added}
 use Rattle.cell_eval.specs.Tallies.{Tallies, IsTallied, AreAdded, IsNarrow, size_of}
-use Rattle.upp_limits.specs.rational.specs.Ratio.{SumFits}
-use Rattle.upp_limits.specs.rational.proofs.Multiples.{lcm_swap}
-use Rattle.upp_limits.specs.fraction128.proofs.Coprime.{gcd_comm}
+use Rattle.rational.specs.Ratio.{SumFits}
+use Rattle.rational.proofs.Multiples.{lcm_swap}
+use Rattle.fraction128.proofs.Coprime.{gcd_comm}
 use Rattle.cell_eval.proofs.Totals.{sizes_more, sizes_fit, sum_fits, den_fits}
-use Rattle.upp_limits.specs.min_plus.proofs.TimeSums.{sum_more}
+use Rattle.min_plus.proofs.TimeSums.{sum_more}
 
 -- ---- tallies
 pub tallies_more : (xs : List ℚ) (x : ℚ) (t u : Tally) → Tallies xs t → u.den ≡ lcm (den x) t.den → u.sizes ≡ t.sizes +ℚ size_of x

@@ -5,25 +5,25 @@ use Rattle.std.specs.List.{AllByRecursion}
 use Rattle.std.proofs.lemmas.Bool.{cases_lt}
 use Rattle.upp_limits.specs.declared.op_kind.OpFault.TheVariants.{TooMany, TooWide}
 use Rattle.std.proofs.lemmas.Nat.Gcd.{le_of_dvd}
-use Rattle.upp_limits.specs.rational.specs.Rational.{ℚ, int, den, ◌+ℚ◌, ◌*ℚ◌, ◌≤ℚ◌, ◌<ℚ◌, neg_ℚ}
-use Rattle.upp_limits.specs.rational.specs.Extended.{Ext, ◌+ₑ◌}
-use Rattle.upp_limits.specs.rational.specs.declared.Extended.TheVariants.{Fin, Inf}
-use Rattle.upp_limits.specs.rational.specs.Grid.{Whole, Within}
-use Rattle.upp_limits.specs.rational.specs.Gauge.{common_den, size_up, lcm}
-use Rattle.upp_limits.specs.rational.specs.Ratio.{SumFits}
-use Rattle.upp_limits.specs.rational.proofs.Grid.{whole_add, whole_neg, whole_int, within_add, within_weaken, within_nonneg}
-use Rattle.upp_limits.specs.rational.proofs.Sizes.{sum_on_grid}
-use Rattle.upp_limits.specs.rational.proofs.Integers.{nat_le, int_add, int_mul}
-use Rattle.upp_limits.specs.rational.proofs.Laws.{le_refl, le_trans, le_or_lt, add_assoc, add_comm, add_zero}
-use Rattle.upp_limits.specs.rational.proofs.MinMax.{max_q_ge_left, max_q_ge_right, max_q_one, max_q_right, max_q_is_left}
-use Rattle.upp_limits.specs.rational.proofs.Linear.{with1, with2}
-use Rattle.upp_limits.specs.min_plus.specs.Functions.{zero_q}
+use Rattle.rational.specs.Rational.{ℚ, int, den, ◌+ℚ◌, ◌*ℚ◌, ◌≤ℚ◌, ◌<ℚ◌, neg_ℚ}
+use Rattle.rational.specs.Extended.{Ext, ◌+ₑ◌}
+use Rattle.rational.specs.declared.Extended.TheVariants.{Fin, Inf}
+use Rattle.rational.specs.Grid.{Whole, Within}
+use Rattle.rational.specs.Gauge.{common_den, size_up, lcm}
+use Rattle.rational.specs.Ratio.{SumFits}
+use Rattle.rational.proofs.Grid.{whole_add, whole_neg, whole_int, within_add, within_weaken, within_nonneg}
+use Rattle.rational.proofs.Sizes.{sum_on_grid}
+use Rattle.rational.proofs.Integers.{nat_le, int_add, int_mul}
+use Rattle.rational.proofs.Laws.{le_refl, le_trans, le_or_lt, add_assoc, add_comm, add_zero}
+use Rattle.rational.proofs.MinMax.{max_q_ge_left, max_q_ge_right, max_q_one, max_q_right, max_q_is_left}
+use Rattle.rational.proofs.Linear.{with1, with2}
+use Rattle.min_plus.specs.Functions.{zero_q}
 use Rattle.upp_limits.proofs.Every.{every_left}
 use Rattle.upp_limits.proofs.CommonDen.{common_den_each, common_den_least, common_den_pos, size_up_within}
 use Rattle.upp_limits.proofs.Gathering.{den_more}
 use Rattle.net_cells.specs.NumberSums.{sum_of_numbers, has_infinite, finite, sizes, sum_gauge, sum_tally, Sums}
 use Rattle.cell_eval.specs.Tallies.{size_of, gauge_of, IsNarrow}
-use Rattle.upp_limits.specs.min_plus.specs.Convolution.{sum_of}
+use Rattle.min_plus.specs.Convolution.{sum_of}
 
 -- ---- the parts of a list
 every_next : {A : Type 0} (P : A → Type 0) (xs : List A) (x : A) (ys : List A) → AllByRecursion P (xs ++ x ∷ ys) → P x

@@ -2,7 +2,7 @@
 use Rattle.std.specs.Prelude.{◌≡◌, ℕ, ◌+◌, ◌-◌, ◌≤◌, List, [], ◌∷◌, ◌++◌, length, map, All, Option, None, Some, Result, Ok, Err}
 use Rattle.std.specs.List.{range_with_len}
 use Rattle.upp_limits.specs.declared.op_kind.OpFault.{OpFault}
-use Rattle.upp_limits.specs.upp_curve.specs.Curve.{SpecCurve}
+use Rattle.upp_curve.specs.Curve.{SpecCurve}
 use Rattle.net_model.specs.Networks.{Net}
 use Rattle.net_cells.specs.Numbered.{zero_curve}
 use Rattle.net_cells.specs.QueueParts.{in_part, part_numbers, by_parts, link_part, links_among}

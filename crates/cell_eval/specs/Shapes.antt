@@ -1,10 +1,10 @@
 -- Shapes of curves and numbers of cells. Own choice of the words.
-use Rattle.upp_limits.specs.rational.specs.Rational.{ℚ}
-use Rattle.upp_limits.specs.rational.specs.Extended.{Ext, ◌≤ₑ◌}
-use Rattle.upp_limits.specs.rational.specs.declared.Extended.TheVariants.{Fin}
-use Rattle.upp_limits.specs.upp_curve.specs.Curve.{SpecCurve, value_at}
-use Rattle.upp_limits.specs.min_plus.specs.Functions.{zero_q, IsFinite, IsRising, IsNonnegative}
-use Rattle.plain_operators.specs.curve_call.specs.Growth.{GrowsFromZero}
+use Rattle.rational.specs.Rational.{ℚ}
+use Rattle.rational.specs.Extended.{Ext, ◌≤ₑ◌}
+use Rattle.rational.specs.declared.Extended.TheVariants.{Fin}
+use Rattle.upp_curve.specs.Curve.{SpecCurve, value_at}
+use Rattle.min_plus.specs.Functions.{zero_q, IsFinite, IsRising, IsNonnegative}
+use Rattle.curve_call.specs.Growth.{GrowsFromZero}
 
 -- finite, rising, and nowhere below 0; it need not be 0 at 0
 pub record IsServed (f : ℚ → Ext) : Type 0 where

@@ -1,6 +1,6 @@
 -- Some curve, some number, and how far one curve is from another, by the cells of a table. Own choice.
-use Rattle.upp_limits.specs.upp_curve.specs.Curve.{value_at}
-use Rattle.upp_limits.specs.min_plus.specs.Deviations.{IsHorizontalDeviation}
+use Rattle.upp_curve.specs.Curve.{value_at}
+use Rattle.min_plus.specs.Deviations.{IsHorizontalDeviation}
 use Rattle.net_cells.specs.declared.cell.Cell.{Cell}
 use Rattle.net_cells.specs.Meanings.{CellTable}
 pub use Rattle.net_cells.specs.TableValues.{HasCurve, HasNumber}

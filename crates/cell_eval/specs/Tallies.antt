@@ -1,13 +1,13 @@
 -- What is gathered of numbers that are added up. Own choice.
 use Rattle.std.specs.Prelude.{◌≡◌, ℕ, ◌*◌, ◌^◌, ◌<◌, max, List, ◌++◌, Option, IfSome, IfNone}
-use Rattle.upp_limits.specs.rational.specs.Rational.{ℚ, neg_ℚ}
-use Rattle.upp_limits.specs.rational.specs.MinMax.{max_q}
-use Rattle.upp_limits.specs.rational.specs.Gauge.{common_den, size_up}
-use Rattle.upp_limits.specs.rational.specs.Extended.{Ext}
+use Rattle.rational.specs.Rational.{ℚ, neg_ℚ}
+use Rattle.rational.specs.MinMax.{max_q}
+use Rattle.rational.specs.Gauge.{common_den, size_up}
+use Rattle.rational.specs.Extended.{Ext}
 use Rattle.net_cells.specs.NumberSums.{sizes, has_infinite, finite}
 use Rattle.cell_eval.specs.declared.number_sums.Tally.{Tally}
 use Rattle.cell_eval.specs.declared.number_sums.Added.{Added}
-use Rattle.upp_limits.specs.min_plus.specs.Convolution.{sum_of}
+use Rattle.min_plus.specs.Convolution.{sum_of}
 
 -- how far a number is from 0
 abbrev pub size_of : ℚ → ℚ

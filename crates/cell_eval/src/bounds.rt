@@ -6,7 +6,7 @@ ghost use Rattle.net_cells.specs.Numbered as at;
 ghost use Rattle.net_cells.specs.Cells.{cell_of};
 ghost use Rattle.net_cells.specs.CellFormulas.{hop_delay_cells, link_delays};
 ghost use Rattle.net_cells.specs.Means.{HaveNumbers, with_links};
-ghost use Rattle.upp_limits.specs.rational.specs.Extended.{Ext};
+ghost use Rattle.rational.specs.Extended.{Ext};
 ghost use Rattle.cell_eval.specs.TableValues.{IsNumberAt};
 ghost use Rattle.cell_eval.specs.Tallies.{AreAdded};
 
@@ -15,7 +15,7 @@ use crate::{link, number_at};
 use net_cells::cell_table::{Table, Value};
 use net_cells::{Cell, Kind, hops, server_of_hop};
 use net_model::Network;
-use upp_limits::rational::Extended;
+use rational::Extended;
 
 /// The delays of a flow's hops, added up.
 pub(crate) fn delays<T: Table<Value>>(table: &T, net: &Network, flow: u32) -> Added

@@ -2,7 +2,7 @@
 
 ghost use Rattle.std.specs.Prelude.{◌≡◌, ◌<◌, ℕ, List, [], ◌∷◌, length, map, Some, IfOk};
 ghost use Rattle.std.specs.List.{range_with_len};
-ghost use Rattle.plain_operators.specs.curve_call.specs.Again.{IsAgain};
+ghost use Rattle.curve_call.specs.Again.{IsAgain};
 ghost use Rattle.net_cells.specs.declared.cell.Cell.{Cell};
 ghost use Rattle.net_cells.specs.declared.cell.Kind.TheVariants.{In, Total};
 ghost use Rattle.net_cells.specs.Numbered.{zero_curve};
@@ -18,18 +18,18 @@ ghost use Rattle.cell_eval.specs.TableValues.{IsCurveAt};
 use crate::reading::curve_at;
 use crate::sharing::{again, shared};
 use crate::{Pick, chosen_at};
+use curve_call::intact;
 use curve_library::bucket;
+use fraction128::Frac;
 use net_cells::cell_table::{Table, Value};
 use net_cells::{Cell, Kind};
 use net_model::Network;
 use outcomes::Steps;
-use plain_operators::curve_call::intact;
 use plain_operators::running::sum;
 use std::alloc::Global;
 use std::sync::ledger::Ledger;
+use upp_curve::Curve;
 use upp_limits::OpFault;
-use upp_limits::fraction128::Frac;
-use upp_limits::upp_curve::Curve;
 
 /// The sum of no cell, of one, or of more.
 #[derive(Drop, Default)]

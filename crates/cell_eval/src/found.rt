@@ -6,9 +6,9 @@ ghost use Rattle.net_cells.specs.Visits as visiting;
 ghost use Rattle.cell_eval.specs.Chosen.{flow_visits, visit_list, picked, chosen, all_picked};
 ghost use Rattle.cell_eval.specs.Chosen as spec;
 
+use fraction128::Frac;
 use net_cells::{Visit, hops, live_flow, part_of, queue_of_hop, server, server_of_hop};
 use net_model::Network;
-use upp_limits::fraction128::Frac;
 
 /// Which hops at a server are meant: those in a queue, those in the queues of greater number, or those in one part of a
 /// queue.

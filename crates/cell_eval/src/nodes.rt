@@ -2,8 +2,8 @@
 
 ghost use Rattle.std.specs.Prelude.{◌≡◌, ◌+◌, ◌-◌, ◌≤◌, IfOk, IfErr};
 ghost use Rattle.upp_limits.specs.declared.op_kind.OpKind.TheVariants.{Min, Deconvolve};
-ghost use Rattle.upp_limits.specs.upp_curve.specs.Curve.{value_at};
-ghost use Rattle.upp_limits.specs.min_plus.specs.Functions.{IsNonneg, IsFinite};
+ghost use Rattle.upp_curve.specs.Curve.{value_at};
+ghost use Rattle.min_plus.specs.Functions.{IsNonneg, IsFinite};
 ghost use Rattle.net_cells.specs.Meanings.{curve, number};
 ghost use Rattle.net_cells.specs.Formulas.{value_of, made, moved, leftover, horizontal, vertical};
 ghost use Rattle.net_cells.specs.CellFormulas.{less};
@@ -16,21 +16,21 @@ ghost use Rattle.cell_eval.specs.TableValues.{HasCurve, HasNumber, IsCurveAt, De
 
 use crate::reading::{curve_at, number_at};
 use crate::sharing::shared;
+use curve_call::intact;
 use curve_deconv::deconvolve;
 use curve_deviation::{horizontal, vertical};
+use fraction128::{Ext, Frac};
 use net_cells::Cell;
 use net_cells::cell_table::{Table, Value};
-use net_model::run_laws::whole;
 use outcomes::Steps;
-use plain_operators::curve_call::intact;
 use plain_operators::running::{min, shift};
 use residuals::fifo::fifo_service;
 use residuals::packetiser::packetised;
+use run_laws::whole;
 use std::alloc::Global;
 use std::sync::ledger::Ledger;
+use upp_curve::Curve;
 use upp_limits::OpFault;
-use upp_limits::fraction128::{Ext, Frac};
-use upp_limits::upp_curve::Curve;
 
 /// The horizontal deviation of a cell's curve, which rises, and another's, which serves. One step is counted; refused
 /// only where that call is over a limit.

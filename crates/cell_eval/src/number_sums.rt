@@ -2,15 +2,15 @@
 
 ghost use Rattle.std.specs.Prelude.{◌≡◌, ◌≤◌, ◌^◌, ◌++◌, List, [], ◌∷◌, length, IfSome, IfNone, IfOk, IsOk, IsSome};
 ghost use Rattle.std.specs.Prelude.{MatchBool, false};
-ghost use Rattle.upp_limits.specs.rational.specs.Rational.{ℚ};
-ghost use Rattle.upp_limits.specs.rational.specs.Extended.{Ext};
+ghost use Rattle.rational.specs.Rational.{ℚ};
+ghost use Rattle.rational.specs.Extended.{Ext};
 ghost use Rattle.net_cells.specs.NumberSums.{Sums, has_infinite, finite};
 ghost use Rattle.cell_eval.specs.Tallies.{Tallies, IsTallied, AreAdded, IsNarrow, size_of};
 
+use fraction128::{Ext, Frac, Wide, least_common_multiple};
+use rational::Extended;
 use std::cmp::Ordering;
 use upp_limits::OpFault;
-use upp_limits::fraction128::{Ext, Frac, Wide, least_common_multiple};
-use upp_limits::rational::Extended;
 
 /// Of the numbers so far: their least common denominator, their sizes together, and their sum.
 #[derive(Debug, Clone, Copy)]

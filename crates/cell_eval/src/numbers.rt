@@ -14,6 +14,7 @@ use crate::bounds::{delays, with_path};
 use crate::number_sums::{and, no_number, sum_of};
 use crate::places::{cell, numbered, place_of};
 use crate::{Pick, backlog, delay_between, longest_at, number_at};
+use fraction128::lesser_value;
 use net_cells::cell_table::{Table, Value};
 use net_cells::{Cell, Kind};
 use net_model::Network;
@@ -21,7 +22,6 @@ use outcomes::Steps;
 use std::alloc::Global;
 use std::sync::ledger::Ledger;
 use upp_limits::OpFault;
-use upp_limits::fraction128::lesser_value;
 
 /// How long the curve of a queue's other flows may lag behind the queue's service.
 pub fn theta<T: Table<Value>, L: Ledger>(

@@ -3,13 +3,13 @@
 
 ghost use Rattle.std.specs.Prelude.{◌≡◌, ◌+◌, ◌-◌, ◌<◌, ◌≤◌, ◌++◌, ℕ, suc, [], All, Ok, IfOk, IfErr, length, map, Some, None};
 ghost use Rattle.arrayvec.specs.ArrayVec.{array_vec_len};
-ghost use Rattle.upp_limits.specs.rational.specs.Rational.{◌≤ℚ◌};
-ghost use Rattle.upp_limits.specs.min_plus.specs.Functions.{zero_q};
-ghost use Rattle.upp_limits.specs.upp_curve.specs.Kinds.{bucket};
-ghost use Rattle.net_model.specs.run_laws.specs.Cards.{whole};
+ghost use Rattle.rational.specs.Rational.{◌≤ℚ◌};
+ghost use Rattle.min_plus.specs.Functions.{zero_q};
+ghost use Rattle.upp_curve.specs.Kinds.{bucket};
+ghost use Rattle.run_laws.specs.Cards.{whole};
 ghost use Rattle.upp_limits.specs.declared.op_kind.OpKind.TheVariants.{Sum};
-ghost use Rattle.plain_operators.specs.curve_call.specs.Again.{IsAgain};
-ghost use Rattle.plain_operators.specs.curve_call.specs.Calls.{Applies};
+ghost use Rattle.curve_call.specs.Again.{IsAgain};
+ghost use Rattle.curve_call.specs.Calls.{Applies};
 ghost use Rattle.net_cells.specs.declared.cell.Kind.TheVariants.{In};
 ghost use Rattle.net_cells.specs.Cells.{cell_of};
 ghost use Rattle.net_cells.specs.QueueParts.{in_part, part_numbers};
@@ -35,18 +35,18 @@ use crate::reading::curve_at;
 use crate::sharing::{again, copied, shared};
 use crate::{Pick, longest_at, rate};
 use arrayvec::ArrayVec;
+use curve_call::intact;
 use curve_library::{CurveFault, bucket};
+use fraction128::Frac;
 use net_cells::cell_table::{Table, Value};
 use net_model::Network;
-use net_model::run_laws::whole;
 use outcomes::Steps;
-use plain_operators::curve_call::intact;
 use plain_operators::running::{min, sum};
+use run_laws::whole;
 use std::alloc::Global;
 use std::sync::ledger::Ledger;
+use upp_curve::Curve;
 use upp_limits::OpFault;
-use upp_limits::fraction128::Frac;
-use upp_limits::upp_curve::Curve;
 
 /// The sums of a queue's parts: of those that enter there, and of those that come from each of 64 servers.
 type Parts = ArrayVec<Partial, 65>;

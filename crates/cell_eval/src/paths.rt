@@ -20,16 +20,16 @@ use crate::nodes::in_packets;
 use crate::packet;
 use crate::reading::curve_at;
 use crate::sharing::{again, shared};
+use curve_call::intact;
 use curve_conv::convolve;
 use net_cells::cell_table::{Table, Value};
 use net_cells::{Cell, Kind, hops};
 use net_model::Network;
 use outcomes::Steps;
-use plain_operators::curve_call::intact;
 use std::alloc::Global;
 use std::sync::ledger::Ledger;
+use upp_curve::Curve;
 use upp_limits::OpFault;
-use upp_limits::upp_curve::Curve;
 
 macro_rules! residual {
     ($flow:expr, $hop:expr) => {

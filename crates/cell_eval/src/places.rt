@@ -1,17 +1,17 @@
 //! Cells by their kinds, places of hops, and numbers as values.
 
 ghost use Rattle.std.specs.Prelude.{◌≡◌, ◌<◌, Result};
-ghost use Rattle.upp_limits.specs.rational.specs.Extended.{Ext};
+ghost use Rattle.rational.specs.Extended.{Ext};
 ghost use Rattle.upp_limits.specs.declared.op_kind.OpFault.{OpFault};
 ghost use Rattle.net_cells.specs.Numbered as at;
 ghost use Rattle.net_cells.specs.Meanings.{number};
 ghost use Rattle.net_cells.specs.cell_table.Values.{answer_of, meaning_of};
 
+use fraction128::Ext;
 use net_cells::cell_table::Value;
 use net_cells::{queue_of_hop, server_of_hop};
 use net_model::Network;
 use upp_limits::OpFault;
-use upp_limits::fraction128::Ext;
 
 /// The cell of a kind, and of its two numbers.
 macro_rules! cell {

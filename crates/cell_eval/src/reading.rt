@@ -4,11 +4,11 @@ ghost use Rattle.std.specs.Prelude.{◌≡◌, Some};
 ghost use Rattle.net_cells.specs.Meanings.{curve, number};
 ghost use Rattle.cell_eval.specs.TableValues.{IsCurveAt, IsNumberAt};
 
+use fraction128::Ext;
 use net_cells::Cell;
 use net_cells::cell_table::{Table, Value};
 use std::rc::Rc;
-use upp_limits::fraction128::Ext;
-use upp_limits::upp_curve::Curve;
+use upp_curve::Curve;
 
 /// The curve of a cell that has one.
 pub fn curve_at<'a, T: Table<Value>>(table: &'a T, cell: Cell) -> &'a Rc<Curve>

@@ -1,8 +1,8 @@
 //! The curve that serves a queue, by what its server leaves it.
 
 ghost use Rattle.std.specs.Prelude.{◌≡◌, ◌-◌, ◌<◌, ◌≤◌, length, IfErr};
-ghost use Rattle.upp_limits.specs.upp_curve.specs.Curve.{value_at};
-ghost use Rattle.upp_limits.specs.min_plus.specs.Functions.{IsFinite};
+ghost use Rattle.upp_curve.specs.Curve.{value_at};
+ghost use Rattle.min_plus.specs.Functions.{IsFinite};
 ghost use Rattle.net_cells.specs.declared.cell.Kind.TheVariants.{Higher};
 ghost use Rattle.net_cells.specs.Numbered as at;
 ghost use Rattle.net_cells.specs.Visits as visiting;
@@ -32,8 +32,8 @@ use residuals::drr::drr_service;
 use residuals::priority::priority_service;
 use std::alloc::Global;
 use std::sync::ledger::Ledger;
+use upp_curve::Curve;
 use upp_limits::OpFault;
-use upp_limits::upp_curve::Curve;
 
 // What is above the curve of the queues before it.
 fn above_others<T: Table<Value>, L: Ledger>(

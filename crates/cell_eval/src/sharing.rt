@@ -1,6 +1,6 @@
 //! Curves that are shared.
 
-ghost use Rattle.plain_operators.specs.curve_call.specs.Again.{IsAgain};
+ghost use Rattle.curve_call.specs.Again.{IsAgain};
 ghost use Rattle.net_cells.specs.Formulas.{value_of};
 ghost use Rattle.net_cells.specs.cell_table.Gives.{Gives};
 ghost use Rattle.net_cells.specs.cell_table.Values.{answer_of, meaning_of};
@@ -12,8 +12,8 @@ use net_cells::Cell;
 use net_cells::cell_table::{Table, Value};
 use std::alloc::Global;
 use std::rc::Rc;
+use upp_curve::Curve;
 use upp_limits::OpFault;
-use upp_limits::upp_curve::Curve;
 
 /// A curve that was made, to be shared from now on; a refusal stays.
 pub fn shared(alloc: Global, made: Result<Curve, OpFault>) -> Result<Value, OpFault>

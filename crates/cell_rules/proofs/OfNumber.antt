@@ -2,7 +2,7 @@
 use Rattle.std.proofs.Common.{◌≡◌, ◌<◌, ◌≤◌, ℕ, ◌+◌, ◌==◌, List, ◌++◌, length, map, sym, ap, subst, arith, true, Option, None}
 use Rattle.std.specs.Prelude.{slice_get, slice_index_or, nat_lt, is_some, ◌&&◌}
 use Rattle.std.specs.List.{flat_map, range_with_len}
-use Rattle.net_model.specs.run_laws.specs.Servers.{queue_count}
+use Rattle.run_laws.specs.Servers.{queue_count}
 use Rattle.net_model.specs.Networks.{Net, NetServer, NetFlow}
 use Rattle.net_model.specs.Accepted.{IsAccepted}
 use Rattle.net_cells.specs.declared.cell.Cell.{Cell}

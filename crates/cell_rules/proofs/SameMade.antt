@@ -3,10 +3,10 @@ use Rattle.std.proofs.Common.{◌≡◌, ◌≢◌, ℕ, zero, suc, ◌<◌, ◌
 use Rattle.std.specs.Prelude.{pos}
 use Rattle.std.specs.List.{range_with_len}
 use Rattle.std.proofs.lemmas.List.{length-map, get_or-map, same_lists}
-use Rattle.upp_limits.specs.rational.specs.Rational.{ℚ}
-use Rattle.upp_limits.specs.rational.proofs.Integers.{int_same}
-use Rattle.upp_limits.specs.min_plus.specs.Functions.{zero_q}
-use Rattle.net_model.specs.run_laws.specs.Cards.{whole}
+use Rattle.rational.specs.Rational.{ℚ}
+use Rattle.rational.proofs.Integers.{int_same}
+use Rattle.min_plus.specs.Functions.{zero_q}
+use Rattle.run_laws.specs.Cards.{whole}
 use Rattle.upp_limits.specs.declared.op_kind.OpKind.TheVariants.{Convolve, Deconvolve}
 use Rattle.net_model.specs.Networks.{Net}
 use Rattle.net_cells.specs.declared.cell.Cell.{Cell}

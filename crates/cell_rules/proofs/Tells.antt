@@ -4,8 +4,8 @@ use Rattle.std.specs.Prelude.{IsTrue, ◌↔◌}
 use Rattle.std.specs.List.{range_with_len}
 use Rattle.std.proofs.lemmas.Bool.Decides.{eqb_tells}
 use Rattle.std.proofs.lemmas.List.FromFn.{get_or-map-range_with_len, map-range_with_len_more}
-use Rattle.upp_limits.specs.upp_curve.specs.Curve.{SpecCurve, HasSameValues}
-use Rattle.upp_limits.specs.upp_curve.specs.Normal.{IsNormal, NormalFormIsUnique}
+use Rattle.upp_curve.specs.Curve.{SpecCurve, HasSameValues}
+use Rattle.upp_curve.specs.Normal.{IsNormal, NormalFormIsUnique}
 use Rattle.cell_rules.specs.Rules.{TellsSame}
 
 -- of two things that are one exactly where two others are

@@ -1,16 +1,16 @@
 //! Whether two networks have the same of what a cell reads beside other cells: curves, packets, links, and places.
 
 ghost use Rattle.std.specs.Prelude.{◌≡◌, IsTrue};
-ghost use Rattle.upp_limits.specs.upp_curve.specs.Curves.{IsCurve};
+ghost use Rattle.upp_curve.specs.Curves.{IsCurve};
 ghost use Rattle.net_cells.specs.CellFormulas.{link_delays};
 ghost use Rattle.net_cells.specs.Numbered as at;
 ghost use Rattle.cell_rules.specs.Rules.{TellsSame, hop_queue};
 
 use cell_eval::{link, packet};
+use fraction128::Frac;
 use net_cells::{hops, live_flow, queue_of_hop, server_of_hop};
 use net_model::Network;
-use upp_limits::fraction128::Frac;
-use upp_limits::upp_curve::{Curve, equal};
+use upp_curve::{Curve, equal};
 use upp_normal::normal_form_is_unique;
 
 /// Whether two curves are one.

@@ -10,10 +10,10 @@ use Rattle.net_draft.specs.Faults.{Fault}
 use Rattle.net_text.specs.Becoming.{limit_fault}
 use Rattle.net_text.specs.Reading.{IsNetworkOf, FirstFault}
 use Rattle.net_text.specs.FoldLimits.{OverFold}
-use Rattle.report_text.specs.net_cells.specs.Meanings.{CellTable}
-use Rattle.report_text.specs.net_cells.specs.FirstOver.{AnswersAll}
-use Rattle.report_text.specs.net_cells.specs.Order.{evaluation_order}
-use Rattle.report_text.specs.net_cells.proofs.Tables.{one_is_first_over}
+use Rattle.net_cells.specs.Meanings.{CellTable}
+use Rattle.net_cells.specs.FirstOver.{AnswersAll}
+use Rattle.net_cells.specs.Order.{evaluation_order}
+use Rattle.net_cells.proofs.Tables.{one_is_first_over}
 use Rattle.report_text.specs.CellWords.{cell_words}
 use Rattle.command_replies.specs.Replies.{Reply, AreSame, cell_over}
 use Rattle.command_replies.specs.Faults.{fault_reply}

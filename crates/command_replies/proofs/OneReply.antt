@@ -10,9 +10,9 @@ use Rattle.net_model.proofs.net_graph.OneOrders.{one_order}
 use Rattle.net_model.proofs.net_graph.Returns.{cycle_is_closed, order_or_cycle}
 use Rattle.net_text.specs.Reading.{IsNetworkOf}
 use Rattle.net_text.specs.FoldLimits.{OverFold}
-use Rattle.report_text.specs.net_cells.specs.declared.cell.Cell.{Cell}
-use Rattle.report_text.specs.net_cells.specs.FirstOver.{FirstOver}
-use Rattle.report_text.specs.net_cells.specs.Meanings.{CellTable}
+use Rattle.net_cells.specs.declared.cell.Cell.{Cell}
+use Rattle.net_cells.specs.FirstOver.{FirstOver}
+use Rattle.net_cells.specs.Meanings.{CellTable}
 use Rattle.command_replies.specs.OnFiles.{IsNoNetwork, IsNetOf, OnFile, OnCycle, IsOver, IsTableOf}
 use Rattle.command_replies.specs.OnFiles.{OnOrder, OnTable}
 use Rattle.command_replies.specs.Replies.{Reply}

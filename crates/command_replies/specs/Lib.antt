@@ -7,4 +7,3 @@ pub mod CellWork
 pub mod Guarantee
 pub mod run_findings
 pub mod simulated_findings
-pub use Rattle.net_bounds as net_bounds

@@ -7,7 +7,7 @@ use Rattle.upp_limits.specs.declared.own_limits.OverLimit.{OverLimit}
 use Rattle.upp_limits.specs.declared.own_limits.OverLimit.TheVariants.{TooMany, TooWide}
 use Rattle.net_model.specs.Networks.{Net}
 use Rattle.net_draft.specs.Faults.{Fault}
-use Rattle.report_text.specs.net_cells.specs.Meanings.{CellTable}
+use Rattle.net_cells.specs.Meanings.{CellTable}
 use Rattle.report_text.specs.Faults.{fault_text, table_fault_text, script_fault_text}
 use Rattle.report_text.specs.Refusals.{spaced}
 use Rattle.report_text.specs.Report.{report_of}

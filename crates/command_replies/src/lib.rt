@@ -7,7 +7,6 @@ pub mod run_findings;
 pub mod simulated_findings;
 
 pub use answer::{Answer, Status};
-pub use net_bounds;
 pub use refusals::{
     cannot_read, cell_too_many, cell_too_wide, goes_round, on_fault, on_script_fault,
     on_table_fault, sim_too_wide, too_long,

@@ -16,8 +16,8 @@ ghost use Rattle.command_replies.specs.View.{code_of, reply_of};
 use crate::answer::{Answer, Status};
 use input_texts::curve_script::{LangFault, LangKind};
 use input_texts::table_text::{TableFault, TableKind};
+use net_cells::Cell;
 use net_model::{NetFault, NetKind, Network};
-use report_text::net_cells::Cell;
 use report_text::{Refusal, cell_text, refusal_text, server_name};
 use std::alloc::{AllocError, Global};
 

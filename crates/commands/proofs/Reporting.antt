@@ -2,7 +2,7 @@
 use Rattle.std.proofs.Common.{◌≡◌}
 use Rattle.net_model.specs.Networks.{Net}
 use Rattle.net_model.specs.Traces.{SpecTrace}
-use Rattle.report_text.specs.net_cells.specs.Meanings.{CellTable}
+use Rattle.net_cells.specs.Meanings.{CellTable}
 use Rattle.report_text.specs.RunReport.{Found}
 use Rattle.command_replies.specs.Replies.{Reply}
 use Rattle.command_replies.specs.run_findings.Findings.{FoundText, found_report}

@@ -4,7 +4,7 @@ use Rattle.std.proofs.lemmas.Result.{IfOk-weaker}
 use Rattle.upp_limits.specs.declared.own_limits.OverLimit.TheVariants.{TooMany, TooWide}
 use Rattle.net_model.specs.Networks.{Net}
 use Rattle.net_model.specs.Orders.{IsOrder}
-use Rattle.report_text.specs.net_cells.specs.Meanings.{CellTable}
+use Rattle.net_cells.specs.Meanings.{CellTable}
 use Rattle.command_replies.specs.declared.answer.Answer.{Answer}
 use Rattle.command_replies.specs.CellWork.{work_of_cells}
 use Rattle.command_replies.specs.OnFiles.{OnTable, OnCurves}

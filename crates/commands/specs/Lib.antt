@@ -7,4 +7,3 @@ pub mod check
 pub mod measure
 pub mod edit
 pub mod curve
-pub use Rattle.command_replies as command_replies

@@ -2,7 +2,7 @@
 use Rattle.std.specs.Prelude.{◌⊎◌, ℕ, List}
 use Rattle.net_model.specs.Networks.{Net}
 use Rattle.net_model.specs.Orders.{IsOrder}
-use Rattle.report_text.specs.net_cells.specs.Meanings.{CellTable}
+use Rattle.net_cells.specs.Meanings.{CellTable}
 use Rattle.command_replies.specs.OnFiles.{OnCycle, IsOver, IsTableOf}
 use Rattle.command_replies.specs.Replies.{Reply}
 use Rattle.outcomes.specs.Stages.{Behind}

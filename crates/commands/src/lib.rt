@@ -10,5 +10,3 @@ pub mod exercise;
 pub mod measure;
 pub mod simulate;
 mod tabled;
-
-pub use command_replies;

@@ -10,10 +10,10 @@ ghost use Rattle.commands.specs.Tabled.{HasTable, IsStopped};
 
 use cell_store::flow_analysis::analyse;
 use command_replies::{Answer, cell_too_many, cell_too_wide, goes_round};
+use net_cells::cell_table::{Analysis, AnalysisFault, Table, Value};
 use net_model::Network;
 use net_model::net_graph::{GraphFault, order};
 use outcomes::Steps;
-use report_text::net_cells::cell_table::{Analysis, AnalysisFault, Table, Value};
 use std::alloc::{AllocError, Global};
 use std::sync::ledger::Ledger;
 

@@ -1,18 +1,18 @@
 -- Pieces of an answer meet what the normal form asks of a curve in any form; and what holds in its window and shifts with it holds of the answer.
 use Rattle.std.specs.Prelude.{◌≡◌, ℕ, ◌<◌, ◌^◌, pos, List}
 use Rattle.std.proofs.Common.{arith, sym, subst}
-use Rattle.upp_limits.specs.rational.specs.Rational.{ℚ, ◌+ℚ◌, ◌≤ℚ◌, ◌<ℚ◌, int}
-use Rattle.upp_limits.specs.rational.specs.Grid.{Within}
-use Rattle.upp_limits.specs.rational.specs.Extended.{Ext, ◌+ₑ◌}
-use Rattle.upp_limits.specs.rational.specs.declared.Extended.TheVariants.{Fin}
-use Rattle.upp_limits.specs.rational.proofs.Linear.{with3}
-use Rattle.upp_limits.specs.rational.proofs.Laws.{le_of_lt, le_refl}
-use Rattle.upp_limits.specs.rational.proofs.Grid.{within_weaken}
-use Rattle.upp_limits.specs.upp_curve.specs.declared.affine_segment.line.Piece.{Piece}
-use Rattle.upp_limits.specs.upp_curve.specs.declared.curve.Tail.TheVariants.{Periodic}
-use Rattle.upp_limits.specs.upp_curve.specs.affine_segment.Pieces.{Each, StartsAtZero}
-use Rattle.upp_limits.specs.upp_curve.specs.affine_segment.Reading.{read}
-use Rattle.upp_limits.specs.upp_curve.specs.Curve.{SpecCurve, repeated, value_at}
+use Rattle.rational.specs.Rational.{ℚ, ◌+ℚ◌, ◌≤ℚ◌, ◌<ℚ◌, int}
+use Rattle.rational.specs.Grid.{Within}
+use Rattle.rational.specs.Extended.{Ext, ◌+ₑ◌}
+use Rattle.rational.specs.declared.Extended.TheVariants.{Fin}
+use Rattle.rational.proofs.Linear.{with3}
+use Rattle.rational.proofs.Laws.{le_of_lt, le_refl}
+use Rattle.rational.proofs.Grid.{within_weaken}
+use Rattle.upp_curve.specs.declared.affine_segment.line.Piece.{Piece}
+use Rattle.upp_curve.specs.declared.curve.Tail.TheVariants.{Periodic}
+use Rattle.upp_curve.specs.affine_segment.Pieces.{Each, StartsAtZero}
+use Rattle.upp_curve.specs.affine_segment.Reading.{read}
+use Rattle.upp_curve.specs.Curve.{SpecCurve, repeated, value_at}
 use Rattle.upp_normal.specs.Normalising.{HasValues, OnGridsUnlessLine}
 use Rattle.upp_normal.specs.Room.{PieceHasRoom, TailHasRoom, TurnHasRoom}
 use Rattle.upp_limits.specs.Limits.{Sizes}
@@ -20,7 +20,7 @@ use Rattle.upp_limits.specs.Sized.{grid_of, times_largest}
 use Rattle.upp_normal.specs.Operand.{AreLimited, answer_room}
 use Rattle.upp_limits.proofs.NarrowSizes.{narrow_limit, grids_narrow, grid_pos}
 use Rattle.upp_normal.proofs.AnswerRoom.{answer_is_room, room_at_start, largest_room}
-use Rattle.upp_limits.specs.upp_curve.proofs.Repeats.{tail_lemma}
+use Rattle.upp_curve.proofs.Repeats.{tail_lemma}
 use Rattle.curve_call.specs.Answering.{IsAnswerWindow}
 use Rattle.curve_call.specs.Tails.{TailOf}
 

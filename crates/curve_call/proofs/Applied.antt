@@ -1,11 +1,11 @@
 -- What an operator's contract says of its answer makes it the answer of a call of its kind.
 use Rattle.std.specs.Prelude.{◌≡◌, Result, Ok, Err, IfOk}
-use Rattle.upp_limits.specs.rational.specs.Rational.{ℚ, ◌≤ℚ◌}
+use Rattle.rational.specs.Rational.{ℚ, ◌≤ℚ◌}
 use Rattle.upp_limits.specs.declared.op_kind.OpKind.{OpKind}
 use Rattle.upp_limits.specs.declared.op_kind.OpFault.{OpFault}
-use Rattle.upp_limits.specs.upp_curve.specs.Curve.{SpecCurve, value_at}
-use Rattle.upp_limits.specs.upp_curve.specs.Curves.{IsCurve}
-use Rattle.upp_limits.specs.min_plus.specs.Functions.{zero_q}
+use Rattle.upp_curve.specs.Curve.{SpecCurve, value_at}
+use Rattle.upp_curve.specs.Curves.{IsCurve}
+use Rattle.min_plus.specs.Functions.{zero_q}
 use Rattle.upp_limits.specs.Outcome.{KeepsLimits}
 use Rattle.curve_call.specs.Answers.{IsAnswer}
 use Rattle.curve_call.specs.Calls.{Applies}

@@ -1,22 +1,22 @@
 -- The times of a call in its window: its start and its period stand on the grid of times, and the steps to them and to the window's end fit.
 use Rattle.std.specs.Prelude.{◌≡◌, ℕ, suc, ◌+◌, ◌^◌, pos}
 use Rattle.std.proofs.Common.{arith, sym, ap, ◌∙◌, refl}
-use Rattle.upp_limits.specs.rational.specs.Rational.{ℚ, ◌+ℚ◌, ◌*ℚ◌, ◌≤ℚ◌, int}
-use Rattle.upp_limits.specs.rational.specs.MinMax.{max_q}
-use Rattle.upp_limits.specs.rational.specs.Ratio.{SumFits}
-use Rattle.upp_limits.specs.rational.specs.Grid.{Whole}
-use Rattle.upp_limits.specs.rational.specs.declared.Extended.TheVariants.{Fin, Inf}
-use Rattle.upp_limits.specs.rational.proofs.Linear.{with2, with3}
-use Rattle.upp_limits.specs.rational.proofs.Laws.{le_refl, le_trans, le_of_lt, one_mul, zero_mul, add_zero, add_assoc, add_mul}
-use Rattle.upp_limits.specs.rational.proofs.Integers.{int_add}
-use Rattle.upp_limits.specs.rational.proofs.MinMax.{max_q_ge_left, max_q_ge_right}
-use Rattle.upp_limits.specs.rational.proofs.Grid.{whole_int, whole_add, max_whole}
+use Rattle.rational.specs.Rational.{ℚ, ◌+ℚ◌, ◌*ℚ◌, ◌≤ℚ◌, int}
+use Rattle.rational.specs.MinMax.{max_q}
+use Rattle.rational.specs.Ratio.{SumFits}
+use Rattle.rational.specs.Grid.{Whole}
+use Rattle.rational.specs.declared.Extended.TheVariants.{Fin, Inf}
+use Rattle.rational.proofs.Linear.{with2, with3}
+use Rattle.rational.proofs.Laws.{le_refl, le_trans, le_of_lt, one_mul, zero_mul, add_zero, add_assoc, add_mul}
+use Rattle.rational.proofs.Integers.{int_add}
+use Rattle.rational.proofs.MinMax.{max_q_ge_left, max_q_ge_right}
+use Rattle.rational.proofs.Grid.{whole_int, whole_add, max_whole}
 use Rattle.upp_limits.specs.declared.op_kind.OpKind.{OpKind}
 use Rattle.upp_limits.specs.declared.op_kind.OpKind.TheVariants.{Sum, Min, Max, PosDiff, PosMinus, Scale, Shift, RunSup, RunInf, FifoLeft, Convolve, Deconvolve, Horizontal, Vertical, Itself}
-use Rattle.upp_limits.specs.upp_curve.specs.Curve.{SpecCurve}
-use Rattle.upp_limits.specs.upp_curve.specs.Curves.{IsCurve}
-use Rattle.upp_limits.specs.min_plus.specs.Functions.{zero_q}
-use Rattle.upp_limits.specs.upp_curve.specs.Steady.{steady}
+use Rattle.upp_curve.specs.Curve.{SpecCurve}
+use Rattle.upp_curve.specs.Curves.{IsCurve}
+use Rattle.min_plus.specs.Functions.{zero_q}
+use Rattle.upp_curve.specs.Steady.{steady}
 use Rattle.upp_limits.specs.Periods.{common_period, own_period, period_of, period_or, both_steady, periods_after}
 use Rattle.upp_limits.specs.Windows.{window_at}
 use Rattle.upp_limits.specs.Limits.{Sizes, joined, curve_numbers}
@@ -28,7 +28,7 @@ use Rattle.curve_call.specs.Times.{OneLaterFits, BothSteadyFit}
 use Rattle.curve_call.specs.CallWindows.{IsForward, SecondIsCurve, start_of, number_of, period_in, StartFits}
 use Rattle.curve_call.proofs.CurveTimes.{IsPeriod, sum_fits, time_within, steady_whole, one_later, own_on, both_on, own_or_on, both_fit}
 use Rattle.upp_normal.proofs.UnrollSteps.{time_small}
-use Rattle.upp_limits.specs.upp_curve.proofs.SteadyTimes.{steady_nonneg}
+use Rattle.upp_curve.proofs.SteadyTimes.{steady_nonneg}
 
 -- ---- the window's end as whole periods after the start
 one_more : (t d : ℚ) → t +ℚ d ≡ periods_after t 1 d

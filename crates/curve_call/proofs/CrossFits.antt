@@ -2,11 +2,11 @@
 use Rattle.std.specs.Prelude.{ℕ, ◌<◌, Some}
 use Rattle.std.proofs.Common.{arith, refl, inl, inr}
 use Rattle.std.proofs.lemmas.Bool.{cases_lt}
-use Rattle.upp_limits.specs.rational.specs.Rational.{ℚ, ◌-ℚ◌, ◌/ℚ◌, neg_ℚ}
-use Rattle.upp_limits.specs.rational.specs.Ratio.{IsSmall, SumFits}
-use Rattle.upp_limits.specs.fraction128.specs.declared.fault.Op.TheVariants.{Sub, Div}
-use Rattle.upp_limits.specs.fraction128.specs.Fits.{wide_step}
-use Rattle.upp_limits.specs.upp_curve.specs.declared.affine_segment.line.Line.{Line}
+use Rattle.rational.specs.Rational.{ℚ, ◌-ℚ◌, ◌/ℚ◌, neg_ℚ}
+use Rattle.rational.specs.Ratio.{IsSmall, SumFits}
+use Rattle.fraction128.specs.declared.fault.Op.TheVariants.{Sub, Div}
+use Rattle.fraction128.specs.Fits.{wide_step}
+use Rattle.upp_curve.specs.declared.affine_segment.line.Line.{Line}
 use Rattle.curve_call.specs.Lies.{CrossFits}
 
 below_out : (n m : ℕ) → ¬ (¬ (n < m)) → n < m

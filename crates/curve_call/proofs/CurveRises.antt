@@ -4,38 +4,38 @@ use Rattle.std.specs.Prelude.{◌≡◌, ℕ, zero, suc, ◌<◌, ◌^◌, pos, 
 use Rattle.std.specs.List.{AllByRecursion}
 use Rattle.std.proofs.Common.{arith, sym, ap, ◌∙◌, refl, subst, inl, inr}
 use Rattle.std.proofs.lemmas.Option.{same_Some}
-use Rattle.upp_limits.specs.rational.specs.Rational.{ℚ, ◌+ℚ◌, ◌-ℚ◌, ◌*ℚ◌, ◌/ℚ◌, ◌≤ℚ◌, ◌<ℚ◌, int, le_q}
-use Rattle.upp_limits.specs.rational.specs.Ratio.{IsSmall}
-use Rattle.upp_limits.specs.rational.specs.Grid.{Whole, Within}
-use Rattle.upp_limits.specs.rational.specs.Extended.{Ext, ◌+ₑ◌}
-use Rattle.upp_limits.specs.rational.specs.declared.Extended.TheVariants.{Fin, Inf}
-use Rattle.upp_limits.specs.rational.proofs.Linear.{with1, with2, with3, with4, with5}
-use Rattle.upp_limits.specs.rational.proofs.Laws.{le_refl, le_trans, le_or_lt, le_of_lt, lt_le_trans, lt_irrefl, not_zero, mul_comm, mul_one, one_mul, zero_mul, mul_nonneg, le_lt_trans}
-use Rattle.upp_limits.specs.rational.proofs.Integers.{nat_le, nat_nonneg}
-use Rattle.upp_limits.specs.rational.proofs.Sizes.{largest_part, small_on_grid}
-use Rattle.upp_limits.specs.rational.proofs.Whole.{one_more_times}
-use Rattle.upp_limits.specs.rational.proofs.MinMax.{lt_q_not}
-use Rattle.upp_limits.specs.rational.proofs.Grid.{whole_add, whole_int, whole_times, within_nonneg, within_sub, within_add, within_weaken}
-use Rattle.upp_limits.specs.rational.proofs.Quotients.{mul_div}
-use Rattle.upp_limits.specs.upp_curve.specs.declared.affine_segment.line.Line.{Line}
-use Rattle.upp_limits.specs.upp_curve.specs.declared.affine_segment.line.Piece.{Piece}
-use Rattle.upp_limits.specs.upp_curve.specs.affine_segment.Values.{line_at, line_value}
-use Rattle.upp_limits.specs.upp_curve.specs.declared.curve.Tail.{Tail}
-use Rattle.upp_limits.specs.upp_curve.specs.declared.curve.Tail.TheVariants.{Periodic, Affine, Infinite}
-use Rattle.upp_limits.specs.upp_curve.specs.affine_segment.Reading.{read, piece_in, piece_value}
-use Rattle.upp_limits.specs.upp_curve.specs.Curve.{SpecCurve, repeated, value_at}
-use Rattle.upp_limits.specs.upp_curve.specs.Curves.{IsCurve}
-use Rattle.upp_limits.specs.upp_curve.specs.affine_segment.Pieces.{Each, HasStart, RisesFrom, StartsAtZero}
-use Rattle.upp_limits.specs.upp_curve.specs.Steady.{rank_of, last_of, slope_times, rise_over, IsWholePeriods, steady}
+use Rattle.rational.specs.Rational.{ℚ, ◌+ℚ◌, ◌-ℚ◌, ◌*ℚ◌, ◌/ℚ◌, ◌≤ℚ◌, ◌<ℚ◌, int, le_q}
+use Rattle.rational.specs.Ratio.{IsSmall}
+use Rattle.rational.specs.Grid.{Whole, Within}
+use Rattle.rational.specs.Extended.{Ext, ◌+ₑ◌}
+use Rattle.rational.specs.declared.Extended.TheVariants.{Fin, Inf}
+use Rattle.rational.proofs.Linear.{with1, with2, with3, with4, with5}
+use Rattle.rational.proofs.Laws.{le_refl, le_trans, le_or_lt, le_of_lt, lt_le_trans, lt_irrefl, not_zero, mul_comm, mul_one, one_mul, zero_mul, mul_nonneg, le_lt_trans}
+use Rattle.rational.proofs.Integers.{nat_le, nat_nonneg}
+use Rattle.rational.proofs.Sizes.{largest_part, small_on_grid}
+use Rattle.rational.proofs.Whole.{one_more_times}
+use Rattle.rational.proofs.MinMax.{lt_q_not}
+use Rattle.rational.proofs.Grid.{whole_add, whole_int, whole_times, within_nonneg, within_sub, within_add, within_weaken}
+use Rattle.rational.proofs.Quotients.{mul_div}
+use Rattle.upp_curve.specs.declared.affine_segment.line.Line.{Line}
+use Rattle.upp_curve.specs.declared.affine_segment.line.Piece.{Piece}
+use Rattle.upp_curve.specs.affine_segment.Values.{line_at, line_value}
+use Rattle.upp_curve.specs.declared.curve.Tail.{Tail}
+use Rattle.upp_curve.specs.declared.curve.Tail.TheVariants.{Periodic, Affine, Infinite}
+use Rattle.upp_curve.specs.affine_segment.Reading.{read, piece_in, piece_value}
+use Rattle.upp_curve.specs.Curve.{SpecCurve, repeated, value_at}
+use Rattle.upp_curve.specs.Curves.{IsCurve}
+use Rattle.upp_curve.specs.affine_segment.Pieces.{Each, HasStart, RisesFrom, StartsAtZero}
+use Rattle.upp_curve.specs.Steady.{rank_of, last_of, slope_times, rise_over, IsWholePeriods, steady}
 use Rattle.upp_limits.specs.Periods.{HasPeriod, period_of, common_of, common_period, own_period}
 use Rattle.upp_limits.specs.Spans.{Span, spans, span_below, spans_below, copies_of, once_below}
-use Rattle.upp_limits.specs.upp_curve.specs.Unrolled.{copies_below}
+use Rattle.upp_curve.specs.Unrolled.{copies_below}
 use Rattle.upp_limits.specs.Limits.{Sizes, curve_numbers}
 use Rattle.upp_limits.specs.Sized.{IsValue, AreSizes, Stands, ValueStands, LineStands, SpanStands, grid_of, times_largest}
-use Rattle.upp_limits.specs.upp_curve.proofs.Normal.{past_start}
-use Rattle.upp_limits.specs.upp_curve.proofs.affine_segment.PieceOrder.{each_map}
-use Rattle.upp_limits.specs.upp_curve.proofs.Finite.{each_in}
-use Rattle.upp_limits.specs.upp_curve.proofs.Repeats.{tail_lemma}
+use Rattle.upp_curve.proofs.Normal.{past_start}
+use Rattle.upp_curve.proofs.affine_segment.PieceOrder.{each_map}
+use Rattle.upp_curve.proofs.Finite.{each_in}
+use Rattle.upp_curve.proofs.Repeats.{tail_lemma}
 use Rattle.upp_limits.proofs.Copies.{copies_out, copy_zero, copy_among}
 use Rattle.upp_limits.proofs.ClosedForms.{line_moved}
 use Rattle.upp_limits.proofs.NarrowSizes.{IsNarrow, narrow_gauge, small_number, value_whole, value_within, run_whole, run_within}
@@ -44,12 +44,12 @@ use Rattle.upp_limits.proofs.CurveStands.{unrolled_stand, tail_stands, curve_sta
 use Rattle.upp_limits.proofs.KnownNumbers.{few_periods}
 use Rattle.upp_normal.specs.Operand.{AreLimited}
 use Rattle.upp_limits.proofs.Operands.{curve_period}
-use Rattle.upp_limits.specs.fraction128.specs.Multiple.{common_multiple}
-use Rattle.upp_limits.specs.fraction128.proofs.CommonMultiple.{common_multiple_least}
+use Rattle.fraction128.specs.Multiple.{common_multiple}
+use Rattle.fraction128.proofs.CommonMultiple.{common_multiple_least}
 use Rattle.curve_call.specs.Rises.{CurveRiseFits, SlopeTimesFits}
 use Rattle.upp_normal.proofs.UnrollSteps.{IsSomewhere}
 use Rattle.upp_normal.proofs.StretchPieces.{found_from}
-use Rattle.upp_limits.specs.upp_curve.proofs.SteadyTimes.{rank_early}
+use Rattle.upp_curve.proofs.SteadyTimes.{rank_early}
 
 -- ---- a piece with a value, or none
 

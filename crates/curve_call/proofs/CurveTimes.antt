@@ -4,21 +4,21 @@ use Rattle.std.specs.Prelude.{◌≡◌, ℕ, ◌*◌, ◌<◌, ◌≤◌, ◌^�
 use Rattle.std.proofs.Common.{arith, sym, subst}
 use Rattle.std.proofs.lemmas.Int.{ints}
 use native.Mathlib.Nat.{mul-le-mul_right}
-use Rattle.upp_limits.specs.rational.specs.Rational.{ℚ, ◌*ℚ◌, ◌≤ℚ◌, ◌<ℚ◌, int}
-use Rattle.upp_limits.specs.rational.specs.Ratio.{SumFits}
-use Rattle.upp_limits.specs.rational.specs.Grid.{Whole, Within}
-use Rattle.upp_limits.specs.rational.proofs.Linear.{with3}
-use Rattle.upp_limits.specs.rational.proofs.Laws.{le_trans, le_of_lt, mul_le_mul, mul_le_mul_right, mul_nonneg, mul_pos, mul_one, mul_assoc}
-use Rattle.upp_limits.specs.rational.proofs.Integers.{nat_le, nat_le_out, nat_lt, nat_nonneg, int_le, int_lt_out, mul_whole}
-use Rattle.upp_limits.specs.rational.proofs.Grid.{whole_int, whole_add, whole_times, within_nonneg}
-use Rattle.upp_limits.specs.rational.proofs.Sizes.{sum_on_grid}
-use Rattle.upp_limits.specs.fraction128.proofs.CommonMultiple.{common_multiple_least}
-use Rattle.upp_limits.specs.upp_curve.specs.declared.affine_segment.line.Piece.{Piece}
-use Rattle.upp_limits.specs.upp_curve.specs.declared.curve.Tail.{Tail}
-use Rattle.upp_limits.specs.upp_curve.specs.declared.curve.Tail.TheVariants.{Periodic, Affine, Infinite}
-use Rattle.upp_limits.specs.upp_curve.specs.Curve.{SpecCurve}
-use Rattle.upp_limits.specs.upp_curve.specs.Curves.{IsCurve}
-use Rattle.upp_limits.specs.upp_curve.specs.Steady.{rank_of, later_unless, steady}
+use Rattle.rational.specs.Rational.{ℚ, ◌*ℚ◌, ◌≤ℚ◌, ◌<ℚ◌, int}
+use Rattle.rational.specs.Ratio.{SumFits}
+use Rattle.rational.specs.Grid.{Whole, Within}
+use Rattle.rational.proofs.Linear.{with3}
+use Rattle.rational.proofs.Laws.{le_trans, le_of_lt, mul_le_mul, mul_le_mul_right, mul_nonneg, mul_pos, mul_one, mul_assoc}
+use Rattle.rational.proofs.Integers.{nat_le, nat_le_out, nat_lt, nat_nonneg, int_le, int_lt_out, mul_whole}
+use Rattle.rational.proofs.Grid.{whole_int, whole_add, whole_times, within_nonneg}
+use Rattle.rational.proofs.Sizes.{sum_on_grid}
+use Rattle.fraction128.proofs.CommonMultiple.{common_multiple_least}
+use Rattle.upp_curve.specs.declared.affine_segment.line.Piece.{Piece}
+use Rattle.upp_curve.specs.declared.curve.Tail.{Tail}
+use Rattle.upp_curve.specs.declared.curve.Tail.TheVariants.{Periodic, Affine, Infinite}
+use Rattle.upp_curve.specs.Curve.{SpecCurve}
+use Rattle.upp_curve.specs.Curves.{IsCurve}
+use Rattle.upp_curve.specs.Steady.{rank_of, later_unless, steady}
 use Rattle.upp_limits.specs.Periods.{HasPeriod, period_of, period_or, common_of, common_period, own_period, periods_after}
 use Rattle.upp_limits.specs.Limits.{Sizes, curve_numbers, sizes_of}
 use Rattle.upp_limits.specs.Sized.{AreSizes, Stands, TailStands}
@@ -28,7 +28,7 @@ use Rattle.upp_limits.proofs.NarrowSizes.{IsNarrow}
 use Rattle.upp_limits.proofs.OwnGauge.{end_within, twice_fits}
 use Rattle.curve_call.specs.Times.{OneLaterFits, BothSteadyFit, PeriodsFit}
 use Rattle.upp_normal.proofs.UnrollSteps.{time_small}
-use Rattle.upp_limits.specs.upp_curve.proofs.SteadyTimes.{curve_rank, rank_early}
+use Rattle.upp_curve.proofs.SteadyTimes.{curve_rank, rank_early}
 use Rattle.upp_limits.specs.Gauges.{both_numbers}
 use Rattle.upp_limits.proofs.Stands.{sizes_stand, stands_left, stands_right}
 

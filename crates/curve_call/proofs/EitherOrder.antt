@@ -1,11 +1,11 @@
 -- The number of periods for either order of the rates.
 use Rattle.std.specs.Prelude.{◌≡◌, ℕ, Option, Some, None, MatchOption}
 use Rattle.std.proofs.Common.{subst}
-use Rattle.upp_limits.specs.rational.specs.Rational.{ℚ}
-use Rattle.upp_limits.specs.rational.specs.Extended.{Ext, ◌<ₑ◌}
-use Rattle.upp_limits.specs.rational.proofs.ExtendedOrder.{lt_ext_trans, lt_ext_irrefl}
-use Rattle.upp_limits.specs.upp_curve.specs.Curve.{SpecCurve}
-use Rattle.upp_limits.specs.upp_curve.specs.Steady.{rate}
+use Rattle.rational.specs.Rational.{ℚ}
+use Rattle.rational.specs.Extended.{Ext, ◌<ₑ◌}
+use Rattle.rational.proofs.ExtendedOrder.{lt_ext_trans, lt_ext_irrefl}
+use Rattle.upp_curve.specs.Curve.{SpecCurve}
+use Rattle.upp_curve.specs.Steady.{rate}
 use Rattle.upp_limits.specs.Periods.{both_steady, common_period}
 use Rattle.upp_limits.specs.declared.op_kind.OpKind.TheVariants.{Min, Max, PosDiff}
 use Rattle.upp_limits.specs.Limits.{Sizes}

@@ -1,18 +1,18 @@
 -- Below for a period, below ever after: each later period adds no more to the slower curve than to the faster.
 use Rattle.std.specs.Prelude.{ℕ, pos}
 use Rattle.std.proofs.Common.{arith, sym, subst, inl, inr}
-use Rattle.upp_limits.specs.rational.specs.Rational.{ℚ, ◌+ℚ◌, ◌*ℚ◌, ◌≤ℚ◌, ◌<ℚ◌, int}
-use Rattle.upp_limits.specs.rational.specs.Whole.{periods}
-use Rattle.upp_limits.specs.rational.specs.Extended.{◌≤ₑ◌, ◌<ₑ◌, ◌+ₑ◌}
-use Rattle.upp_limits.specs.rational.specs.declared.Extended.TheVariants.{Fin}
-use Rattle.upp_limits.specs.rational.proofs.Linear.{with2}
-use Rattle.upp_limits.specs.rational.proofs.Laws.{le_trans, le_of_lt, mul_nonneg, mul_le_mul}
-use Rattle.upp_limits.specs.rational.proofs.Integers.{nat_nonneg}
-use Rattle.upp_limits.specs.rational.proofs.ExtendedOrder.{add_le_ext}
-use Rattle.upp_limits.specs.upp_curve.specs.Curve.{SpecCurve, value_at}
-use Rattle.upp_limits.specs.upp_curve.specs.Steady.{Repeats, rise_over, rate}
+use Rattle.rational.specs.Rational.{ℚ, ◌+ℚ◌, ◌*ℚ◌, ◌≤ℚ◌, ◌<ℚ◌, int}
+use Rattle.rational.specs.Whole.{periods}
+use Rattle.rational.specs.Extended.{◌≤ₑ◌, ◌<ₑ◌, ◌+ₑ◌}
+use Rattle.rational.specs.declared.Extended.TheVariants.{Fin}
+use Rattle.rational.proofs.Linear.{with2}
+use Rattle.rational.proofs.Laws.{le_trans, le_of_lt, mul_nonneg, mul_le_mul}
+use Rattle.rational.proofs.Integers.{nat_nonneg}
+use Rattle.rational.proofs.ExtendedOrder.{add_le_ext}
+use Rattle.upp_curve.specs.Curve.{SpecCurve, value_at}
+use Rattle.upp_curve.specs.Steady.{Repeats, rise_over, rate}
 use Rattle.upp_limits.specs.Windows.{IsBelowFor}
-use Rattle.upp_limits.specs.upp_curve.proofs.Steady.{steady_rule}
+use Rattle.upp_curve.proofs.Steady.{steady_rule}
 use Rattle.curve_call.specs.Ever.{IsBelowFrom, RepeatsBy, BelowEverAfter}
 use Rattle.curve_call.proofs.Shifts.{later_value}
 use Rattle.curve_call.proofs.LeastNumber.{gains}

@@ -1,15 +1,15 @@
 -- What a value has above another: from 0 on, finite where the first is, and rising in it.
 use Rattle.std.specs.Prelude.{◌≡◌}
 use Rattle.std.proofs.Common.{arith, ap, refl}
-use Rattle.upp_limits.specs.rational.specs.Rational.{ℚ, ◌-ℚ◌}
-use Rattle.upp_limits.specs.rational.specs.MinMax.{max_q}
-use Rattle.upp_limits.specs.rational.specs.Extended.{Ext, ◌≤ₑ◌}
-use Rattle.upp_limits.specs.rational.specs.declared.Extended.TheVariants.{Fin, Inf}
-use Rattle.upp_limits.specs.rational.proofs.Laws.{le_refl}
-use Rattle.upp_limits.specs.rational.proofs.Linear.{with1, with2, with3}
-use Rattle.upp_limits.specs.rational.proofs.MinMax.{max_q_ge_left, max_q_is_left, max_q_le, max_q_mono}
-use Rattle.upp_limits.specs.min_plus.specs.Functions.{zero_q}
-use Rattle.upp_limits.specs.min_plus.specs.Pointwise.{excess}
+use Rattle.rational.specs.Rational.{ℚ, ◌-ℚ◌}
+use Rattle.rational.specs.MinMax.{max_q}
+use Rattle.rational.specs.Extended.{Ext, ◌≤ₑ◌}
+use Rattle.rational.specs.declared.Extended.TheVariants.{Fin, Inf}
+use Rattle.rational.proofs.Laws.{le_refl}
+use Rattle.rational.proofs.Linear.{with1, with2, with3}
+use Rattle.rational.proofs.MinMax.{max_q_ge_left, max_q_is_left, max_q_le, max_q_mono}
+use Rattle.min_plus.specs.Functions.{zero_q}
+use Rattle.min_plus.specs.Pointwise.{excess}
 
 pub finite_excess : (v w : Ext) (x : ℚ) → v ≡ Fin x → (level : ℚ) × (excess v w ≡ Fin level)
 finite_excess v Inf x e = (zero_q, refl)

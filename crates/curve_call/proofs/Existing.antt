@@ -2,13 +2,13 @@
 use Rattle.std.specs.Prelude.{◌≡◌, ◌⊎◌, ℕ, zero, suc, ◌+◌, ◌-◌, ◌≤◌, Bool, true, false, not, List, [], ◌∷◌, ◌++◌, length, Option, Some, None}
 use Rattle.std.proofs.Common.{arith, sym, refl, subst, inl, inr}
 use Rattle.std.proofs.lemmas.Bool.{cases_lt}
-use Rattle.upp_limits.specs.rational.specs.Rational.{ℚ, ◌-ℚ◌, ◌/ℚ◌, ◌<ℚ◌}
-use Rattle.upp_limits.specs.rational.proofs.Laws.{le_or_lt, lt_cases, lt_irrefl, le_of_lt, le_trans}
-use Rattle.upp_limits.specs.upp_curve.specs.declared.affine_segment.line.Line.{Line}
-use Rattle.upp_limits.specs.upp_curve.specs.declared.affine_segment.line.Piece.{Piece}
-use Rattle.upp_limits.specs.upp_curve.specs.affine_segment.Pieces.{StartsAtZero}
-use Rattle.upp_limits.specs.upp_curve.specs.affine_segment.Values.{line_at}
-use Rattle.upp_limits.specs.upp_curve.proofs.affine_segment.Meeting.{lines_meet}
+use Rattle.rational.specs.Rational.{ℚ, ◌-ℚ◌, ◌/ℚ◌, ◌<ℚ◌}
+use Rattle.rational.proofs.Laws.{le_or_lt, lt_cases, lt_irrefl, le_of_lt, le_trans}
+use Rattle.upp_curve.specs.declared.affine_segment.line.Line.{Line}
+use Rattle.upp_curve.specs.declared.affine_segment.line.Piece.{Piece}
+use Rattle.upp_curve.specs.affine_segment.Pieces.{StartsAtZero}
+use Rattle.upp_curve.specs.affine_segment.Values.{line_at}
+use Rattle.upp_curve.proofs.affine_segment.Meeting.{lines_meet}
 use Rattle.curve_call.specs.declared.stretch.Both.{Both}
 use Rattle.curve_call.specs.declared.stretch.Walk.{Walk}
 use Rattle.curve_call.specs.declared.lie.Lie.{Lie}

@@ -1,20 +1,20 @@
 -- The answer of each kind is finite at each time, where its operands are finite enough.
 use Rattle.std.specs.Prelude.{◌≡◌}
 use Rattle.std.proofs.Common.{arith, sym, ap, ap₂, ◌∙◌, refl, subst, inl, inr}
-use Rattle.upp_limits.specs.rational.specs.Rational.{ℚ, ◌+ℚ◌, ◌-ℚ◌, ◌*ℚ◌, ◌≤ℚ◌, ◌<ℚ◌}
-use Rattle.upp_limits.specs.rational.specs.MinMax.{max_q}
-use Rattle.upp_limits.specs.rational.specs.Extended.{Ext, ◌≤ₑ◌, ◌+ₑ◌, max_ext}
-use Rattle.upp_limits.specs.rational.specs.declared.Extended.TheVariants.{Fin, Inf}
-use Rattle.upp_limits.specs.rational.proofs.Bounds.{smallest}
-use Rattle.upp_limits.specs.rational.proofs.ExtendedOrder.{le_ext_trans, same_le_ext, finite_below, min_left, min_right}
-use Rattle.upp_limits.specs.rational.proofs.Laws.{le_refl, le_or_lt, add_zero}
-use Rattle.upp_limits.specs.rational.proofs.Linear.{with2}
-use Rattle.upp_limits.specs.rational.proofs.MinMax.{le_q_not}
-use Rattle.upp_limits.specs.rational.proofs.Over.{le_q_out}
+use Rattle.rational.specs.Rational.{ℚ, ◌+ℚ◌, ◌-ℚ◌, ◌*ℚ◌, ◌≤ℚ◌, ◌<ℚ◌}
+use Rattle.rational.specs.MinMax.{max_q}
+use Rattle.rational.specs.Extended.{Ext, ◌≤ₑ◌, ◌+ₑ◌, max_ext}
+use Rattle.rational.specs.declared.Extended.TheVariants.{Fin, Inf}
+use Rattle.rational.proofs.Bounds.{smallest}
+use Rattle.rational.proofs.ExtendedOrder.{le_ext_trans, same_le_ext, finite_below, min_left, min_right}
+use Rattle.rational.proofs.Laws.{le_refl, le_or_lt, add_zero}
+use Rattle.rational.proofs.Linear.{with2}
+use Rattle.rational.proofs.MinMax.{le_q_not}
+use Rattle.rational.proofs.Over.{le_q_out}
 use Rattle.upp_limits.specs.declared.op_kind.OpKind.TheVariants.{Sum, Min, Max, PosDiff, PosMinus, Scale, Shift, RunSup, RunInf, FifoLeft, Convolve, Deconvolve, Horizontal, Vertical, Itself}
-use Rattle.upp_limits.specs.min_plus.specs.Functions.{zero_q, UpTo, IsFinite}
-use Rattle.upp_limits.specs.min_plus.specs.Pointwise.{excess, scaled}
-use Rattle.upp_limits.specs.min_plus.specs.Running.{left_after, IsRunningSupremum, IsRunningInfimum}
+use Rattle.min_plus.specs.Functions.{zero_q, UpTo, IsFinite}
+use Rattle.min_plus.specs.Pointwise.{excess, scaled}
+use Rattle.min_plus.specs.Running.{left_after, IsRunningSupremum, IsRunningInfimum}
 use Rattle.curve_call.specs.Finite.{IsBounded, AnswersAreFinite}
 use Rattle.curve_call.proofs.Excesses.{finite_excess}
 

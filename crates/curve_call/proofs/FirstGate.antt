@@ -1,15 +1,15 @@
 -- More periods give no smaller gauge; so a call whose gauge is over the limit with none of them is too wide.
 use Rattle.std.specs.Prelude.{ℕ, ◌≤◌, ◌^◌, pos}
 use Rattle.std.proofs.Common.{arith, sym, subst}
-use Rattle.upp_limits.specs.rational.specs.Rational.{ℚ, ◌*ℚ◌, ◌≤ℚ◌, int}
-use Rattle.upp_limits.specs.rational.specs.declared.Extended.TheVariants.{Fin, Inf}
-use Rattle.upp_limits.specs.rational.proofs.Linear.{with3}
-use Rattle.upp_limits.specs.rational.proofs.Laws.{le_of_lt, mul_le_mul_right}
-use Rattle.upp_limits.specs.rational.proofs.Integers.{nat_le}
+use Rattle.rational.specs.Rational.{ℚ, ◌*ℚ◌, ◌≤ℚ◌, int}
+use Rattle.rational.specs.declared.Extended.TheVariants.{Fin, Inf}
+use Rattle.rational.proofs.Linear.{with3}
+use Rattle.rational.proofs.Laws.{le_of_lt, mul_le_mul_right}
+use Rattle.rational.proofs.Integers.{nat_le}
 use Rattle.upp_limits.specs.declared.op_kind.OpKind.{OpKind}
 use Rattle.upp_limits.specs.declared.op_kind.OpKind.TheVariants.{Sum, Min, Max, PosDiff, PosMinus, Scale, Shift, RunSup, RunInf, FifoLeft, Convolve, Deconvolve, Horizontal, Vertical, Itself}
-use Rattle.upp_limits.specs.upp_curve.specs.Curve.{SpecCurve}
-use Rattle.upp_limits.specs.upp_curve.specs.Curves.{IsCurve}
+use Rattle.upp_curve.specs.Curve.{SpecCurve}
+use Rattle.upp_curve.specs.Curves.{IsCurve}
 use Rattle.upp_limits.specs.Periods.{periods_after}
 use Rattle.upp_limits.specs.Windows.{window_at, IsLeastPeriods}
 use Rattle.upp_limits.specs.Limits.{sizes_of}

@@ -1,9 +1,9 @@
 -- What a frame of a call gives: sizes of its window that hold the operands' numbers, and where its start and its period stand.
 use Rattle.std.specs.Prelude.{◌≡◌, ℕ}
 use Rattle.std.proofs.Common.{sym, subst}
-use Rattle.upp_limits.specs.rational.proofs.Laws.{le_trans}
+use Rattle.rational.proofs.Laws.{le_trans}
 use Rattle.upp_limits.specs.declared.op_kind.OpKind.{OpKind}
-use Rattle.upp_limits.specs.upp_curve.specs.Curve.{SpecCurve}
+use Rattle.upp_curve.specs.Curve.{SpecCurve}
 use Rattle.upp_limits.specs.Windows.{window_at}
 use Rattle.upp_limits.specs.Limits.{Sizes}
 use Rattle.upp_limits.specs.Gauges.{numbers_over, gauge_over}

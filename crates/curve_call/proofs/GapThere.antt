@@ -1,10 +1,10 @@
 -- The gap of two curves over a window is there: found by proof alone, where no code runs.
 use Rattle.std.specs.Prelude.{ℕ, zero, suc, ◌<◌}
 use Rattle.std.proofs.Common.{arith, refl, inl, inr}
-use Rattle.upp_limits.specs.rational.specs.Rational.{ℚ, ◌<ℚ◌}
-use Rattle.upp_limits.specs.rational.proofs.Laws.{le_or_lt, le_trans, le_of_lt, lt_irrefl, lt_le_trans}
-use Rattle.upp_limits.specs.upp_curve.specs.affine_segment.Values.{line_value}
-use Rattle.upp_limits.specs.upp_curve.specs.Curve.{SpecCurve, value_at}
+use Rattle.rational.specs.Rational.{ℚ, ◌<ℚ◌}
+use Rattle.rational.proofs.Laws.{le_or_lt, le_trans, le_of_lt, lt_irrefl, lt_le_trans}
+use Rattle.upp_curve.specs.affine_segment.Values.{line_value}
+use Rattle.upp_curve.specs.Curve.{SpecCurve, value_at}
 use Rattle.upp_limits.specs.Limits.{Sizes}
 use Rattle.upp_normal.specs.Ahead.{HasWindow, IsTimeIn}
 use Rattle.curve_call.specs.declared.gaps.Gap.{Gap}

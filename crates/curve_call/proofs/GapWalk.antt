@@ -3,22 +3,22 @@ use Rattle.std.specs.Prelude.{◌≡◌, ℕ, suc, ◌<◌, pos, List, [], ◌�
 use Rattle.std.specs.List.{AllByRecursion}
 use Rattle.std.proofs.Common.{arith, sym, ap, ◌∙◌, subst, inl, inr}
 use Rattle.std.proofs.lemmas.Int.{ints}
-use Rattle.upp_limits.specs.rational.specs.Rational.{ℚ, ◌+ℚ◌, ◌-ℚ◌, ◌*ℚ◌, ◌≤ℚ◌, ◌<ℚ◌, int}
-use Rattle.upp_limits.specs.rational.specs.Grid.{Whole}
-use Rattle.upp_limits.specs.rational.specs.Gauge.{common_den}
-use Rattle.upp_limits.specs.rational.specs.Whole.{whole_part}
-use Rattle.upp_limits.specs.rational.proofs.Linear.{with2, with4, with6}
-use Rattle.upp_limits.specs.rational.proofs.Laws.{antisym, le_of_not_lt, le_refl, le_trans, le_of_lt, mul_pos, mul_nonneg, sub_mul}
-use Rattle.upp_limits.specs.rational.proofs.Integers.{nat_lt, nat_lt_out, nat_nonneg, nat_next, int_le, int_lt_out}
-use Rattle.upp_limits.specs.rational.proofs.Whole.{whole_le, whole_gt}
-use Rattle.upp_limits.specs.rational.proofs.Grid.{whole_sub}
-use Rattle.upp_limits.specs.rational.proofs.MinMax.{min_q_le_left, min_q_le_right, below_min_in, min_q_one}
-use Rattle.upp_limits.specs.upp_curve.specs.declared.affine_segment.line.Piece.{Piece}
-use Rattle.upp_limits.specs.upp_curve.specs.declared.curve.Tail.{Tail}
-use Rattle.upp_limits.specs.upp_curve.specs.declared.curve.Tail.TheVariants.{Periodic, Affine, Infinite}
-use Rattle.upp_limits.specs.upp_curve.specs.Curve.{SpecCurve, value_at}
-use Rattle.upp_limits.specs.upp_curve.specs.affine_segment.Pieces.{Each}
-use Rattle.upp_limits.specs.upp_curve.specs.Steady.{rank_of}
+use Rattle.rational.specs.Rational.{ℚ, ◌+ℚ◌, ◌-ℚ◌, ◌*ℚ◌, ◌≤ℚ◌, ◌<ℚ◌, int}
+use Rattle.rational.specs.Grid.{Whole}
+use Rattle.rational.specs.Gauge.{common_den}
+use Rattle.rational.specs.Whole.{whole_part}
+use Rattle.rational.proofs.Linear.{with2, with4, with6}
+use Rattle.rational.proofs.Laws.{antisym, le_of_not_lt, le_refl, le_trans, le_of_lt, mul_pos, mul_nonneg, sub_mul}
+use Rattle.rational.proofs.Integers.{nat_lt, nat_lt_out, nat_nonneg, nat_next, int_le, int_lt_out}
+use Rattle.rational.proofs.Whole.{whole_le, whole_gt}
+use Rattle.rational.proofs.Grid.{whole_sub}
+use Rattle.rational.proofs.MinMax.{min_q_le_left, min_q_le_right, below_min_in, min_q_one}
+use Rattle.upp_curve.specs.declared.affine_segment.line.Piece.{Piece}
+use Rattle.upp_curve.specs.declared.curve.Tail.{Tail}
+use Rattle.upp_curve.specs.declared.curve.Tail.TheVariants.{Periodic, Affine, Infinite}
+use Rattle.upp_curve.specs.Curve.{SpecCurve, value_at}
+use Rattle.upp_curve.specs.affine_segment.Pieces.{Each}
+use Rattle.upp_curve.specs.Steady.{rank_of}
 use Rattle.upp_limits.specs.Periods.{period_of}
 use Rattle.upp_limits.specs.Limits.{Sizes, stored_period}
 use Rattle.upp_normal.specs.declared.ahead.Stretch.{Stretch}

@@ -1,19 +1,19 @@
 -- The answer of each kind grows from zero, where its operands do, or where it is made of times before or after.
 use Rattle.std.specs.Prelude.{◌≡◌}
 use Rattle.std.proofs.Common.{arith, sym, ap, ap₂, ◌∙◌, subst, inl, inr}
-use Rattle.upp_limits.specs.rational.specs.Rational.{ℚ, ◌-ℚ◌, ◌≤ℚ◌}
-use Rattle.upp_limits.specs.rational.specs.Extended.{Ext, ◌≤ₑ◌, ◌+ₑ◌, min_ext, max_ext}
-use Rattle.upp_limits.specs.rational.specs.declared.Extended.TheVariants.{Fin, Inf}
-use Rattle.upp_limits.specs.rational.proofs.Bounds.{greatest, smallest, infimum_le, supremum_le}
-use Rattle.upp_limits.specs.rational.proofs.ExtendedOrder.{le_ext_refl, le_ext_trans, same_le_ext, antisym_ext, add_le_ext, zero_add_ext, min_ext_mono, max_ext_mono}
-use Rattle.upp_limits.specs.rational.proofs.Laws.{le_refl, le_trans, le_of_lt, le_or_lt, antisym, add_zero, mul_le_mul, mul_zero}
-use Rattle.upp_limits.specs.rational.proofs.Linear.{with2, with4}
-use Rattle.upp_limits.specs.rational.proofs.MinMax.{min_q_self, max_q_self}
+use Rattle.rational.specs.Rational.{ℚ, ◌-ℚ◌, ◌≤ℚ◌}
+use Rattle.rational.specs.Extended.{Ext, ◌≤ₑ◌, ◌+ₑ◌, min_ext, max_ext}
+use Rattle.rational.specs.declared.Extended.TheVariants.{Fin, Inf}
+use Rattle.rational.proofs.Bounds.{greatest, smallest, infimum_le, supremum_le}
+use Rattle.rational.proofs.ExtendedOrder.{le_ext_refl, le_ext_trans, same_le_ext, antisym_ext, add_le_ext, zero_add_ext, min_ext_mono, max_ext_mono}
+use Rattle.rational.proofs.Laws.{le_refl, le_trans, le_of_lt, le_or_lt, antisym, add_zero, mul_le_mul, mul_zero}
+use Rattle.rational.proofs.Linear.{with2, with4}
+use Rattle.rational.proofs.MinMax.{min_q_self, max_q_self}
 use Rattle.upp_limits.specs.declared.op_kind.OpKind.TheVariants.{Sum, Min, Max, PosDiff, PosMinus, Scale, Shift, RunSup, RunInf, FifoLeft, Convolve, Deconvolve, Horizontal, Vertical, Itself}
-use Rattle.upp_limits.specs.min_plus.specs.Functions.{zero_q, UpTo, From, IsFinite, IsRising}
-use Rattle.upp_limits.specs.min_plus.specs.Pointwise.{excess, scaled}
-use Rattle.upp_limits.specs.min_plus.specs.Convolution.{Split, IsConvolution}
-use Rattle.upp_limits.specs.min_plus.specs.Running.{left_after, IsRunningSupremum, IsRunningInfimum}
+use Rattle.min_plus.specs.Functions.{zero_q, UpTo, From, IsFinite, IsRising}
+use Rattle.min_plus.specs.Pointwise.{excess, scaled}
+use Rattle.min_plus.specs.Convolution.{Split, IsConvolution}
+use Rattle.min_plus.specs.Running.{left_after, IsRunningSupremum, IsRunningInfimum}
 use Rattle.curve_call.specs.Growth.{GrowsFromZero, StartsAtNothing, IsBoundedFromZero, AnswersGrow}
 use Rattle.curve_call.proofs.Excesses.{excess_nonneg, excess_mono, excess_nothing}
 use Rattle.curve_call.proofs.FiniteAnswers.{early_left, late_left, left_finite, supremum_finite, infimum_finite, finite_answers}

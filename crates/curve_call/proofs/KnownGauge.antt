@@ -1,17 +1,17 @@
 -- Where the gauge of two curves' minimum over a window is below the limit, its sizes serve for their comparison.
 use Rattle.std.specs.Prelude.{◌≡◌, ◌<◌, ◌^◌, ℤ, pos}
 use Rattle.std.proofs.Common.{arith, sym, subst, refl, ◌∙◌}
-use Rattle.upp_limits.specs.rational.specs.Rational.{ℚ, ◌+ℚ◌, ◌*ℚ◌, ◌≤ℚ◌, ◌<ℚ◌, int}
-use Rattle.upp_limits.specs.rational.specs.Grid.{Whole}
-use Rattle.upp_limits.specs.rational.proofs.Linear.{with2}
-use Rattle.upp_limits.specs.rational.proofs.Laws.{one_mul}
-use Rattle.upp_limits.specs.rational.proofs.Grid.{whole_int}
+use Rattle.rational.specs.Rational.{ℚ, ◌+ℚ◌, ◌*ℚ◌, ◌≤ℚ◌, ◌<ℚ◌, int}
+use Rattle.rational.specs.Grid.{Whole}
+use Rattle.rational.proofs.Linear.{with2}
+use Rattle.rational.proofs.Laws.{one_mul}
+use Rattle.rational.proofs.Grid.{whole_int}
 use Rattle.upp_limits.specs.declared.op_kind.OpKind.TheVariants.{Min}
-use Rattle.upp_limits.specs.upp_curve.specs.declared.curve.Tail.{Tail}
-use Rattle.upp_limits.specs.upp_curve.specs.declared.curve.Tail.TheVariants.{Periodic, Affine, Infinite}
-use Rattle.upp_limits.specs.upp_curve.specs.Curve.{SpecCurve}
-use Rattle.upp_limits.specs.upp_curve.specs.Curves.{IsCurve}
-use Rattle.upp_limits.specs.upp_curve.specs.Steady.{steady, IsWholePeriods}
+use Rattle.upp_curve.specs.declared.curve.Tail.{Tail}
+use Rattle.upp_curve.specs.declared.curve.Tail.TheVariants.{Periodic, Affine, Infinite}
+use Rattle.upp_curve.specs.Curve.{SpecCurve}
+use Rattle.upp_curve.specs.Curves.{IsCurve}
+use Rattle.upp_curve.specs.Steady.{steady, IsWholePeriods}
 use Rattle.upp_limits.specs.Limits.{Sizes, no_numbers, joined, curve_numbers, sizes_of}
 use Rattle.upp_limits.specs.Sized.{Stands}
 use Rattle.upp_limits.specs.Gauges.{gauge_over, both_numbers, numbers_over}

@@ -1,20 +1,20 @@
 -- The least number of periods, from the gap over one period and from what the faster curve gains in one.
 use Rattle.std.specs.Prelude.{◌≡◌, ℕ, pos, ◌≤◌}
 use Rattle.std.proofs.Common.{arith, sym, ◌∙◌, refl, subst, inl, inr}
-use Rattle.upp_limits.specs.rational.specs.Rational.{ℚ, ◌+ℚ◌, ◌-ℚ◌, ◌*ℚ◌, ◌/ℚ◌, ◌≤ℚ◌, ◌<ℚ◌, int, neg_ℚ}
-use Rattle.upp_limits.specs.rational.specs.Ratio.{IsSmall, SumFits}
-use Rattle.upp_limits.specs.rational.specs.Grid.{Whole}
-use Rattle.upp_limits.specs.rational.specs.Gauge.{size_up}
-use Rattle.upp_limits.specs.rational.specs.Extended.{Ext, ◌≤ₑ◌, ◌<ₑ◌, ◌+ₑ◌}
-use Rattle.upp_limits.specs.rational.specs.declared.Extended.TheVariants.{Fin, Inf}
-use Rattle.upp_limits.specs.rational.proofs.Linear.{with1, with2}
-use Rattle.upp_limits.specs.rational.proofs.Laws.{le_trans, le_of_lt, not_zero, mul_lt_mul_right, zero_mul}
-use Rattle.upp_limits.specs.rational.proofs.Quotients.{div_le, div_nonneg}
-use Rattle.upp_limits.specs.rational.proofs.Grid.{whole_sub, whole_neg, within_nonneg, within_neg}
-use Rattle.upp_limits.specs.rational.proofs.ExtendedOrder.{same_le_ext, finite_below, finite_sum}
-use Rattle.upp_limits.specs.upp_curve.specs.Curve.{SpecCurve, value_at}
-use Rattle.upp_limits.specs.upp_curve.specs.Curves.{IsCurve}
-use Rattle.upp_limits.specs.upp_curve.specs.Steady.{Repeats, steady, rise_over, rate}
+use Rattle.rational.specs.Rational.{ℚ, ◌+ℚ◌, ◌-ℚ◌, ◌*ℚ◌, ◌/ℚ◌, ◌≤ℚ◌, ◌<ℚ◌, int, neg_ℚ}
+use Rattle.rational.specs.Ratio.{IsSmall, SumFits}
+use Rattle.rational.specs.Grid.{Whole}
+use Rattle.rational.specs.Gauge.{size_up}
+use Rattle.rational.specs.Extended.{Ext, ◌≤ₑ◌, ◌<ₑ◌, ◌+ₑ◌}
+use Rattle.rational.specs.declared.Extended.TheVariants.{Fin, Inf}
+use Rattle.rational.proofs.Linear.{with1, with2}
+use Rattle.rational.proofs.Laws.{le_trans, le_of_lt, not_zero, mul_lt_mul_right, zero_mul}
+use Rattle.rational.proofs.Quotients.{div_le, div_nonneg}
+use Rattle.rational.proofs.Grid.{whole_sub, whole_neg, within_nonneg, within_neg}
+use Rattle.rational.proofs.ExtendedOrder.{same_le_ext, finite_below, finite_sum}
+use Rattle.upp_curve.specs.Curve.{SpecCurve, value_at}
+use Rattle.upp_curve.specs.Curves.{IsCurve}
+use Rattle.upp_curve.specs.Steady.{Repeats, steady, rise_over, rate}
 use Rattle.upp_limits.specs.Periods.{periods_after}
 use Rattle.upp_limits.specs.Limits.{Sizes}
 use Rattle.upp_limits.specs.Sized.{grid_of, times_largest}
@@ -23,7 +23,7 @@ use Rattle.upp_limits.specs.Windows.{IsBelowFor, IsLeast}
 use Rattle.upp_normal.specs.Ahead.{HasWindow, IsTimeIn, IsGridValue, AnswerValue}
 use Rattle.upp_limits.proofs.CommonDen.{size_up_within, size_up_least}
 use Rattle.upp_limits.proofs.NarrowSizes.{small_number, small_sum}
-use Rattle.upp_limits.specs.upp_curve.proofs.Steady.{steady_rule}
+use Rattle.upp_curve.proofs.Steady.{steady_rule}
 use Rattle.upp_normal.proofs.StretchSizes.{times_fit, small_quotient}
 use Rattle.curve_call.specs.Gaps.{InWindow, IsWithin, IsEndless, IsLargest}
 use Rattle.curve_call.specs.GapSteps.{IsGapValue}
@@ -35,7 +35,7 @@ use Rattle.curve_call.proofs.RateRises.{rate_rise, infinite_value, has_window, f
 use Rattle.curve_call.proofs.RiseSizes.{rise_stands}
 use Rattle.upp_normal.proofs.UnrollSteps.{ext_cases}
 use Rattle.upp_normal.proofs.AnswerRoom.{wide_narrow, value_difference_stands}
-use Rattle.upp_limits.specs.upp_curve.proofs.SteadyTimes.{rank_early}
+use Rattle.upp_curve.proofs.SteadyTimes.{rank_early}
 
 -- ---- the number
 

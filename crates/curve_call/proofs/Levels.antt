@@ -1,26 +1,26 @@
 -- A level for ever is a curve; how it goes on from a time, and how large its numbers are.
 use Rattle.std.specs.Prelude.{◌≡◌, ℕ, pos, [], ◌∷◌, Some, None}
 use Rattle.std.proofs.Common.{arith, sym, ap, ◌∙◌, refl, subst, inl, inr}
-use Rattle.upp_limits.specs.rational.specs.Rational.{ℚ, ◌*ℚ◌, ◌≤ℚ◌, ◌<ℚ◌, int}
-use Rattle.upp_limits.specs.rational.specs.Grid.{Within}
-use Rattle.upp_limits.specs.rational.specs.declared.Extended.TheVariants.{Fin}
-use Rattle.upp_limits.specs.rational.proofs.Grid.{whole_int, within_nonneg, within_weaken}
-use Rattle.upp_limits.specs.rational.proofs.Integers.{nat_nonneg, nat_le, int_mul}
-use Rattle.upp_limits.specs.rational.proofs.Over.{lt_q_out}
-use Rattle.upp_limits.specs.rational.proofs.Laws.{le_refl, le_lt_trans, mul_le_mul_right, le_or_lt, le_of_lt, antisym}
-use Rattle.upp_limits.specs.upp_curve.specs.declared.affine_segment.line.Piece.{Piece}
-use Rattle.upp_limits.specs.upp_curve.specs.Curve.{SpecCurve, value_at}
-use Rattle.upp_limits.specs.upp_curve.specs.Steady.{rate}
+use Rattle.rational.specs.Rational.{ℚ, ◌*ℚ◌, ◌≤ℚ◌, ◌<ℚ◌, int}
+use Rattle.rational.specs.Grid.{Within}
+use Rattle.rational.specs.declared.Extended.TheVariants.{Fin}
+use Rattle.rational.proofs.Grid.{whole_int, within_nonneg, within_weaken}
+use Rattle.rational.proofs.Integers.{nat_nonneg, nat_le, int_mul}
+use Rattle.rational.proofs.Over.{lt_q_out}
+use Rattle.rational.proofs.Laws.{le_refl, le_lt_trans, mul_le_mul_right, le_or_lt, le_of_lt, antisym}
+use Rattle.upp_curve.specs.declared.affine_segment.line.Piece.{Piece}
+use Rattle.upp_curve.specs.Curve.{SpecCurve, value_at}
+use Rattle.upp_curve.specs.Steady.{rate}
 use Rattle.upp_limits.specs.Limits.{Sizes, curve_numbers}
 use Rattle.upp_limits.specs.Sized.{IsValue, Stands, times_largest}
 use Rattle.upp_normal.specs.Operand.{AreLimited, OperandLine, OperandLineAt}
 use Rattle.upp_normal.specs.Ahead.{GoesOn, HasWindow, IsTimeIn, GridValue}
-use Rattle.upp_limits.specs.upp_curve.specs.affine_segment.Reading.{read, piece_value}
+use Rattle.upp_curve.specs.affine_segment.Reading.{read, piece_value}
 use Rattle.upp_limits.specs.Spans.{Span, spans, spans_below}
-use Rattle.upp_limits.specs.upp_curve.proofs.affine_segment.PieceIn.{piece_in_end, value_past, value_at_start}
+use Rattle.upp_curve.proofs.affine_segment.PieceIn.{piece_in_end, value_past, value_at_start}
 use Rattle.upp_limits.proofs.NarrowSizes.{small_number, value_whole, value_within}
 use Rattle.upp_normal.proofs.AnswerRoom.{wide_narrow}
-use Rattle.upp_limits.specs.upp_curve.proofs.ReadableKinds.{bucket_curve}
+use Rattle.upp_curve.proofs.ReadableKinds.{bucket_curve}
 use Rattle.upp_limits.proofs.CurveStands.{curve_stands}
 use Rattle.curve_call.specs.Levels.{level_curve}
 use Rattle.upp_limits.proofs.Copies.{plus_zero}

@@ -1,13 +1,13 @@
 -- What the limits with some numbers of periods say of the call: where those numbers are the least, they are the call's.
 use Rattle.std.specs.Prelude.{◌≡◌, ℕ, ◌<◌, ◌≤◌, ◌^◌}
 use Rattle.std.proofs.Common.{arith, ap, ◌∙◌, subst}
-use Rattle.upp_limits.specs.rational.specs.Rational.{ℚ}
+use Rattle.rational.specs.Rational.{ℚ}
 use Rattle.upp_limits.specs.declared.op_kind.OpKind.{OpKind}
 use Rattle.upp_limits.specs.declared.op_kind.OpKind.TheVariants.{Sum, Min, Max, PosDiff, PosMinus, Scale, Shift, RunSup, RunInf, FifoLeft, Convolve, Deconvolve, Vertical}
 use Rattle.upp_limits.specs.declared.op_kind.OpFault.{OpFault}
 use Rattle.upp_limits.specs.declared.op_kind.OpFault.TheVariants.{TooMany, TooWide, NoMemory}
-use Rattle.upp_limits.specs.rational.specs.Extended.{Ext}
-use Rattle.upp_limits.specs.upp_curve.specs.Curve.{SpecCurve}
+use Rattle.rational.specs.Extended.{Ext}
+use Rattle.upp_curve.specs.Curve.{SpecCurve}
 use Rattle.upp_limits.specs.Windows.{window_at, Meets, Reaches, IsLeast, IsLeastPeriods}
 use Rattle.upp_limits.specs.Gauges.{IsKnownAtOnce, gauge_over, gauge_at, tally_at, IsTooWide, IsTooMany}
 use Rattle.upp_limits.specs.Outcome.{IsWithin, IsCauseOf}

@@ -1,21 +1,21 @@
 -- The pieces that are made of each stretch of two windows read as what is made of their values.
 use Rattle.std.specs.Prelude.{◌≡◌, ◌⊎◌, ◌+◌, ◌*◌, ◌≤◌, Bool, true, false, not, pos, List, [], ◌∷◌, length, Option, Some, None}
 use Rattle.std.proofs.Common.{arith, sym, ap, ap₂, ◌∙◌, refl, subst, inl, inr}
-use Rattle.upp_limits.specs.rational.specs.Rational.{ℚ, ◌+ℚ◌, ◌-ℚ◌, ◌*ℚ◌, ◌≤ℚ◌, ◌<ℚ◌, int}
-use Rattle.upp_limits.specs.rational.specs.MinMax.{max_q}
-use Rattle.upp_limits.specs.rational.specs.Extended.{Ext, ◌≤ₑ◌}
-use Rattle.upp_limits.specs.rational.specs.declared.Extended.TheVariants.{Fin}
-use Rattle.upp_limits.specs.rational.proofs.Laws.{le_or_lt, le_of_lt, le_refl, le_trans, lt_le_trans, antisym, sub_mul, zero_mul}
-use Rattle.upp_limits.specs.rational.proofs.Linear.{with1, with2, with4}
-use Rattle.upp_limits.specs.rational.proofs.MinMax.{max_q_is_left, max_q_right}
-use Rattle.upp_limits.specs.rational.proofs.ExtendedOrder.{min_ext_of_le, min_ext_comm, max_ext_of_le, max_ext_comm}
-use Rattle.upp_limits.specs.upp_curve.specs.declared.affine_segment.line.Line.{Line}
-use Rattle.upp_limits.specs.upp_curve.specs.declared.affine_segment.line.Piece.{Piece}
-use Rattle.upp_limits.specs.upp_curve.specs.affine_segment.Values.{line_at, line_value}
-use Rattle.upp_limits.specs.upp_curve.specs.affine_segment.Reading.{read, piece_value}
-use Rattle.upp_limits.specs.upp_curve.specs.affine_segment.Pieces.{RisesFrom, StartsAtZero}
-use Rattle.upp_limits.specs.min_plus.specs.Pointwise.{excess}
-use Rattle.upp_limits.specs.upp_curve.proofs.affine_segment.PieceIn.{value_past, value_at_start, read_go}
+use Rattle.rational.specs.Rational.{ℚ, ◌+ℚ◌, ◌-ℚ◌, ◌*ℚ◌, ◌≤ℚ◌, ◌<ℚ◌, int}
+use Rattle.rational.specs.MinMax.{max_q}
+use Rattle.rational.specs.Extended.{Ext, ◌≤ₑ◌}
+use Rattle.rational.specs.declared.Extended.TheVariants.{Fin}
+use Rattle.rational.proofs.Laws.{le_or_lt, le_of_lt, le_refl, le_trans, lt_le_trans, antisym, sub_mul, zero_mul}
+use Rattle.rational.proofs.Linear.{with1, with2, with4}
+use Rattle.rational.proofs.MinMax.{max_q_is_left, max_q_right}
+use Rattle.rational.proofs.ExtendedOrder.{min_ext_of_le, min_ext_comm, max_ext_of_le, max_ext_comm}
+use Rattle.upp_curve.specs.declared.affine_segment.line.Line.{Line}
+use Rattle.upp_curve.specs.declared.affine_segment.line.Piece.{Piece}
+use Rattle.upp_curve.specs.affine_segment.Values.{line_at, line_value}
+use Rattle.upp_curve.specs.affine_segment.Reading.{read, piece_value}
+use Rattle.upp_curve.specs.affine_segment.Pieces.{RisesFrom, StartsAtZero}
+use Rattle.min_plus.specs.Pointwise.{excess}
+use Rattle.upp_curve.proofs.affine_segment.PieceIn.{value_past, value_at_start, read_go}
 use Rattle.curve_call.specs.declared.stretch.Both.{Both}
 use Rattle.curve_call.specs.declared.made.Made.{Made}
 use Rattle.curve_call.specs.declared.made.Made.TheVariants.{Lower, Upper, Excess}

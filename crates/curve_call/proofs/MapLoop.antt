@@ -1,6 +1,6 @@
 -- A loop that makes one piece of each stretch.
 use Rattle.std.specs.Prelude.{◌≡◌, List, ◌++◌}
-use Rattle.upp_limits.specs.upp_curve.specs.declared.affine_segment.line.Piece.{Piece}
+use Rattle.upp_curve.specs.declared.affine_segment.line.Piece.{Piece}
 use Rattle.curve_call.specs.declared.stretch.Both.{Both}
 use Rattle.curve_call.specs.Stretches.{EachBoth}
 use Rattle.curve_call.specs.Pointwise.{mapped}

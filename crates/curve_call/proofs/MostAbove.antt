@@ -2,25 +2,25 @@
 -- rate, the faster above one of its own.
 use Rattle.std.specs.Prelude.{◌≡◌, ℕ, pos}
 use Rattle.std.proofs.Common.{arith, sym, ap, ap₂, ◌∙◌, refl, subst, inl, inr}
-use Rattle.upp_limits.specs.rational.specs.Rational.{ℚ, ◌+ℚ◌, ◌-ℚ◌, ◌*ℚ◌, ◌≤ℚ◌, ◌<ℚ◌, int}
-use Rattle.upp_limits.specs.rational.specs.Whole.{periods}
-use Rattle.upp_limits.specs.rational.specs.Extended.{Ext, ◌≤ₑ◌, ◌<ₑ◌, ◌+ₑ◌}
-use Rattle.upp_limits.specs.rational.specs.declared.Extended.TheVariants.{Fin, Inf}
-use Rattle.upp_limits.specs.rational.proofs.Linear.{with1, with2, with3, with4, with6}
-use Rattle.upp_limits.specs.rational.proofs.Laws.{le_trans, le_of_lt, le_or_lt, mul_le_mul, mul_le_mul_right, mul_assoc, mul_comm, mul_add, sub_add}
-use Rattle.upp_limits.specs.rational.proofs.Whole.{periods_low, periods_high}
-use Rattle.upp_limits.specs.rational.proofs.Grid.{whole_add, within_add}
-use Rattle.upp_limits.specs.rational.specs.Grid.{Within}
-use Rattle.upp_limits.specs.rational.specs.Ratio.{IsSmall, SumFits}
+use Rattle.rational.specs.Rational.{ℚ, ◌+ℚ◌, ◌-ℚ◌, ◌*ℚ◌, ◌≤ℚ◌, ◌<ℚ◌, int}
+use Rattle.rational.specs.Whole.{periods}
+use Rattle.rational.specs.Extended.{Ext, ◌≤ₑ◌, ◌<ₑ◌, ◌+ₑ◌}
+use Rattle.rational.specs.declared.Extended.TheVariants.{Fin, Inf}
+use Rattle.rational.proofs.Linear.{with1, with2, with3, with4, with6}
+use Rattle.rational.proofs.Laws.{le_trans, le_of_lt, le_or_lt, mul_le_mul, mul_le_mul_right, mul_assoc, mul_comm, mul_add, sub_add}
+use Rattle.rational.proofs.Whole.{periods_low, periods_high}
+use Rattle.rational.proofs.Grid.{whole_add, within_add}
+use Rattle.rational.specs.Grid.{Within}
+use Rattle.rational.specs.Ratio.{IsSmall, SumFits}
 use Rattle.upp_limits.proofs.NarrowSizes.{small_sum}
 use Rattle.upp_normal.proofs.AnswerRoom.{wide_narrow}
-use Rattle.upp_limits.specs.rational.proofs.ExtendedOrder.{le_ext_trans, add_le_ext, le_ext_refl}
-use Rattle.upp_limits.specs.upp_curve.specs.Curve.{SpecCurve, value_at}
-use Rattle.upp_limits.specs.upp_curve.specs.Steady.{Repeats, rate, rise_over}
+use Rattle.rational.proofs.ExtendedOrder.{le_ext_trans, add_le_ext, le_ext_refl}
+use Rattle.upp_curve.specs.Curve.{SpecCurve, value_at}
+use Rattle.upp_curve.specs.Steady.{Repeats, rate, rise_over}
 use Rattle.upp_limits.specs.Limits.{Sizes}
 use Rattle.upp_limits.specs.Sized.{grid_of, times_largest}
-use Rattle.upp_limits.specs.upp_curve.proofs.Steady.{steady_rule}
-use Rattle.upp_limits.specs.upp_curve.proofs.SteadyTimes.{rank_early}
+use Rattle.upp_curve.proofs.Steady.{steady_rule}
+use Rattle.upp_curve.proofs.SteadyTimes.{rank_early}
 use Rattle.upp_normal.specs.Ahead.{AnswerValue, IsGridValue}
 use Rattle.upp_normal.proofs.UnrollSteps.{ext_cases}
 use Rattle.curve_call.specs.Gaps.{InWindow, IsLargest}

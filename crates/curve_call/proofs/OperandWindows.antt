@@ -1,20 +1,20 @@
 -- Windows of operands: where their pieces stand, the steps that cut and add them fit.
 use Rattle.std.specs.Prelude.{◌≡◌, ℕ, ◌*◌, List, [], ◌∷◌, Option, Some, None, ◌⊎◌}
 use Rattle.std.proofs.Common.{arith, sym, ap, ◌∙◌, subst, inl, inr}
-use Rattle.upp_limits.specs.rational.specs.Rational.{ℚ, ◌+ℚ◌, ◌≤ℚ◌}
-use Rattle.upp_limits.specs.rational.proofs.Laws.{le_or_lt, le_of_lt, antisym}
-use Rattle.upp_limits.specs.rational.specs.Extended.{Ext, ◌+ₑ◌}
-use Rattle.upp_limits.specs.rational.specs.declared.Extended.TheVariants.{Fin, Inf}
-use Rattle.upp_limits.specs.upp_curve.specs.declared.affine_segment.line.Line.{Line}
-use Rattle.upp_limits.specs.upp_curve.specs.declared.affine_segment.line.Piece.{Piece}
-use Rattle.upp_limits.specs.upp_curve.specs.affine_segment.Reading.{read, piece_in, piece_value, line_in}
-use Rattle.upp_limits.specs.upp_curve.specs.affine_segment.Pieces.{Each, HasStart}
+use Rattle.rational.specs.Rational.{ℚ, ◌+ℚ◌, ◌≤ℚ◌}
+use Rattle.rational.proofs.Laws.{le_or_lt, le_of_lt, antisym}
+use Rattle.rational.specs.Extended.{Ext, ◌+ₑ◌}
+use Rattle.rational.specs.declared.Extended.TheVariants.{Fin, Inf}
+use Rattle.upp_curve.specs.declared.affine_segment.line.Line.{Line}
+use Rattle.upp_curve.specs.declared.affine_segment.line.Piece.{Piece}
+use Rattle.upp_curve.specs.affine_segment.Reading.{read, piece_in, piece_value, line_in}
+use Rattle.upp_curve.specs.affine_segment.Pieces.{Each, HasStart}
 use Rattle.upp_limits.specs.Limits.{Sizes}
 use Rattle.upp_limits.specs.Sized.{grid_of}
 use Rattle.upp_normal.proofs.NormaliseGrids.{ValueOn, LineOn, PieceOn}
 use Rattle.upp_normal.specs.Operand.{answer_room, AreLimited, OperandLineAt, OperandPiece, OperandPieces}
-use Rattle.upp_limits.specs.upp_curve.proofs.affine_segment.PieceIn.{value_past, value_at_start}
-use Rattle.upp_limits.specs.upp_curve.proofs.affine_segment.PieceOrder.{each_map}
+use Rattle.upp_curve.proofs.affine_segment.PieceIn.{value_past, value_at_start}
+use Rattle.upp_curve.proofs.affine_segment.PieceOrder.{each_map}
 use Rattle.upp_normal.proofs.NormaliseRoomy.{each_in, found_early}
 use Rattle.upp_normal.proofs.AnswerRoom.{stands_operand_value, operand_line_value, operand_line_fits, values_fit, operand_lines_fit, sum_of_lines, line_in_room, room_at_start, value_sum_stands, answer_value_room}
 use Rattle.upp_normal.specs.Room.{ValueHasRoom, LineHasRoom, PieceHasRoom}

@@ -1,19 +1,19 @@
 -- The loop that cuts two windows at each start of either.
 use Rattle.std.specs.Prelude.{◌≡◌, ℕ, zero, suc, ◌+◌, ◌-◌, ◌<◌, ◌≤◌, List, [], ◌∷◌, ◌++◌, length, slice_get, Some, None, ◌⊎◌}
 use Rattle.std.proofs.Common.{arith, get_or, drop, sym, ap, ◌∙◌, refl, subst, inl, inr}
-use Rattle.upp_limits.specs.rational.specs.Rational.{ℚ, ◌<ℚ◌}
-use Rattle.upp_limits.specs.rational.proofs.Laws.{le_of_lt, le_trans}
-use Rattle.upp_limits.specs.upp_curve.specs.declared.affine_segment.line.Piece.{Piece}
-use Rattle.upp_limits.specs.upp_curve.specs.affine_segment.Pieces.{HasStart, RisesFrom, StartsAtZero}
-use Rattle.upp_limits.specs.upp_curve.specs.affine_segment.Fits.{LineFitsAt}
-use Rattle.upp_limits.specs.upp_curve.specs.affine_segment.Reading.{read}
+use Rattle.rational.specs.Rational.{ℚ, ◌<ℚ◌}
+use Rattle.rational.proofs.Laws.{le_of_lt, le_trans}
+use Rattle.upp_curve.specs.declared.affine_segment.line.Piece.{Piece}
+use Rattle.upp_curve.specs.affine_segment.Pieces.{HasStart, RisesFrom, StartsAtZero}
+use Rattle.upp_curve.specs.affine_segment.Fits.{LineFitsAt}
+use Rattle.upp_curve.specs.affine_segment.Reading.{read}
 use Rattle.curve_call.specs.declared.stretch.Both.{Both}
 use Rattle.curve_call.specs.declared.stretch.Walk.{Walk}
 use Rattle.curve_call.specs.Stretches.{cut_at, lefts, rights, EachBoth, IsBothOf, IsOverlay, CutsFit}
 use Rattle.curve_call.specs.Walk.{IsStart, IsBeforeAt, TakesLeft, TakesRight, TakesBoth, IsStep, NextFits}
 use Rattle.curve_call.proofs.Surgery.{BeforeNext, rest_rises, start_nonneg}
 use Rattle.curve_call.proofs.Walks.{WalkOf, walk_start, walk_take, walk_cut, walk_piece, walk_line}
-use Rattle.upp_limits.specs.upp_curve.proofs.affine_segment.NextPiece.{none_left}
+use Rattle.upp_curve.proofs.affine_segment.NextPiece.{none_left}
 
 -- ---- the pieces that are left
 drop_got : (ps : List Piece) (i : ℕ) (p : Piece) → slice_get ps i ≡ Some p → drop i ps ≡ p ∷ drop (i + 1) ps

@@ -2,30 +2,30 @@
 use Rattle.std.specs.Prelude.{◌≡◌, ℕ, suc, pos, cond, List, [], ◌∷◌, Option, Some, None}
 use Rattle.std.specs.List.{AllByRecursion}
 use Rattle.std.proofs.Common.{arith, sym, ap, ◌∙◌, refl, subst, inl, inr}
-use Rattle.upp_limits.specs.rational.specs.Rational.{ℚ, ◌+ℚ◌, ◌-ℚ◌, ◌*ℚ◌, ◌/ℚ◌, ◌≤ℚ◌, ◌<ℚ◌, int}
-use Rattle.upp_limits.specs.rational.specs.Grid.{Whole, Within}
-use Rattle.upp_limits.specs.rational.specs.Whole.{periods}
-use Rattle.upp_limits.specs.rational.specs.Extended.{◌+ₑ◌}
-use Rattle.upp_limits.specs.rational.specs.declared.Extended.TheVariants.{Fin}
-use Rattle.upp_limits.specs.rational.proofs.Linear.{with1, with2, with3, with6}
-use Rattle.upp_limits.specs.rational.proofs.Laws.{le_or_lt, le_refl, le_trans, le_of_lt, mul_comm, mul_one, mul_nonneg, not_zero}
-use Rattle.upp_limits.specs.rational.proofs.Quotients.{mul_div}
-use Rattle.upp_limits.specs.rational.proofs.Integers.{nat_nonneg}
-use Rattle.upp_limits.specs.rational.proofs.Whole.{one_more_times, periods_low}
-use Rattle.upp_limits.specs.rational.proofs.Grid.{whole_int, whole_add, whole_sub, within_nonneg, within_add, within_weaken}
-use Rattle.upp_limits.specs.rational.proofs.ExtendedOrder.{finite_sum}
-use Rattle.upp_limits.specs.rational.proofs.Over.{le_q_out}
-use Rattle.upp_limits.specs.rational.proofs.MinMax.{le_q_not}
-use Rattle.upp_limits.specs.upp_curve.specs.declared.affine_segment.line.Line.{Line}
-use Rattle.upp_limits.specs.upp_curve.specs.declared.affine_segment.line.Piece.{Piece}
-use Rattle.upp_limits.specs.upp_curve.specs.affine_segment.Values.{line_at, line_value}
-use Rattle.upp_limits.specs.upp_curve.specs.declared.curve.Tail.{Tail}
-use Rattle.upp_limits.specs.upp_curve.specs.declared.curve.Tail.TheVariants.{Periodic, Affine, Infinite}
-use Rattle.upp_limits.specs.upp_curve.specs.affine_segment.Reading.{piece_in, piece_value, read}
-use Rattle.upp_limits.specs.upp_curve.specs.Curve.{SpecCurve, value_at}
-use Rattle.upp_limits.specs.upp_curve.specs.affine_segment.Pieces.{Each, HasStart, StartsAtZero}
-use Rattle.upp_limits.specs.upp_curve.specs.Normal.{FitsPeriod}
-use Rattle.upp_limits.specs.upp_curve.specs.Steady.{rank_of, last_line, slope_times, rise_in, rise_over, IsWholePeriods}
+use Rattle.rational.specs.Rational.{ℚ, ◌+ℚ◌, ◌-ℚ◌, ◌*ℚ◌, ◌/ℚ◌, ◌≤ℚ◌, ◌<ℚ◌, int}
+use Rattle.rational.specs.Grid.{Whole, Within}
+use Rattle.rational.specs.Whole.{periods}
+use Rattle.rational.specs.Extended.{◌+ₑ◌}
+use Rattle.rational.specs.declared.Extended.TheVariants.{Fin}
+use Rattle.rational.proofs.Linear.{with1, with2, with3, with6}
+use Rattle.rational.proofs.Laws.{le_or_lt, le_refl, le_trans, le_of_lt, mul_comm, mul_one, mul_nonneg, not_zero}
+use Rattle.rational.proofs.Quotients.{mul_div}
+use Rattle.rational.proofs.Integers.{nat_nonneg}
+use Rattle.rational.proofs.Whole.{one_more_times, periods_low}
+use Rattle.rational.proofs.Grid.{whole_int, whole_add, whole_sub, within_nonneg, within_add, within_weaken}
+use Rattle.rational.proofs.ExtendedOrder.{finite_sum}
+use Rattle.rational.proofs.Over.{le_q_out}
+use Rattle.rational.proofs.MinMax.{le_q_not}
+use Rattle.upp_curve.specs.declared.affine_segment.line.Line.{Line}
+use Rattle.upp_curve.specs.declared.affine_segment.line.Piece.{Piece}
+use Rattle.upp_curve.specs.affine_segment.Values.{line_at, line_value}
+use Rattle.upp_curve.specs.declared.curve.Tail.{Tail}
+use Rattle.upp_curve.specs.declared.curve.Tail.TheVariants.{Periodic, Affine, Infinite}
+use Rattle.upp_curve.specs.affine_segment.Reading.{piece_in, piece_value, read}
+use Rattle.upp_curve.specs.Curve.{SpecCurve, value_at}
+use Rattle.upp_curve.specs.affine_segment.Pieces.{Each, HasStart, StartsAtZero}
+use Rattle.upp_curve.specs.Normal.{FitsPeriod}
+use Rattle.upp_curve.specs.Steady.{rank_of, last_line, slope_times, rise_in, rise_over, IsWholePeriods}
 use Rattle.upp_limits.specs.Spans.{Span, span_below, spans}
 use Rattle.upp_limits.specs.Limits.{Sizes}
 use Rattle.upp_limits.specs.Sized.{IsValue, IsSlope, ValueStands, LineStands, SpanStands, PeriodStands, TailStands, CurveStands, grid_of, times_largest}
@@ -38,10 +38,10 @@ use Rattle.upp_normal.proofs.StretchPieces.{span_in, found_from}
 use Rattle.upp_normal.proofs.StretchTurns.{repeated_at}
 use Rattle.upp_normal.proofs.StretchSizes.{CopiesStand, copies_of_span, each_below, some_period, starts_over, RiseParts, rise_parts}
 use Rattle.upp_normal.proofs.StretchValues.{value_periodic, with_pieces}
-use Rattle.upp_limits.specs.upp_curve.proofs.Finite.{each_in}
+use Rattle.upp_curve.proofs.Finite.{each_in}
 use Rattle.curve_call.proofs.RateRises.{some_periods}
 use Rattle.upp_normal.proofs.UnrollSteps.{IsSomewhere}
-use Rattle.upp_limits.specs.upp_curve.proofs.affine_segment.LineValues.{line_found}
+use Rattle.upp_curve.proofs.affine_segment.LineValues.{line_found}
 
 many : (v : ℚ) → int (pos 0) ≤ℚ v → int (pos 1) *ℚ v ≤ℚ int (pos 3) *ℚ v
 many v h = with1 v (λ c. omega (arith, c.le, c.lt, c.same))

@@ -1,13 +1,13 @@
 -- The answer of each kind at a time is one, so one call makes at most one curve.
 use Rattle.std.proofs.Common.{◌≡◌, sym, ◌∙◌}
-use Rattle.upp_limits.specs.rational.specs.Rational.{ℚ}
-use Rattle.upp_limits.specs.rational.specs.Extended.{Ext}
-use Rattle.upp_limits.specs.rational.specs.declared.Extended.TheVariants.{Fin, Inf}
-use Rattle.upp_limits.specs.rational.proofs.Bounds.{infimum_unique, supremum_unique}
+use Rattle.rational.specs.Rational.{ℚ}
+use Rattle.rational.specs.Extended.{Ext}
+use Rattle.rational.specs.declared.Extended.TheVariants.{Fin, Inf}
+use Rattle.rational.proofs.Bounds.{infimum_unique, supremum_unique}
 use Rattle.upp_limits.specs.declared.op_kind.OpKind.{OpKind}
 use Rattle.upp_limits.specs.declared.op_kind.OpKind.TheVariants.{Sum, Min, Max, PosDiff, PosMinus, Scale, Shift, RunSup, RunInf, FifoLeft, Convolve, Deconvolve, Horizontal, Vertical, Itself}
-use Rattle.upp_limits.specs.upp_curve.specs.Curve.{SpecCurve, value_at}
-use Rattle.upp_limits.specs.upp_curve.proofs.OneForm.{normal_unique}
+use Rattle.upp_curve.specs.Curve.{SpecCurve, value_at}
+use Rattle.upp_curve.proofs.OneForm.{normal_unique}
 use Rattle.curve_call.specs.Answers.{IsAnswer, IsMadeBy}
 
 pub answer_unique : (op : OpKind) (f g : ℚ → Ext) (t : ℚ) (v w : Ext) → IsAnswer op f g t v → IsAnswer op f g t w → v

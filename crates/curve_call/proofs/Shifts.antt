@@ -1,16 +1,16 @@
 -- A number of periods later: one function is nowhere above another exactly where it is nowhere more above it than the other has gained.
 use Rattle.std.specs.Prelude.{◌≡◌, ℕ, pos, ◌↔◌}
 use Rattle.std.proofs.Common.{arith, sym, subst, inl, inr}
-use Rattle.upp_limits.specs.rational.specs.Rational.{ℚ, ◌+ℚ◌, ◌-ℚ◌, ◌*ℚ◌, ◌≤ℚ◌, ◌<ℚ◌, int}
-use Rattle.upp_limits.specs.rational.specs.Extended.{Ext, ◌≤ₑ◌, ◌+ₑ◌}
-use Rattle.upp_limits.specs.rational.specs.declared.Extended.TheVariants.{Fin, Inf}
-use Rattle.upp_limits.specs.rational.proofs.Linear.{with3, with4}
-use Rattle.upp_limits.specs.rational.proofs.Laws.{le_or_lt, mul_sub, sub_add}
-use Rattle.upp_limits.specs.rational.proofs.ExtendedOrder.{le_ext_trans, le_ext_refl, add_le_ext, lt_ext_not_le}
-use Rattle.upp_limits.specs.upp_curve.specs.Steady.{Repeats}
+use Rattle.rational.specs.Rational.{ℚ, ◌+ℚ◌, ◌-ℚ◌, ◌*ℚ◌, ◌≤ℚ◌, ◌<ℚ◌, int}
+use Rattle.rational.specs.Extended.{Ext, ◌≤ₑ◌, ◌+ₑ◌}
+use Rattle.rational.specs.declared.Extended.TheVariants.{Fin, Inf}
+use Rattle.rational.proofs.Linear.{with3, with4}
+use Rattle.rational.proofs.Laws.{le_or_lt, mul_sub, sub_add}
+use Rattle.rational.proofs.ExtendedOrder.{le_ext_trans, le_ext_refl, add_le_ext, lt_ext_not_le}
+use Rattle.upp_curve.specs.Steady.{Repeats}
 use Rattle.upp_limits.specs.Periods.{periods_after}
 use Rattle.upp_limits.specs.Windows.{IsBelowFor, IsLeast}
-use Rattle.upp_limits.specs.upp_curve.proofs.Repeats.{repeats_times}
+use Rattle.upp_curve.proofs.Repeats.{repeats_times}
 use Rattle.curve_call.specs.Gaps.{InWindow, IsWithin, IsEndless, IsLargest}
 
 -- ---- both sides risen

@@ -1,14 +1,14 @@
 -- The lower, the upper and the excess of two values, where both rise: by how much it rises, from which of the two is above before and after.
 use Rattle.std.specs.Prelude.{◌≡◌, pos, ◌⊎◌}
 use Rattle.std.proofs.Common.{arith, sym, ap, ap₂, ◌∙◌, refl, subst, inl, inr}
-use Rattle.upp_limits.specs.rational.specs.Rational.{ℚ, ◌+ℚ◌, ◌-ℚ◌, ◌≤ℚ◌, int}
-use Rattle.upp_limits.specs.rational.specs.MinMax.{max_q}
-use Rattle.upp_limits.specs.rational.specs.Extended.{Ext, ◌≤ₑ◌, ◌<ₑ◌, ◌+ₑ◌, min_ext, max_ext}
-use Rattle.upp_limits.specs.rational.specs.declared.Extended.TheVariants.{Fin, Inf}
-use Rattle.upp_limits.specs.rational.proofs.Linear.{with1, with2, with3, with4}
-use Rattle.upp_limits.specs.rational.proofs.MinMax.{max_q_is_left, max_q_right}
-use Rattle.upp_limits.specs.rational.proofs.ExtendedOrder.{min_ext_of_le, min_ext_comm, max_ext_of_le, max_ext_comm, min_add_ext, max_add_ext, lt_ext_trans, lt_ext_irrefl, le_or_lt_ext, antisym_ext}
-use Rattle.upp_limits.specs.min_plus.specs.Pointwise.{excess}
+use Rattle.rational.specs.Rational.{ℚ, ◌+ℚ◌, ◌-ℚ◌, ◌≤ℚ◌, int}
+use Rattle.rational.specs.MinMax.{max_q}
+use Rattle.rational.specs.Extended.{Ext, ◌≤ₑ◌, ◌<ₑ◌, ◌+ₑ◌, min_ext, max_ext}
+use Rattle.rational.specs.declared.Extended.TheVariants.{Fin, Inf}
+use Rattle.rational.proofs.Linear.{with1, with2, with3, with4}
+use Rattle.rational.proofs.MinMax.{max_q_is_left, max_q_right}
+use Rattle.rational.proofs.ExtendedOrder.{min_ext_of_le, min_ext_comm, max_ext_of_le, max_ext_comm, min_add_ext, max_add_ext, lt_ext_trans, lt_ext_irrefl, le_or_lt_ext, antisym_ext}
+use Rattle.min_plus.specs.Pointwise.{excess}
 
 -- two rates: one is less, or they are one
 pub rates_compared : (x y : Ext) → (x <ₑ y) ⊎ ((x ≡ y) ⊎ (y <ₑ x))

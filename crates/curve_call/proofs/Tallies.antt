@@ -2,24 +2,24 @@
 use Rattle.std.specs.Prelude.{◌≡◌, ℕ, ◌+◌, ◌<◌, ◌≤◌, ◌^◌, pos, List, [], ◌∷◌, length}
 use Rattle.std.specs.List.{fold}
 use Rattle.std.proofs.Common.{arith, refl, inl, inr, mul-le-mul}
-use Rattle.upp_limits.specs.rational.specs.Rational.{ℚ, ◌-ℚ◌, ◌/ℚ◌, ◌≤ℚ◌, ◌<ℚ◌, int}
-use Rattle.upp_limits.specs.rational.proofs.Laws.{le_or_lt, le_trans, lt_le_trans}
-use Rattle.upp_limits.specs.rational.proofs.Linear.{with3}
-use Rattle.upp_limits.specs.rational.proofs.MinMax.{lt_q_not}
-use Rattle.upp_limits.specs.rational.proofs.Over.{lt_q_out}
-use Rattle.upp_limits.specs.rational.proofs.Quotients.{div_mono}
-use Rattle.upp_limits.specs.upp_curve.specs.declared.affine_segment.line.Piece.{Piece}
-use Rattle.upp_limits.specs.upp_curve.specs.declared.curve.Tail.{Tail}
-use Rattle.upp_limits.specs.upp_curve.specs.declared.curve.Tail.TheVariants.{Periodic, Affine, Infinite}
+use Rattle.rational.specs.Rational.{ℚ, ◌-ℚ◌, ◌/ℚ◌, ◌≤ℚ◌, ◌<ℚ◌, int}
+use Rattle.rational.proofs.Laws.{le_or_lt, le_trans, lt_le_trans}
+use Rattle.rational.proofs.Linear.{with3}
+use Rattle.rational.proofs.MinMax.{lt_q_not}
+use Rattle.rational.proofs.Over.{lt_q_out}
+use Rattle.rational.proofs.Quotients.{div_mono}
+use Rattle.upp_curve.specs.declared.affine_segment.line.Piece.{Piece}
+use Rattle.upp_curve.specs.declared.curve.Tail.{Tail}
+use Rattle.upp_curve.specs.declared.curve.Tail.TheVariants.{Periodic, Affine, Infinite}
 use Rattle.upp_limits.specs.declared.op_kind.OpKind.{OpKind}
 use Rattle.upp_limits.specs.declared.op_kind.OpKind.TheVariants.{Sum, Min, Max, PosDiff, PosMinus, Scale, Shift, RunSup, RunInf, FifoLeft, Convolve, Deconvolve, Horizontal, Vertical, Itself}
 use Rattle.upp_limits.specs.declared.op_kind.OpFault.TheVariants.{TooMany, TooWide}
 use Rattle.upp_limits.specs.Windows.{window_at}
-use Rattle.upp_limits.specs.upp_curve.specs.Curve.{SpecCurve}
-use Rattle.upp_limits.specs.upp_curve.specs.Curves.{IsCurve}
+use Rattle.upp_curve.specs.Curve.{SpecCurve}
+use Rattle.upp_curve.specs.Curves.{IsCurve}
 use Rattle.upp_limits.specs.Gauges.{tallied, tally_of, tally_over, tally_at, gauge_at}
-use Rattle.upp_limits.specs.upp_curve.specs.Unrolled.{upto, from, copies_below, counted, count}
-use Rattle.upp_limits.specs.min_plus.specs.WholeUp.{whole_up}
+use Rattle.upp_curve.specs.Unrolled.{upto, from, copies_below, counted, count}
+use Rattle.min_plus.specs.WholeUp.{whole_up}
 use Rattle.upp_limits.proofs.Rounding.{whole_up_least, whole_up_most}
 use Rattle.upp_normal.proofs.StretchSizes.{some_period}
 use Rattle.curve_call.specs.CallWindows.{IsForward}

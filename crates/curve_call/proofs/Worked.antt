@@ -1,13 +1,13 @@
 -- The windows of the tests have sizes.
 use Rattle.std.specs.Prelude.{◌≡◌, ℕ, ◌*◌, ◌≤◌, pos, List, [], ◌∷◌, Some}
 use Rattle.std.proofs.Common.{arith, sym, refl, subst}
-use Rattle.upp_limits.specs.rational.specs.Rational.{ℚ, ◌*ℚ◌, ◌≤ℚ◌, int}
-use Rattle.upp_limits.specs.rational.specs.Grid.{Within}
-use Rattle.upp_limits.specs.rational.specs.declared.Extended.TheVariants.{Fin}
-use Rattle.upp_limits.specs.rational.proofs.Grid.{whole_int, within_nonneg}
-use Rattle.upp_limits.specs.rational.proofs.Integers.{int_mul, nat_le, nat_lt, nat_nonneg}
-use Rattle.upp_limits.specs.rational.proofs.Laws.{le_refl}
-use Rattle.upp_limits.specs.upp_curve.specs.declared.affine_segment.line.Piece.{Piece}
+use Rattle.rational.specs.Rational.{ℚ, ◌*ℚ◌, ◌≤ℚ◌, int}
+use Rattle.rational.specs.Grid.{Within}
+use Rattle.rational.specs.declared.Extended.TheVariants.{Fin}
+use Rattle.rational.proofs.Grid.{whole_int, within_nonneg}
+use Rattle.rational.proofs.Integers.{int_mul, nat_le, nat_lt, nat_nonneg}
+use Rattle.rational.proofs.Laws.{le_refl}
+use Rattle.upp_curve.specs.declared.affine_segment.line.Piece.{Piece}
 use Rattle.upp_limits.specs.Limits.{Sizes, gauge_of}
 use Rattle.upp_normal.specs.Operand.{AreLimited, OperandPieces}
 use Rattle.curve_call.specs.Stretches.{CutsFit}

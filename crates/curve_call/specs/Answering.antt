@@ -1,11 +1,11 @@
 -- Pieces of an answer in a call's window, where the call's sizes hold them. Own choice.
 use Rattle.std.specs.Prelude.{◌≡◌, ℕ, pos, List}
-use Rattle.upp_limits.specs.rational.specs.Rational.{ℚ, ◌+ℚ◌, ◌≤ℚ◌, ◌<ℚ◌, int}
-use Rattle.upp_limits.specs.rational.specs.Grid.{Whole, Within}
-use Rattle.upp_limits.specs.upp_curve.specs.declared.affine_segment.line.Piece.{Piece}
-use Rattle.upp_limits.specs.upp_curve.specs.affine_segment.Reading.{read}
-use Rattle.upp_limits.specs.upp_curve.specs.Curve.{repeated}
-use Rattle.upp_limits.specs.upp_curve.specs.affine_segment.Pieces.{Each, StartsAtZero}
+use Rattle.rational.specs.Rational.{ℚ, ◌+ℚ◌, ◌≤ℚ◌, ◌<ℚ◌, int}
+use Rattle.rational.specs.Grid.{Whole, Within}
+use Rattle.upp_curve.specs.declared.affine_segment.line.Piece.{Piece}
+use Rattle.upp_curve.specs.affine_segment.Reading.{read}
+use Rattle.upp_curve.specs.Curve.{repeated}
+use Rattle.upp_curve.specs.affine_segment.Pieces.{Each, StartsAtZero}
 use Rattle.upp_normal.specs.Normalising.{OnGridsUnlessLine}
 use Rattle.upp_normal.specs.Room.{PieceHasRoom}
 use Rattle.upp_limits.specs.Limits.{Sizes}

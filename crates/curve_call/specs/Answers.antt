@@ -1,16 +1,16 @@
 -- What each kind of call makes of its operands, value by value; and what it is that a curve is made by a call. (The
 -- kinds are those of Le Boudec and Thiran, chapter 3, and of the residual services; one word for all of them is own
 -- choice.)
-use Rattle.upp_limits.specs.rational.specs.Rational.{ℚ, ◌≤ℚ◌}
-use Rattle.upp_limits.specs.rational.specs.Extended.{Ext}
+use Rattle.rational.specs.Rational.{ℚ, ◌≤ℚ◌}
+use Rattle.rational.specs.Extended.{Ext}
 use Rattle.upp_limits.specs.declared.op_kind.OpKind.{OpKind}
 use Rattle.upp_limits.specs.declared.op_kind.OpKind.TheVariants.{Sum, Min, Max, PosDiff, PosMinus, Scale, Shift, RunSup, RunInf, FifoLeft, Convolve, Deconvolve, Horizontal, Vertical, Itself}
-use Rattle.upp_limits.specs.upp_curve.specs.Curve.{SpecCurve, value_at}
-use Rattle.upp_limits.specs.upp_curve.specs.Curves.{IsCurve}
-use Rattle.upp_limits.specs.min_plus.specs.Functions.{zero_q}
-use Rattle.upp_limits.specs.min_plus.specs.Pointwise.{IsSum, IsMinimum, IsMaximum, IsPositiveDifference, IsPositiveMinus, IsScaled, IsShift}
-use Rattle.upp_limits.specs.min_plus.specs.Running.{IsRunningSupremum, IsRunningInfimum, IsFifoLeftover}
-use Rattle.upp_limits.specs.min_plus.specs.Convolution.{IsConvolution, IsDeconvolution}
+use Rattle.upp_curve.specs.Curve.{SpecCurve, value_at}
+use Rattle.upp_curve.specs.Curves.{IsCurve}
+use Rattle.min_plus.specs.Functions.{zero_q}
+use Rattle.min_plus.specs.Pointwise.{IsSum, IsMinimum, IsMaximum, IsPositiveDifference, IsPositiveMinus, IsScaled, IsShift}
+use Rattle.min_plus.specs.Running.{IsRunningSupremum, IsRunningInfimum, IsFifoLeftover}
+use Rattle.min_plus.specs.Convolution.{IsConvolution, IsDeconvolution}
 
 -- v is the answer at t for the operands f and g; the last three kinds make no curve
 abbrev pub IsAnswer : OpKind → (ℚ → Ext) → (ℚ → Ext) → ℚ → Ext → Type 0

@@ -1,9 +1,9 @@
 -- Two numbers that the least number of periods is between, and what they are made of: what each curve does in one
 -- period of its own. (Le Boudec and Thiran: a curve that repeats lies between two lines of its rate.)
 use Rattle.std.specs.Prelude.{◌≡◌, ℕ, ◌≤◌}
-use Rattle.upp_limits.specs.rational.specs.Rational.{ℚ, ◌+ℚ◌, ◌≤ℚ◌}
-use Rattle.upp_limits.specs.rational.specs.declared.Extended.TheVariants.{Fin}
-use Rattle.upp_limits.specs.upp_curve.specs.Curve.{SpecCurve, value_at}
+use Rattle.rational.specs.Rational.{ℚ, ◌+ℚ◌, ◌≤ℚ◌}
+use Rattle.rational.specs.declared.Extended.TheVariants.{Fin}
+use Rattle.upp_curve.specs.Curve.{SpecCurve, value_at}
 use Rattle.upp_limits.specs.Periods.{period_of, period_or}
 use Rattle.upp_limits.specs.Limits.{Sizes}
 use Rattle.upp_limits.specs.Windows.{IsLeast}

@@ -1,15 +1,15 @@
 -- The end of a call's window as whole periods after a start: from when on its periods are counted, how many the
 -- window holds, and how long they are. Own choice.
 use Rattle.std.specs.Prelude.{◌≡◌, ℕ, ◌+◌}
-use Rattle.upp_limits.specs.rational.specs.Rational.{ℚ, ◌+ℚ◌, ◌≤ℚ◌}
-use Rattle.upp_limits.specs.rational.specs.Ratio.{SumFits}
-use Rattle.upp_limits.specs.rational.specs.declared.Extended.TheVariants.{Fin, Inf}
+use Rattle.rational.specs.Rational.{ℚ, ◌+ℚ◌, ◌≤ℚ◌}
+use Rattle.rational.specs.Ratio.{SumFits}
+use Rattle.rational.specs.declared.Extended.TheVariants.{Fin, Inf}
 use Rattle.upp_limits.specs.declared.op_kind.OpKind.{OpKind}
 use Rattle.upp_limits.specs.declared.op_kind.OpKind.TheVariants.{Sum, Min, Max, PosDiff, PosMinus, Scale, Shift, RunSup, RunInf, FifoLeft, Convolve, Deconvolve, Horizontal, Vertical, Itself}
-use Rattle.upp_limits.specs.upp_curve.specs.Curve.{SpecCurve}
-use Rattle.upp_limits.specs.upp_curve.specs.Curves.{IsCurve}
-use Rattle.upp_limits.specs.min_plus.specs.Functions.{zero_q}
-use Rattle.upp_limits.specs.upp_curve.specs.Steady.{steady}
+use Rattle.upp_curve.specs.Curve.{SpecCurve}
+use Rattle.upp_curve.specs.Curves.{IsCurve}
+use Rattle.min_plus.specs.Functions.{zero_q}
+use Rattle.upp_curve.specs.Steady.{steady}
 use Rattle.upp_limits.specs.Periods.{common_period, own_period, period_of, period_or, both_steady, moved_steady}
 use Rattle.upp_limits.specs.Windows.{window_at}
 use Rattle.curve_call.specs.declared.windows.CallWindow.{CallWindow}

@@ -4,7 +4,7 @@ use Rattle.outcomes.specs.Calls.{IsDeterminedBut}
 use Rattle.upp_limits.specs.declared.op_kind.OpKind.{OpKind}
 use Rattle.upp_limits.specs.declared.op_kind.OpFault.{OpFault}
 use Rattle.upp_limits.specs.declared.op_kind.OpFault.TheVariants.{TooMany, TooWide, NoMemory}
-use Rattle.upp_limits.specs.upp_curve.specs.Curve.{SpecCurve}
+use Rattle.upp_curve.specs.Curve.{SpecCurve}
 use Rattle.upp_limits.specs.Outcome.{IsWithin, IsCauseOf}
 use Rattle.curve_call.specs.Answers.{IsMadeBy}
 use Rattle.curve_call.specs.Calls.{Applies}

@@ -1,11 +1,11 @@
 -- What holds for a period from some number of periods on holds ever after. (Bouillard, Boyer and Le Corronc: of two
 -- functions that repeat the one of smaller rate is below the other in the end.)
 use Rattle.std.specs.Prelude.{ℕ, pos}
-use Rattle.upp_limits.specs.rational.specs.Rational.{ℚ, ◌≤ℚ◌, ◌<ℚ◌, int}
-use Rattle.upp_limits.specs.rational.specs.Extended.{Ext, ◌≤ₑ◌, ◌<ₑ◌}
-use Rattle.upp_limits.specs.upp_curve.specs.Curve.{SpecCurve, value_at}
-use Rattle.upp_limits.specs.upp_curve.specs.Curves.{IsCurve}
-use Rattle.upp_limits.specs.upp_curve.specs.Steady.{steady, rate, IsWholePeriods}
+use Rattle.rational.specs.Rational.{ℚ, ◌≤ℚ◌, ◌<ℚ◌, int}
+use Rattle.rational.specs.Extended.{Ext, ◌≤ₑ◌, ◌<ₑ◌}
+use Rattle.upp_curve.specs.Curve.{SpecCurve, value_at}
+use Rattle.upp_curve.specs.Curves.{IsCurve}
+use Rattle.upp_curve.specs.Steady.{steady, rate, IsWholePeriods}
 use Rattle.upp_limits.specs.Periods.{periods_after}
 use Rattle.upp_limits.specs.Windows.{IsSlowerBelow}
 

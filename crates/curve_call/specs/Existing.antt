@@ -1,10 +1,10 @@
 -- There are such windows, whether or not there is memory for them. Own choice.
 use Rattle.std.specs.Prelude.{true, false, List}
-use Rattle.upp_limits.specs.rational.specs.Rational.{ℚ}
-use Rattle.upp_limits.specs.rational.specs.Extended.{min_ext, max_ext}
-use Rattle.upp_limits.specs.upp_curve.specs.declared.affine_segment.line.Piece.{Piece}
-use Rattle.upp_limits.specs.upp_curve.specs.affine_segment.Pieces.{StartsAtZero}
-use Rattle.upp_limits.specs.min_plus.specs.Pointwise.{excess}
+use Rattle.rational.specs.Rational.{ℚ}
+use Rattle.rational.specs.Extended.{min_ext, max_ext}
+use Rattle.upp_curve.specs.declared.affine_segment.line.Piece.{Piece}
+use Rattle.upp_curve.specs.affine_segment.Pieces.{StartsAtZero}
+use Rattle.min_plus.specs.Pointwise.{excess}
 use Rattle.curve_call.specs.declared.stretch.Both.{Both}
 use Rattle.curve_call.specs.Stretches.{IsOverlay}
 use Rattle.curve_call.specs.Pointwise.{IsWindowSum}

@@ -1,12 +1,12 @@
 -- When each kind of call has finite answers. A curve is finite where each of its values from 0 on is, so that a
 -- finite answer at each time is all that there is to it. (Own choice.)
 use Rattle.std.specs.Prelude.{◌⊎◌}
-use Rattle.upp_limits.specs.rational.specs.Rational.{ℚ, ◌≤ℚ◌}
-use Rattle.upp_limits.specs.rational.specs.Extended.{Ext, ◌≤ₑ◌}
-use Rattle.upp_limits.specs.rational.specs.declared.Extended.TheVariants.{Fin, Inf}
+use Rattle.rational.specs.Rational.{ℚ, ◌≤ℚ◌}
+use Rattle.rational.specs.Extended.{Ext, ◌≤ₑ◌}
+use Rattle.rational.specs.declared.Extended.TheVariants.{Fin, Inf}
 use Rattle.upp_limits.specs.declared.op_kind.OpKind.{OpKind}
 use Rattle.upp_limits.specs.declared.op_kind.OpKind.TheVariants.{Sum, Min, Max, PosDiff, PosMinus, Scale, Shift, RunSup, RunInf, FifoLeft, Convolve, Deconvolve, Horizontal, Vertical, Itself}
-use Rattle.upp_limits.specs.min_plus.specs.Functions.{zero_q, IsFinite}
+use Rattle.min_plus.specs.Functions.{zero_q, IsFinite}
 use Rattle.curve_call.specs.Answers.{IsAnswer}
 
 -- up to each time it is at most some number

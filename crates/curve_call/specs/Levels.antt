@@ -1,8 +1,8 @@
 -- A level for ever: the curve of one value.
 use Rattle.std.specs.Prelude.{pos}
-use Rattle.upp_limits.specs.rational.specs.Rational.{ℚ, int}
-use Rattle.upp_limits.specs.upp_curve.specs.Curve.{SpecCurve}
-use Rattle.upp_limits.specs.upp_curve.specs.Kinds.{bucket}
+use Rattle.rational.specs.Rational.{ℚ, int}
+use Rattle.upp_curve.specs.Curve.{SpecCurve}
+use Rattle.upp_curve.specs.Kinds.{bucket}
 
 -- a bucket that gains nothing
 abbrev pub level_curve : ℚ → SpecCurve

@@ -27,4 +27,3 @@ pub mod Operands
 pub mod Worked
 pub mod Lower
 pub mod Existing
-pub use Rattle.upp_normal as upp_normal

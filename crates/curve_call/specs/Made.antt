@@ -2,15 +2,15 @@
 -- of it, of each stretch on which both go on with one line. (Le Boudec and Thiran, chapter 3; the pieces are our own
 -- choice.)
 use Rattle.std.specs.Prelude.{◌≡◌, Bool, true, false, pos, not, List, [], ◌∷◌, ◌++◌, Option, Some, None}
-use Rattle.upp_limits.specs.rational.specs.Rational.{ℚ, ◌-ℚ◌, ◌<ℚ◌, neg_ℚ, int}
-use Rattle.upp_limits.specs.rational.specs.Ratio.{SumFits}
-use Rattle.upp_limits.specs.rational.specs.Extended.{Ext, min_ext, max_ext}
-use Rattle.upp_limits.specs.rational.specs.declared.Extended.TheVariants.{Fin, Inf}
-use Rattle.upp_limits.specs.upp_curve.specs.declared.affine_segment.line.Line.{Line}
-use Rattle.upp_limits.specs.upp_curve.specs.declared.affine_segment.line.Piece.{Piece}
-use Rattle.upp_limits.specs.upp_curve.specs.affine_segment.Values.{line_value}
-use Rattle.upp_limits.specs.min_plus.specs.Pointwise.{excess}
-use Rattle.upp_limits.specs.upp_curve.specs.affine_segment.Fits.{LineFitsAt}
+use Rattle.rational.specs.Rational.{ℚ, ◌-ℚ◌, ◌<ℚ◌, neg_ℚ, int}
+use Rattle.rational.specs.Ratio.{SumFits}
+use Rattle.rational.specs.Extended.{Ext, min_ext, max_ext}
+use Rattle.rational.specs.declared.Extended.TheVariants.{Fin, Inf}
+use Rattle.upp_curve.specs.declared.affine_segment.line.Line.{Line}
+use Rattle.upp_curve.specs.declared.affine_segment.line.Piece.{Piece}
+use Rattle.upp_curve.specs.affine_segment.Values.{line_value}
+use Rattle.min_plus.specs.Pointwise.{excess}
+use Rattle.upp_curve.specs.affine_segment.Fits.{LineFitsAt}
 use Rattle.curve_call.specs.declared.stretch.Both.{Both}
 use Rattle.curve_call.specs.declared.lie.Lie.{Lie}
 use Rattle.curve_call.specs.declared.made.Made.{Made}

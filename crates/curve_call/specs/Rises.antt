@@ -1,13 +1,13 @@
 -- The steps to the rise of a curve over a time fit. Own choice.
 use Rattle.std.specs.Prelude.{List, Option, Some, None}
-use Rattle.upp_limits.specs.rational.specs.Rational.{ℚ, ◌*ℚ◌, ◌/ℚ◌}
-use Rattle.upp_limits.specs.rational.specs.Ratio.{IsSmall}
-use Rattle.upp_limits.specs.upp_curve.specs.declared.affine_segment.line.Line.{Line}
-use Rattle.upp_limits.specs.upp_curve.specs.declared.affine_segment.line.Piece.{Piece}
-use Rattle.upp_limits.specs.upp_curve.specs.declared.curve.Tail.{Tail}
-use Rattle.upp_limits.specs.upp_curve.specs.declared.curve.Tail.TheVariants.{Periodic, Affine, Infinite}
-use Rattle.upp_limits.specs.upp_curve.specs.Curve.{SpecCurve}
-use Rattle.upp_limits.specs.upp_curve.specs.Steady.{last_line}
+use Rattle.rational.specs.Rational.{ℚ, ◌*ℚ◌, ◌/ℚ◌}
+use Rattle.rational.specs.Ratio.{IsSmall}
+use Rattle.upp_curve.specs.declared.affine_segment.line.Line.{Line}
+use Rattle.upp_curve.specs.declared.affine_segment.line.Piece.{Piece}
+use Rattle.upp_curve.specs.declared.curve.Tail.{Tail}
+use Rattle.upp_curve.specs.declared.curve.Tail.TheVariants.{Periodic, Affine, Infinite}
+use Rattle.upp_curve.specs.Curve.{SpecCurve}
+use Rattle.upp_curve.specs.Steady.{last_line}
 
 -- the rise of a period times the number of periods
 pub record PeriodsRise (period rise d : ℚ) : Type 0 where

@@ -1,5 +1,5 @@
 -- What is looked at, as a curve.
-use Rattle.upp_limits.specs.upp_curve.specs.Curve.{SpecCurve}
+use Rattle.upp_curve.specs.Curve.{SpecCurve}
 use Rattle.curve_call.specs.declared.sides.Shown.{Shown}
 use Rattle.curve_call.specs.declared.sides.Shown.TheVariants.{Curve, Level}
 use Rattle.curve_call.specs.Levels.{level_curve}

@@ -1,12 +1,12 @@
 -- Two windows read together: at each start of either, both are cut, so that up to the next one each goes on with one
 -- line. A window is a list of pieces from 0 on, read up to some end. Own choice.
 use Rattle.std.specs.Prelude.{◌≡◌, ◌+◌, ◌≤◌, pos, List, [], ◌∷◌, length, ◌⊎◌}
-use Rattle.upp_limits.specs.rational.specs.Rational.{ℚ, ◌≤ℚ◌, int}
-use Rattle.upp_limits.specs.upp_curve.specs.declared.affine_segment.line.Piece.{Piece}
-use Rattle.upp_limits.specs.upp_curve.specs.affine_segment.Values.{line_value}
-use Rattle.upp_limits.specs.upp_curve.specs.affine_segment.Reading.{read, line_in}
-use Rattle.upp_limits.specs.upp_curve.specs.affine_segment.Pieces.{HasStart, StartsAtZero}
-use Rattle.upp_limits.specs.upp_curve.specs.affine_segment.Fits.{LineFitsAt}
+use Rattle.rational.specs.Rational.{ℚ, ◌≤ℚ◌, int}
+use Rattle.upp_curve.specs.declared.affine_segment.line.Piece.{Piece}
+use Rattle.upp_curve.specs.affine_segment.Values.{line_value}
+use Rattle.upp_curve.specs.affine_segment.Reading.{read, line_in}
+use Rattle.upp_curve.specs.affine_segment.Pieces.{HasStart, StartsAtZero}
+use Rattle.upp_curve.specs.affine_segment.Fits.{LineFitsAt}
 use Rattle.curve_call.specs.declared.stretch.Both.{Both}
 
 -- a piece cut at x: from there on it goes on with its line

@@ -1,9 +1,9 @@
 -- Steps that fit on the way to the times of a call. Own choice.
 use Rattle.std.specs.Prelude.{ℕ, ◌<◌, ◌^◌, pos}
-use Rattle.upp_limits.specs.rational.specs.Rational.{ℚ, ◌+ℚ◌, ◌*ℚ◌, int}
-use Rattle.upp_limits.specs.rational.specs.Ratio.{IsSmall, SumFits}
-use Rattle.upp_limits.specs.upp_curve.specs.Curve.{SpecCurve}
-use Rattle.upp_limits.specs.upp_curve.specs.Steady.{rank_of, steady}
+use Rattle.rational.specs.Rational.{ℚ, ◌+ℚ◌, ◌*ℚ◌, int}
+use Rattle.rational.specs.Ratio.{IsSmall, SumFits}
+use Rattle.upp_curve.specs.Curve.{SpecCurve}
+use Rattle.upp_curve.specs.Steady.{rank_of, steady}
 use Rattle.upp_limits.specs.Periods.{common_period, both_steady, period_of, period_or}
 
 -- 1 later than the rank

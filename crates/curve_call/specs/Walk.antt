@@ -1,8 +1,8 @@
 -- One step of the walk over two windows: which of the next pieces comes first.
 use Rattle.std.specs.Prelude.{◌≡◌, ℕ, ◌+◌, List, ◌⊎◌, Some, IfSome, slice_get, slice_index_or}
-use Rattle.upp_limits.specs.rational.specs.Rational.{ℚ, ◌<ℚ◌}
-use Rattle.upp_limits.specs.upp_curve.specs.declared.affine_segment.line.Piece.{Piece}
-use Rattle.upp_limits.specs.upp_curve.specs.affine_segment.Fits.{LineFitsAt}
+use Rattle.rational.specs.Rational.{ℚ, ◌<ℚ◌}
+use Rattle.upp_curve.specs.declared.affine_segment.line.Piece.{Piece}
+use Rattle.upp_curve.specs.affine_segment.Fits.{LineFitsAt}
 use Rattle.curve_call.specs.declared.stretch.Walk.{Walk}
 use Rattle.curve_call.specs.Stretches.{cut_at}
 

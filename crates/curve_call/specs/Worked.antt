@@ -1,8 +1,8 @@
 -- Two windows for tests: a level at 1, and a ramp that rises by 1. They meet at 1.
 use Rattle.std.specs.Prelude.{pos, List, [], ◌∷◌, Some}
-use Rattle.upp_limits.specs.rational.specs.Rational.{int}
-use Rattle.upp_limits.specs.rational.specs.declared.Extended.TheVariants.{Fin}
-use Rattle.upp_limits.specs.upp_curve.specs.declared.affine_segment.line.Piece.{Piece}
+use Rattle.rational.specs.Rational.{int}
+use Rattle.rational.specs.declared.Extended.TheVariants.{Fin}
+use Rattle.upp_curve.specs.declared.affine_segment.line.Piece.{Piece}
 
 abbrev pub level_pieces : List Piece
 level_pieces = record {

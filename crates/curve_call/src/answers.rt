@@ -1,17 +1,17 @@
 //! The curve of a call's answer, from its pieces in a window.
 
 ghost use Rattle.std.specs.Prelude.{IfOk};
-ghost use Rattle.upp_limits.specs.upp_curve.specs.affine_segment.Reading.{read};
-ghost use Rattle.upp_limits.specs.upp_curve.specs.Curve.{repeated};
+ghost use Rattle.upp_curve.specs.affine_segment.Reading.{read};
+ghost use Rattle.upp_curve.specs.Curve.{repeated};
 ghost use Rattle.upp_normal.specs.Normalising.{HasValues};
 ghost use Rattle.curve_call.specs.Answering.{IsAnswerWindow};
 
 use crate::frame::Frame;
+use fraction128::Frac;
 use std::alloc::{AllocError, Global};
+use upp_curve::affine_segment::Piece;
+use upp_curve::{Curve, Tail};
 use upp_limits::OpFault;
-use upp_limits::fraction128::Frac;
-use upp_limits::upp_curve::affine_segment::Piece;
-use upp_limits::upp_curve::{Curve, Tail};
 use upp_normal::{RawCurve, normalise_on};
 
 /// The curve of a call, or why there is none.

@@ -1,12 +1,12 @@
 //! A call with some number of periods between two: its limits.
 
 ghost use Rattle.std.specs.Prelude.{IfErr};
-ghost use Rattle.upp_limits.specs.upp_curve.specs.Curves.{IsCurve};
+ghost use Rattle.upp_curve.specs.Curves.{IsCurve};
 ghost use Rattle.curve_call.specs.CallWindows.{IsForward};
 ghost use Rattle.curve_call.specs.FirstWindows.{IsRefusedBetween};
 
 use crate::frame::within;
-use upp_limits::upp_curve::Curve;
+use upp_curve::Curve;
 use upp_limits::{OpFault, OpKind};
 
 /// Refuses a call that is refused with each number of periods from `low` to `high`, where the windows with these two

@@ -1,10 +1,10 @@
 //! Between which numbers the least number of periods is, from few numbers of each curve.
 
 ghost use Rattle.std.specs.Prelude.{ℕ, ◌≡◌, ◌≤◌, pos, IfSome};
-ghost use Rattle.upp_limits.specs.rational.specs.Rational.{ℚ, int, ◌+ℚ◌, ◌-ℚ◌, ◌<ℚ◌};
-ghost use Rattle.upp_limits.specs.rational.specs.Extended.{◌<ₑ◌};
-ghost use Rattle.upp_limits.specs.upp_curve.specs.Curve.{SpecCurve, value_at};
-ghost use Rattle.upp_limits.specs.upp_curve.specs.Steady.{rate, rise_over};
+ghost use Rattle.rational.specs.Rational.{ℚ, int, ◌+ℚ◌, ◌-ℚ◌, ◌<ℚ◌};
+ghost use Rattle.rational.specs.Extended.{◌<ₑ◌};
+ghost use Rattle.upp_curve.specs.Curve.{SpecCurve, value_at};
+ghost use Rattle.upp_curve.specs.Steady.{rate, rise_over};
 ghost use Rattle.upp_limits.specs.Periods.{periods_after};
 ghost use Rattle.upp_limits.specs.Limits.{Sizes};
 ghost use Rattle.upp_limits.specs.Windows.{IsBelowFor, IsSlowerBelow};
@@ -18,8 +18,8 @@ ghost use Rattle.curve_call.specs.Bounds.{AreBounds, IsMost, OwnWindow, own_or};
 use crate::gaps::{Gap, gap_of, side_gap};
 use crate::least::{is_slower, lead_over, least_times, rise_of};
 use crate::sides::Side;
-use upp_limits::fraction128::{Frac, sum};
-use upp_limits::upp_curve::Curve;
+use fraction128::{Frac, sum};
+use upp_curve::Curve;
 
 /// Two numbers that a third one is between, or equal to.
 #[derive(Debug, Clone, Copy)]

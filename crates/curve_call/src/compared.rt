@@ -1,15 +1,15 @@
 //! The lower, the upper and the excess of two windows.
 
 ghost use Rattle.std.specs.Prelude.{true, false, IfOk};
-ghost use Rattle.upp_limits.specs.rational.specs.Extended.{min_ext, max_ext};
-ghost use Rattle.upp_limits.specs.min_plus.specs.Pointwise.{excess};
+ghost use Rattle.rational.specs.Extended.{min_ext, max_ext};
+ghost use Rattle.min_plus.specs.Pointwise.{excess};
 ghost use Rattle.curve_call.specs.Made.{made_value, made_rises};
 ghost use Rattle.curve_call.specs.Operands.{HaveSizes, IsMadeOf};
 
 use crate::made::{Made, MadePieces, made_of};
+use fraction128::Frac;
 use std::alloc::Global;
-use upp_limits::fraction128::Frac;
-use upp_limits::upp_curve::affine_segment::Piece;
+use upp_curve::affine_segment::Piece;
 
 fn window_made(alloc: Global, made: Made, f: &[Piece], g: &[Piece], end: Frac) -> MadePieces
     requires { HaveSizes end f.now g.now }

@@ -6,8 +6,8 @@ ghost use Rattle.curve_call.specs.Frames.{IsFrame, IsRefusedAt, IsWideOver};
 ghost use Rattle.upp_limits.specs.Covered.{AreNarrowGrids};
 
 use crate::windows::call_window;
-use upp_limits::fraction128::Frac;
-use upp_limits::upp_curve::Curve;
+use fraction128::Frac;
+use upp_curve::Curve;
 use upp_limits::{CallGrids, OpFault, OpKind, is_few, narrow_grids};
 
 /// A call within both limits: its window, and the grids of its times and of its values.

@@ -1,13 +1,13 @@
 //! By how much one curve is above another over a window.
 
 ghost use Rattle.std.specs.Prelude.{◌≡◌, ◌↔◌, IsTrue, pos};
-ghost use Rattle.upp_limits.specs.rational.specs.Rational.{ℚ, int, ◌+ℚ◌, ◌-ℚ◌, ◌≤ℚ◌, ◌<ℚ◌, neg_ℚ};
-ghost use Rattle.upp_limits.specs.rational.specs.Ratio.{SumFits};
-ghost use Rattle.upp_limits.specs.rational.specs.MinMax.{max_q, min_q};
-ghost use Rattle.upp_limits.specs.rational.specs.Extended.{Ext};
-ghost use Rattle.upp_limits.specs.upp_curve.specs.affine_segment.Values.{line_value};
-ghost use Rattle.upp_limits.specs.upp_curve.specs.Curve.{value_at};
-ghost use Rattle.upp_limits.specs.upp_curve.specs.affine_segment.Fits.{LineFitsAt};
+ghost use Rattle.rational.specs.Rational.{ℚ, int, ◌+ℚ◌, ◌-ℚ◌, ◌≤ℚ◌, ◌<ℚ◌, neg_ℚ};
+ghost use Rattle.rational.specs.Ratio.{SumFits};
+ghost use Rattle.rational.specs.MinMax.{max_q, min_q};
+ghost use Rattle.rational.specs.Extended.{Ext};
+ghost use Rattle.upp_curve.specs.affine_segment.Values.{line_value};
+ghost use Rattle.upp_curve.specs.Curve.{value_at};
+ghost use Rattle.upp_curve.specs.affine_segment.Fits.{LineFitsAt};
 ghost use Rattle.upp_limits.specs.Limits.{Sizes};
 ghost use Rattle.upp_normal.specs.Ahead.{GoesOn, HasWindow, IsTimeIn};
 ghost use Rattle.curve_call.specs.Gaps.{InWindow, IsGap};
@@ -22,10 +22,10 @@ ghost use Rattle.curve_call.specs.GapSteps.{
 };
 
 use crate::sides::Side;
-use upp_limits::fraction128::{Ext, Frac, difference, greater, is_less};
-use upp_limits::rational::Extended;
-use upp_limits::upp_curve::Curve;
-use upp_limits::upp_curve::affine_segment::line_value;
+use fraction128::{Ext, Frac, difference, greater, is_less};
+use rational::Extended;
+use upp_curve::Curve;
+use upp_curve::affine_segment::line_value;
 use upp_normal::Stretch;
 
 /// By how much one function is above another over some times, where the other is finite.

@@ -1,13 +1,13 @@
 //! The first look at a call: its window with no period, where the gauge is within the limit.
 
 ghost use Rattle.std.specs.Prelude.{IfOk, IfErr};
-ghost use Rattle.upp_limits.specs.upp_curve.specs.Curves.{IsCurve};
+ghost use Rattle.upp_curve.specs.Curves.{IsCurve};
 ghost use Rattle.curve_call.specs.CallWindows.{IsForward, SecondIsCurve};
 ghost use Rattle.curve_call.specs.FirstWindows.{IsFirstWindow, IsWideAtFirst};
 
 use crate::frame::within;
 use crate::windows::{CallWindow, call_window};
-use upp_limits::upp_curve::Curve;
+use upp_curve::Curve;
 use upp_limits::{OpFault, OpKind};
 
 /// The window of a call with no period. Refused with TooWide exactly where its gauge is 2^120 or more, however many

@@ -1,8 +1,8 @@
 ghost use Rattle.std.specs.Prelude.{◌≡◌, IfOk};
-ghost use Rattle.upp_limits.specs.upp_curve.specs.Curves.{IsCurve};
+ghost use Rattle.upp_curve.specs.Curves.{IsCurve};
 
+use upp_curve::Curve;
 use upp_limits::OpFault;
-use upp_limits::upp_curve::Curve;
 
 /// The answer of a call, as it is, with what the type of its curve keeps: a contract that says what curve a call
 /// makes needs that it is one.

@@ -1,13 +1,13 @@
 ghost use Rattle.std.specs.Prelude.{Result};
-ghost use Rattle.upp_limits.specs.upp_curve.specs.Curve.{SpecCurve};
+ghost use Rattle.upp_curve.specs.Curve.{SpecCurve};
 ghost use Rattle.upp_limits.specs.declared.op_kind.OpFault.{OpFault};
 ghost use Rattle.outcomes.specs.Calls.{Then};
 ghost use Rattle.curve_call.specs.Determined.{AppliesIsDetermined, AreDetermined};
 ghost use Rattle.curve_call.specs.Finite.{AnswersAreFinite};
 ghost use Rattle.curve_call.specs.Growth.{AnswersGrow};
 
+use upp_curve::Curve;
 use upp_limits::OpFault;
-use upp_limits::upp_curve::Curve;
 
 /// Calls on a curve, with what they may answer, where that is determined.
 pub trait Making {

@@ -1,11 +1,11 @@
 //! From which number of periods on the slower of two curves is nowhere above the faster.
 
 ghost use Rattle.std.specs.Prelude.{ℕ, ◌≡◌, ◌≢◌, ◌↔◌, IsTrue, pos, MatchOption};
-ghost use Rattle.upp_limits.specs.rational.specs.Rational.{ℚ, int, ◌+ℚ◌, ◌-ℚ◌, ◌*ℚ◌, ◌/ℚ◌, ◌≤ℚ◌, ◌<ℚ◌, neg_ℚ};
-ghost use Rattle.upp_limits.specs.rational.specs.Ratio.{IsSmall, SumFits};
-ghost use Rattle.upp_limits.specs.rational.specs.Extended.{◌<ₑ◌};
-ghost use Rattle.upp_limits.specs.upp_curve.specs.Curve.{value_at};
-ghost use Rattle.upp_limits.specs.upp_curve.specs.Steady.{rate, rise_over};
+ghost use Rattle.rational.specs.Rational.{ℚ, int, ◌+ℚ◌, ◌-ℚ◌, ◌*ℚ◌, ◌/ℚ◌, ◌≤ℚ◌, ◌<ℚ◌, neg_ℚ};
+ghost use Rattle.rational.specs.Ratio.{IsSmall, SumFits};
+ghost use Rattle.rational.specs.Extended.{◌<ₑ◌};
+ghost use Rattle.upp_curve.specs.Curve.{value_at};
+ghost use Rattle.upp_curve.specs.Steady.{rate, rise_over};
 ghost use Rattle.upp_limits.specs.Periods.{periods_after};
 ghost use Rattle.upp_limits.specs.Limits.{Sizes};
 ghost use Rattle.upp_limits.specs.Windows.{IsBelowFor, IsLeast};
@@ -17,9 +17,9 @@ ghost use Rattle.curve_call.specs.Bounds.{IsFiniteLate};
 
 use crate::gaps::{Gap, side_gap};
 use crate::sides::Side;
-use upp_limits::fraction128::{Frac, difference, is_less, product, quotient, sum};
-use upp_limits::rational::Extended;
-use upp_limits::upp_curve::Curve;
+use fraction128::{Frac, difference, is_less, product, quotient, sum};
+use rational::Extended;
+use upp_curve::Curve;
 
 /// By how much a curve rises over d.
 pub(crate) fn rise_of(c: &Side, d: Frac) -> Frac

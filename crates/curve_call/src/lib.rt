@@ -43,7 +43,6 @@ pub use sides::{Side, period_or};
 pub use stretch::{Both, overlay};
 pub use sum::window_sum;
 pub use times::{begin, common_period, own_period};
-pub use upp_normal;
 pub use upp_normal::steady_time;
 pub use window_laws::windows_exist;
 pub use windows::{CallWindow, call_window};

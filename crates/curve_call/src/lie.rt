@@ -1,13 +1,13 @@
 //! How two lines lie on an open stretch.
 
 ghost use Rattle.std.specs.Prelude.{◌≡◌, Some, None};
-ghost use Rattle.upp_limits.specs.upp_curve.specs.declared.affine_segment.line.Line.{Line};
+ghost use Rattle.upp_curve.specs.declared.affine_segment.line.Line.{Line};
 ghost use Rattle.curve_call.specs.Lies.{IsLie, MeetsAt, CrossFits};
 
 use crate::stretch::Both;
+use fraction128::{Frac, difference, is_less, quotient};
 use std::cmp::Ordering;
-use upp_limits::fraction128::{Frac, difference, is_less, quotient};
-use upp_limits::upp_curve::affine_segment::Line;
+use upp_curve::affine_segment::Line;
 
 /// How two lines lie on an open stretch, up to where they change places, or to its end.
 #[derive(Clone, Copy)]

@@ -1,14 +1,14 @@
 //! The lower of two windows of any pieces.
 
 ghost use Rattle.std.specs.Prelude.{IfOk};
-ghost use Rattle.upp_limits.specs.upp_curve.specs.affine_segment.Pieces.{StartsAtZero};
+ghost use Rattle.upp_curve.specs.affine_segment.Pieces.{StartsAtZero};
 ghost use Rattle.curve_call.specs.Stretches.{CutsFit};
 ghost use Rattle.curve_call.specs.Lower.{LowerFits, IsLowerOf};
 
 use crate::made::{Made, made_of};
+use fraction128::Frac;
 use std::alloc::{AllocError, Global};
-use upp_limits::fraction128::Frac;
-use upp_limits::upp_curve::affine_segment::Piece;
+use upp_curve::affine_segment::Piece;
 
 /// The lower of two windows at each time from 0 on and before `end`, where the steps of their stretches fit. Only a
 /// lack of memory is an error.

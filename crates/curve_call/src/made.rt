@@ -1,21 +1,21 @@
 //! What is made of two windows at each time: the lower, the upper, and what the first has above the second.
 
 ghost use Rattle.std.specs.Prelude.{◌≡◌, pos, IfOk, OnOk};
-ghost use Rattle.upp_limits.specs.rational.specs.Rational.{◌-ℚ◌, ◌≤ℚ◌, neg_ℚ, int};
-ghost use Rattle.upp_limits.specs.rational.specs.Ratio.{SumFits};
-ghost use Rattle.upp_limits.specs.rational.specs.MinMax.{min_q, max_q};
-ghost use Rattle.upp_limits.specs.rational.specs.Extended.{min_ext, max_ext};
-ghost use Rattle.upp_limits.specs.min_plus.specs.Pointwise.{excess};
-ghost use Rattle.upp_limits.specs.upp_curve.specs.affine_segment.Pieces.{StartsAtZero};
+ghost use Rattle.rational.specs.Rational.{◌-ℚ◌, ◌≤ℚ◌, neg_ℚ, int};
+ghost use Rattle.rational.specs.Ratio.{SumFits};
+ghost use Rattle.rational.specs.MinMax.{min_q, max_q};
+ghost use Rattle.rational.specs.Extended.{min_ext, max_ext};
+ghost use Rattle.min_plus.specs.Pointwise.{excess};
+ghost use Rattle.upp_curve.specs.affine_segment.Pieces.{StartsAtZero};
 ghost use Rattle.curve_call.specs.Stretches.{CutsFit};
 ghost use Rattle.curve_call.specs.Made.{made_value, made_line, line_apart, zero_line, HasParts, IsMadeWindow, ValueApartFits, LineApartFits, StretchMadeFits, MadeWindowFits};
 
 use crate::lie::lie_of;
 use crate::stretch::{Both, at_start, readable_line, step, stretch_end};
+use fraction128::{Ext, Frac, difference, greater, greater_value, lesser_value};
+use rational::Extended;
 use std::alloc::{AllocError, Global};
-use upp_limits::fraction128::{Ext, Frac, difference, greater, greater_value, lesser_value};
-use upp_limits::rational::Extended;
-use upp_limits::upp_curve::affine_segment::{Line, Piece};
+use upp_curve::affine_segment::{Line, Piece};
 
 /// Pieces, or want of memory.
 pub type MadePieces = Result<Vec<Piece>, AllocError>;

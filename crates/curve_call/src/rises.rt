@@ -1,14 +1,14 @@
 //! By how much a curve rises over whole periods.
 
 ghost use Rattle.std.specs.Prelude.{◌≡◌, ◌≢◌, pos};
-ghost use Rattle.upp_limits.specs.rational.specs.Rational.{int, ◌*ℚ◌, ◌/ℚ◌};
-ghost use Rattle.upp_limits.specs.rational.specs.Ratio.{IsSmall};
-ghost use Rattle.upp_limits.specs.upp_curve.specs.Steady.{last_line, rise_over, slope_times};
+ghost use Rattle.rational.specs.Rational.{int, ◌*ℚ◌, ◌/ℚ◌};
+ghost use Rattle.rational.specs.Ratio.{IsSmall};
+ghost use Rattle.upp_curve.specs.Steady.{last_line, rise_over, slope_times};
 ghost use Rattle.curve_call.specs.Rises.{CurveRiseFits, SlopeTimesFits};
 
-use upp_limits::fraction128::{Frac, product, quotient};
-use upp_limits::upp_curve::affine_segment::Piece;
-use upp_limits::upp_curve::{Curve, Tail};
+use fraction128::{Frac, product, quotient};
+use upp_curve::affine_segment::Piece;
+use upp_curve::{Curve, Tail};
 
 // By how much the last line rises over d.
 fn last_rise(pieces: &[Piece], d: Frac) -> Frac

@@ -1,21 +1,21 @@
 //! A curve, or a level for ever, looked at in the same way.
 
 ghost use Rattle.std.specs.Prelude.{ℕ, ◌≡◌, pos};
-ghost use Rattle.upp_limits.specs.rational.specs.Rational.{ℚ};
-ghost use Rattle.upp_limits.specs.rational.specs.Grid.{Whole};
-ghost use Rattle.upp_limits.specs.upp_curve.specs.Curve.{value_at};
+ghost use Rattle.rational.specs.Rational.{ℚ};
+ghost use Rattle.rational.specs.Grid.{Whole};
+ghost use Rattle.upp_curve.specs.Curve.{value_at};
 ghost use Rattle.upp_limits.specs.Limits.{Sizes};
 ghost use Rattle.upp_limits.specs.Periods.{period_of, period_or};
 ghost use Rattle.upp_normal.specs.Operand.{OperandLineAt};
 ghost use Rattle.upp_normal.specs.Ahead.{GoesOn, AtNext, TimesStand, HasWindow, IsTimeIn, GridValue};
-ghost use Rattle.upp_limits.specs.upp_curve.specs.Steady.{rate};
+ghost use Rattle.upp_curve.specs.Steady.{rate};
 ghost use Rattle.curve_call.specs.Levels.{level_curve};
 
+use fraction128::{Ext, Frac};
+use rational::Extended;
 use std::marker::Model;
-use upp_limits::fraction128::{Ext, Frac};
-use upp_limits::rational::Extended;
-use upp_limits::upp_curve::affine_segment::Line;
-use upp_limits::upp_curve::{Curve, Tail};
+use upp_curve::affine_segment::Line;
+use upp_curve::{Curve, Tail};
 use upp_normal::{Stretch, stretch_at};
 
 // What is looked at.
@@ -43,7 +43,7 @@ pub fn period_or(c: &Curve, d: Frac) -> Frac
 }
 
 impl<'a> Model for Side<'a> {
-    ghost use Rattle.upp_limits.specs.upp_curve.specs.Curve.{SpecCurve};
+    ghost use Rattle.upp_curve.specs.Curve.{SpecCurve};
     ghost use Rattle.curve_call.specs.Sides.{shown_curve};
 
     ghost Value = { SpecCurve };

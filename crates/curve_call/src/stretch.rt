@@ -1,18 +1,18 @@
 //! Two windows read together.
 
 ghost use Rattle.std.specs.Prelude.{◌≡◌, ◌+◌, ◌<◌, ◌^◌, ◌⊎◌, length, slice_get, IfOk};
-ghost use Rattle.upp_limits.specs.upp_curve.specs.affine_segment.Values.{line_value};
-ghost use Rattle.upp_limits.specs.upp_curve.specs.affine_segment.Pieces.{StartsAtZero};
-ghost use Rattle.upp_limits.specs.upp_curve.specs.affine_segment.Fits.{LineFitsAt};
+ghost use Rattle.upp_curve.specs.affine_segment.Values.{line_value};
+ghost use Rattle.upp_curve.specs.affine_segment.Pieces.{StartsAtZero};
+ghost use Rattle.upp_curve.specs.affine_segment.Fits.{LineFitsAt};
 ghost use Rattle.curve_call.specs.declared.stretch.Walk.{Walk};
 ghost use Rattle.curve_call.specs.Walk.{IsStart, NextFits, IsStep};
 ghost use Rattle.curve_call.specs.Stretches.{cut_at, IsOverlay, CutsFit};
 
+use fraction128::{Ext, Frac, product, sum};
+use rational::Extended;
 use std::alloc::{AllocError, Global};
 use std::cmp::Ordering;
-use upp_limits::fraction128::{Ext, Frac, product, sum};
-use upp_limits::rational::Extended;
-use upp_limits::upp_curve::affine_segment::{Line, Piece};
+use upp_curve::affine_segment::{Line, Piece};
 
 /// A stretch on which two windows each go on with one line: their pieces from its start on.
 #[derive(Debug, Clone, Copy)]

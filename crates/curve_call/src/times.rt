@@ -1,18 +1,18 @@
 //! Times of a call: common periods, the later of two, and whole periods after a time.
 
 ghost use Rattle.std.specs.Prelude.{◌≡◌, ◌<◌, ◌^◌, pos, IfSome, IsSome};
-ghost use Rattle.upp_limits.specs.rational.specs.Rational.{int, ◌+ℚ◌, ◌<ℚ◌};
-ghost use Rattle.upp_limits.specs.rational.specs.MinMax.{max_q};
-ghost use Rattle.upp_limits.specs.rational.specs.Ratio.{IsSmall, SumFits};
-ghost use Rattle.upp_limits.specs.fraction128.specs.Multiple.{common_multiple};
-ghost use Rattle.upp_limits.specs.upp_curve.specs.Curves.{IsCurve};
-ghost use Rattle.upp_limits.specs.upp_curve.specs.Steady.{steady};
+ghost use Rattle.rational.specs.Rational.{int, ◌+ℚ◌, ◌<ℚ◌};
+ghost use Rattle.rational.specs.MinMax.{max_q};
+ghost use Rattle.rational.specs.Ratio.{IsSmall, SumFits};
+ghost use Rattle.fraction128.specs.Multiple.{common_multiple};
+ghost use Rattle.upp_curve.specs.Curves.{IsCurve};
+ghost use Rattle.upp_curve.specs.Steady.{steady};
 ghost use Rattle.upp_limits.specs.Periods.{common_period, own_period, both_steady, moved_steady, periods_after, period_of, period_or};
 ghost use Rattle.curve_call.specs.Times.{OneLaterFits, BothSteadyFit, MovedFits, PeriodsFit, AheadFits};
 
+use fraction128::Frac;
 use std::cmp::Ordering;
-use upp_limits::fraction128::Frac;
-use upp_limits::upp_curve::{Curve, Tail};
+use upp_curve::{Curve, Tail};
 use upp_normal::steady_time;
 
 /// The period of a curve; none where it has every period.

@@ -1,8 +1,8 @@
 //! The window of a call: from when on its periods are counted, how long they are, and where it ends.
 
 ghost use Rattle.std.specs.Prelude.{◌≡◌, ◌<◌, ◌≤◌, ◌^◌, IfSome, IsSome};
-ghost use Rattle.upp_limits.specs.rational.specs.Ratio.{IsSmall};
-ghost use Rattle.upp_limits.specs.upp_curve.specs.Curves.{IsCurve};
+ghost use Rattle.rational.specs.Ratio.{IsSmall};
+ghost use Rattle.upp_curve.specs.Curves.{IsCurve};
 ghost use Rattle.upp_limits.specs.Gauges.{gauge_at};
 ghost use Rattle.curve_call.specs.CallWindows.{IsForward, start_of, number_of, period_in, SecondIsCurve, StartFits, IsWindow};
 
@@ -10,10 +10,10 @@ use crate::times::{
     ahead, both_steady, common_period, moved_steady, own_period, periods_after, steady_by,
     steady_sum,
 };
+use fraction128::Frac;
+use rational::Extended;
+use upp_curve::Curve;
 use upp_limits::OpKind;
-use upp_limits::fraction128::Frac;
-use upp_limits::rational::Extended;
-use upp_limits::upp_curve::Curve;
 use upp_normal::steady_time;
 
 /// The window of a call.

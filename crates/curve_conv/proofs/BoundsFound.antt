@@ -1,19 +1,19 @@
 -- Bounds of the number of periods of a convolution, over curves.
 use Rattle.std.specs.Prelude.{◌≡◌, ℕ, ◌+◌, ◌≤◌, pos, Option, Some, None, IfSome}
 use Rattle.std.proofs.Common.{arith, sym, subst, inl, inr}
-use Rattle.upp_limits.specs.rational.specs.Rational.{ℚ, ◌+ℚ◌, ◌-ℚ◌, ◌*ℚ◌, ◌/ℚ◌, ◌≤ℚ◌, ◌<ℚ◌, int}
-use Rattle.upp_limits.specs.rational.specs.Gauge.{size_up}
-use Rattle.upp_limits.specs.rational.specs.Grid.{Whole}
-use Rattle.upp_limits.specs.rational.specs.Extended.{Ext, ◌<ₑ◌}
-use Rattle.upp_limits.specs.rational.specs.declared.Extended.TheVariants.{Fin, Inf}
-use Rattle.upp_limits.specs.rational.proofs.Linear.{with3, with5, with7}
-use Rattle.upp_limits.specs.rational.proofs.Laws.{le_refl, le_trans, le_of_lt, one_mul, mul_nonneg, mul_le_mul, mul_le_mul_right}
-use Rattle.upp_limits.specs.rational.proofs.Integers.{nat_le, nat_nonneg}
-use Rattle.upp_limits.specs.rational.proofs.Quotients.{div_le}
-use Rattle.upp_limits.specs.rational.proofs.Grid.{whole_add}
+use Rattle.rational.specs.Rational.{ℚ, ◌+ℚ◌, ◌-ℚ◌, ◌*ℚ◌, ◌/ℚ◌, ◌≤ℚ◌, ◌<ℚ◌, int}
+use Rattle.rational.specs.Gauge.{size_up}
+use Rattle.rational.specs.Grid.{Whole}
+use Rattle.rational.specs.Extended.{Ext, ◌<ₑ◌}
+use Rattle.rational.specs.declared.Extended.TheVariants.{Fin, Inf}
+use Rattle.rational.proofs.Linear.{with3, with5, with7}
+use Rattle.rational.proofs.Laws.{le_refl, le_trans, le_of_lt, one_mul, mul_nonneg, mul_le_mul, mul_le_mul_right}
+use Rattle.rational.proofs.Integers.{nat_le, nat_nonneg}
+use Rattle.rational.proofs.Quotients.{div_le}
+use Rattle.rational.proofs.Grid.{whole_add}
 use Rattle.plain_operators.proofs.pointwise.LatticeCalls.{more_periods}
-use Rattle.upp_limits.specs.upp_curve.specs.Curve.{SpecCurve, value_at}
-use Rattle.upp_limits.specs.upp_curve.specs.Steady.{steady, rate, rise_over, IsWholePeriods}
+use Rattle.upp_curve.specs.Curve.{SpecCurve, value_at}
+use Rattle.upp_curve.specs.Steady.{steady, rate, rise_over, IsWholePeriods}
 use Rattle.upp_limits.specs.Limits.{Sizes}
 use Rattle.upp_limits.proofs.CommonDen.{size_up_within}
 use Rattle.upp_limits.proofs.Operands.{curve_period}
@@ -21,16 +21,16 @@ use Rattle.upp_normal.specs.Ahead.{HasWindow}
 use Rattle.upp_normal.proofs.GaugeRises.{curve_earlier}
 use Rattle.upp_normal.proofs.UnrollSteps.{ext_cases}
 use Rattle.upp_normal.proofs.AnswerRoom.{wide_narrow}
-use Rattle.plain_operators.specs.curve_call.specs.Times.{OneLaterFits}
-use Rattle.plain_operators.specs.curve_call.proofs.CurveTimes.{one_later}
-use Rattle.plain_operators.specs.curve_call.specs.declared.bounds.Bounds.{Bounds}
-use Rattle.plain_operators.specs.curve_call.specs.Bounds.{own_or}
-use Rattle.plain_operators.specs.curve_call.specs.Levels.{level_curve}
-use Rattle.plain_operators.specs.curve_call.specs.Compared.{IsLookedAt}
-use Rattle.plain_operators.specs.curve_call.proofs.EitherOrder.{apart}
-use Rattle.plain_operators.specs.curve_call.proofs.OwnPeriods.{own_period_is}
-use Rattle.plain_operators.specs.curve_call.proofs.RateRises.{rate_rise}
-use Rattle.plain_operators.specs.curve_call.proofs.MostAbove.{own_repeats, finite_rate, not_falling, rates_order}
+use Rattle.curve_call.specs.Times.{OneLaterFits}
+use Rattle.curve_call.proofs.CurveTimes.{one_later}
+use Rattle.curve_call.specs.declared.bounds.Bounds.{Bounds}
+use Rattle.curve_call.specs.Bounds.{own_or}
+use Rattle.curve_call.specs.Levels.{level_curve}
+use Rattle.curve_call.specs.Compared.{IsLookedAt}
+use Rattle.curve_call.proofs.EitherOrder.{apart}
+use Rattle.curve_call.proofs.OwnPeriods.{own_period_is}
+use Rattle.curve_call.proofs.RateRises.{rate_rise}
+use Rattle.curve_call.proofs.MostAbove.{own_repeats, finite_rate, not_falling, rates_order}
 use Rattle.curve_conv.specs.declared.extremes.Extremes.{Extremes}
 use Rattle.curve_conv.specs.Late.{IsLateAfter, IsLateCall}
 use Rattle.curve_conv.specs.LateBounds.{AreCurveExtremes, most_gap, IsLateBounds, IsSlowerBounds}

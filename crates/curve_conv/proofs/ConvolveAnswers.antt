@@ -1,34 +1,34 @@
 -- The convolution of two curves in a call within both limits: its pieces have room, and it repeats from the last period of its window on.
 use Rattle.std.specs.Prelude.{◌≡◌, ◌+◌, pos, List}
 use Rattle.std.proofs.Common.{arith, sym, ap, ◌∙◌, subst, inl, inr}
-use Rattle.upp_limits.specs.rational.specs.Rational.{ℚ, ◌+ℚ◌, ◌-ℚ◌, ◌*ℚ◌, ◌≤ℚ◌, ◌<ℚ◌, int}
-use Rattle.upp_limits.specs.rational.specs.Grid.{Whole}
-use Rattle.upp_limits.specs.rational.specs.Extended.{◌<ₑ◌}
-use Rattle.upp_limits.specs.rational.proofs.Grid.{within_weaken}
-use Rattle.upp_limits.specs.rational.proofs.Linear.{with6}
-use Rattle.upp_limits.specs.rational.proofs.Laws.{le_refl, le_trans, le_of_lt, mul_nonneg}
-use Rattle.upp_limits.specs.rational.proofs.Integers.{nat_nonneg}
-use Rattle.upp_limits.specs.upp_curve.specs.declared.affine_segment.line.Piece.{Piece}
-use Rattle.upp_limits.specs.upp_curve.specs.affine_segment.Reading.{read}
-use Rattle.upp_limits.specs.upp_curve.specs.Curve.{SpecCurve, repeated, value_at}
-use Rattle.upp_limits.specs.min_plus.specs.Convolution.{IsConvolution}
-use Rattle.upp_limits.specs.upp_curve.specs.affine_segment.Pieces.{Each}
+use Rattle.rational.specs.Rational.{ℚ, ◌+ℚ◌, ◌-ℚ◌, ◌*ℚ◌, ◌≤ℚ◌, ◌<ℚ◌, int}
+use Rattle.rational.specs.Grid.{Whole}
+use Rattle.rational.specs.Extended.{◌<ₑ◌}
+use Rattle.rational.proofs.Grid.{within_weaken}
+use Rattle.rational.proofs.Linear.{with6}
+use Rattle.rational.proofs.Laws.{le_refl, le_trans, le_of_lt, mul_nonneg}
+use Rattle.rational.proofs.Integers.{nat_nonneg}
+use Rattle.upp_curve.specs.declared.affine_segment.line.Piece.{Piece}
+use Rattle.upp_curve.specs.affine_segment.Reading.{read}
+use Rattle.upp_curve.specs.Curve.{SpecCurve, repeated, value_at}
+use Rattle.min_plus.specs.Convolution.{IsConvolution}
+use Rattle.upp_curve.specs.affine_segment.Pieces.{Each}
 use Rattle.upp_normal.specs.Normalising.{HasValues}
-use Rattle.upp_limits.specs.upp_curve.specs.Unrolled.{unroll}
-use Rattle.upp_limits.specs.upp_curve.specs.Steady.{steady, rate, rise_over}
+use Rattle.upp_curve.specs.Unrolled.{unroll}
+use Rattle.upp_curve.specs.Steady.{steady, rate, rise_over}
 use Rattle.upp_limits.specs.Periods.{periods_after}
 use Rattle.upp_limits.specs.Limits.{Sizes}
 use Rattle.upp_limits.specs.Sized.{times_largest}
 use Rattle.upp_normal.proofs.AnswerRoom.{more_largest}
 use Rattle.upp_normal.proofs.Below.{unroll_reads}
-use Rattle.upp_limits.specs.upp_curve.proofs.affine_segment.PieceOrder.{each_map}
-use Rattle.plain_operators.specs.curve_call.proofs.TailGrids.{TailOf}
-use Rattle.plain_operators.specs.curve_call.specs.declared.frame.Frame.{Frame}
-use Rattle.plain_operators.specs.curve_call.specs.Answering.{IsAnswerWindow}
-use Rattle.plain_operators.specs.curve_call.proofs.CurveRises.{IsRise}
+use Rattle.upp_curve.proofs.affine_segment.PieceOrder.{each_map}
+use Rattle.curve_call.proofs.TailGrids.{TailOf}
+use Rattle.curve_call.specs.declared.frame.Frame.{Frame}
+use Rattle.curve_call.specs.Answering.{IsAnswerWindow}
+use Rattle.curve_call.proofs.CurveRises.{IsRise}
 use Rattle.plain_operators.specs.pointwise.Lattice.{RisesBy}
 use Rattle.plain_operators.proofs.pointwise.LatticeCalls.{operands, from_is, from_late, from_whole, left_rise, right_rise, some_end, more_periods}
-use Rattle.plain_operators.specs.curve_call.proofs.TailMoves.{rates_compared}
+use Rattle.curve_call.proofs.TailMoves.{rates_compared}
 use Rattle.element_envelope.specs.ConvolutionWindows.{OperandWindows, IsConvolutionWindow}
 use Rattle.element_envelope.specs.SumWindows.{SumPiece}
 use Rattle.element_envelope.proofs.Windows.{agreeing}

@@ -1,19 +1,19 @@
 -- The sizes and the times of a call of the convolution, and which limits it is over.
 use Rattle.std.specs.Prelude.{◌≡◌, ℕ, suc, ◌+◌, ◌<◌, ◌≤◌, ◌^◌, pos, Result, Ok, Err, IfOk, IfErr}
 use Rattle.std.proofs.Common.{arith, sym, ap, ◌∙◌, subst}
-use Rattle.upp_limits.specs.rational.specs.Rational.{ℚ, neg_ℚ, ◌+ℚ◌, ◌-ℚ◌, ◌*ℚ◌, ◌≤ℚ◌, ◌<ℚ◌, int}
-use Rattle.upp_limits.specs.rational.specs.Ratio.{SumFits}
-use Rattle.upp_limits.specs.rational.specs.Grid.{Whole}
-use Rattle.upp_limits.specs.rational.proofs.Linear.{with2, with3, with4, with5}
-use Rattle.upp_limits.specs.rational.proofs.Laws.{le_trans, le_of_lt, one_mul, mul_le_mul_right}
-use Rattle.upp_limits.specs.rational.proofs.Integers.{nat_le}
-use Rattle.upp_limits.specs.rational.proofs.Whole.{one_more_times}
+use Rattle.rational.specs.Rational.{ℚ, neg_ℚ, ◌+ℚ◌, ◌-ℚ◌, ◌*ℚ◌, ◌≤ℚ◌, ◌<ℚ◌, int}
+use Rattle.rational.specs.Ratio.{SumFits}
+use Rattle.rational.specs.Grid.{Whole}
+use Rattle.rational.proofs.Linear.{with2, with3, with4, with5}
+use Rattle.rational.proofs.Laws.{le_trans, le_of_lt, one_mul, mul_le_mul_right}
+use Rattle.rational.proofs.Integers.{nat_le}
+use Rattle.rational.proofs.Whole.{one_more_times}
 use Rattle.upp_limits.specs.declared.op_kind.OpKind.TheVariants.{Convolve}
 use Rattle.upp_limits.specs.declared.op_kind.OpFault.{OpFault}
 use Rattle.upp_limits.specs.declared.op_kind.OpFault.TheVariants.{TooMany, TooWide, NoMemory}
-use Rattle.upp_limits.specs.upp_curve.specs.Curve.{SpecCurve}
-use Rattle.upp_limits.specs.upp_curve.specs.Curves.{IsCurve}
-use Rattle.upp_limits.specs.upp_curve.specs.Steady.{steady, IsWholePeriods}
+use Rattle.upp_curve.specs.Curve.{SpecCurve}
+use Rattle.upp_curve.specs.Curves.{IsCurve}
+use Rattle.upp_curve.specs.Steady.{steady, IsWholePeriods}
 use Rattle.upp_limits.specs.Periods.{common_period, periods_after}
 use Rattle.upp_limits.specs.Windows.{window_at, Meets, IsLeastPeriods, IsSlowerLateLeast}
 use Rattle.upp_limits.specs.Limits.{Sizes, sizes_of, curve_numbers}
@@ -24,27 +24,27 @@ use Rattle.upp_normal.specs.Operand.{AreLimited}
 use Rattle.upp_normal.specs.Ahead.{HasWindow}
 use Rattle.upp_limits.proofs.CurveStands.{are_sizes}
 use Rattle.upp_limits.proofs.Stands.{sizes_stand}
-use Rattle.plain_operators.specs.curve_call.specs.declared.frame.Frame.{Frame}
-use Rattle.plain_operators.specs.curve_call.specs.declared.windows.CallWindow.{CallWindow}
-use Rattle.plain_operators.specs.curve_call.specs.Frames.{IsFrame, IsRefusedAt, sizes_at}
-use Rattle.plain_operators.specs.curve_call.proofs.CallTimes.{first_stands, second_stands, IsCall, start_on, period_on, window_is}
-use Rattle.plain_operators.specs.curve_call.proofs.CallFits.{call_early}
-use Rattle.plain_operators.specs.curve_call.proofs.CurveRises.{common_first, common_second}
-use Rattle.plain_operators.specs.curve_call.proofs.FirstGate.{first_gate, gauge_grows}
-use Rattle.plain_operators.specs.curve_call.proofs.Limited.{refused_cause, frame_within, within_at_least, convolve_least}
-use Rattle.plain_operators.specs.curve_call.proofs.RateRises.{has_window}
-use Rattle.plain_operators.specs.curve_call.proofs.Shifts.{same_least}
+use Rattle.curve_call.specs.declared.frame.Frame.{Frame}
+use Rattle.curve_call.specs.declared.windows.CallWindow.{CallWindow}
+use Rattle.curve_call.specs.Frames.{IsFrame, IsRefusedAt, sizes_at}
+use Rattle.curve_call.proofs.CallTimes.{first_stands, second_stands, IsCall, start_on, period_on, window_is}
+use Rattle.curve_call.proofs.CallFits.{call_early}
+use Rattle.curve_call.proofs.CurveRises.{common_first, common_second}
+use Rattle.curve_call.proofs.FirstGate.{first_gate, gauge_grows}
+use Rattle.curve_call.proofs.Limited.{refused_cause, frame_within, within_at_least, convolve_least}
+use Rattle.curve_call.proofs.RateRises.{has_window}
+use Rattle.curve_call.proofs.Shifts.{same_least}
 use Rattle.plain_operators.specs.pointwise.LatticeCall.{LatticeCall}
-use Rattle.plain_operators.specs.curve_call.specs.FirstWindows.{IsFirstWindow, IsWideAtFirst}
+use Rattle.curve_call.specs.FirstWindows.{IsFirstWindow, IsWideAtFirst}
 use Rattle.plain_operators.proofs.pointwise.LatticeCalls.{at_times, from_is, from_fits}
 use Rattle.curve_conv.specs.Scans.{sizes_in}
-use Rattle.plain_operators.specs.curve_call.specs.declared.bounds.Bounds.{Bounds}
+use Rattle.curve_call.specs.declared.bounds.Bounds.{Bounds}
 use Rattle.curve_conv.specs.Late.{IsSlowerLate, IsSlowerAfter, IsSlowerNumber, IsPartsCall}
 use Rattle.curve_conv.specs.LateBounds.{IsSlowerBounds}
 use Rattle.curve_conv.specs.ConvolveCall.{IsConvolveFrame}
-use Rattle.plain_operators.specs.curve_call.proofs.Tallies.{tally_rises}
-use Rattle.upp_limits.specs.upp_curve.proofs.SteadyTimes.{steady_nonneg}
-use Rattle.upp_limits.specs.rational.proofs.Stretch.{not_earlier}
+use Rattle.curve_call.proofs.Tallies.{tally_rises}
+use Rattle.upp_curve.proofs.SteadyTimes.{steady_nonneg}
+use Rattle.rational.proofs.Stretch.{not_earlier}
 
 -- ---- the call
 

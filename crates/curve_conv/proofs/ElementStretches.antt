@@ -1,25 +1,25 @@
 -- How an element, infinite at other times, goes on from a time.
 use Rattle.std.specs.Prelude.{◌≡◌, Some, None}
 use Rattle.std.proofs.Common.{sym, ap, ◌∙◌, subst, inl}
-use Rattle.upp_limits.specs.rational.specs.Rational.{ℚ, ◌<ℚ◌}
-use Rattle.upp_limits.specs.rational.specs.Extended.{Ext, ◌<ₑ◌}
-use Rattle.upp_limits.specs.rational.specs.declared.Extended.TheVariants.{Fin, Inf}
-use Rattle.upp_limits.specs.rational.proofs.Laws.{lt_trans, lt_irrefl}
-use Rattle.upp_limits.specs.rational.proofs.ExtendedOrder.{lt_ext_trans}
-use Rattle.upp_limits.specs.upp_curve.specs.declared.affine_segment.line.Line.{Line}
-use Rattle.upp_limits.specs.upp_curve.specs.declared.affine_segment.element.Element.TheVariants.{Point, Open}
-use Rattle.upp_limits.specs.upp_curve.specs.affine_segment.Values.{line_at}
-use Rattle.upp_limits.specs.upp_curve.specs.affine_segment.Elements.{element_value}
-use Rattle.upp_limits.specs.upp_curve.proofs.affine_segment.ElementValues.{value_in}
+use Rattle.rational.specs.Rational.{ℚ, ◌<ℚ◌}
+use Rattle.rational.specs.Extended.{Ext, ◌<ₑ◌}
+use Rattle.rational.specs.declared.Extended.TheVariants.{Fin, Inf}
+use Rattle.rational.proofs.Laws.{lt_trans, lt_irrefl}
+use Rattle.rational.proofs.ExtendedOrder.{lt_ext_trans}
+use Rattle.upp_curve.specs.declared.affine_segment.line.Line.{Line}
+use Rattle.upp_curve.specs.declared.affine_segment.element.Element.TheVariants.{Point, Open}
+use Rattle.upp_curve.specs.affine_segment.Values.{line_at}
+use Rattle.upp_curve.specs.affine_segment.Elements.{element_value}
+use Rattle.upp_curve.proofs.affine_segment.ElementValues.{value_in}
 use Rattle.upp_limits.specs.Limits.{Sizes}
 use Rattle.upp_normal.specs.Ahead.{GoesOn, IsBeforeNext, AtNext}
-use Rattle.upp_limits.specs.upp_curve.specs.affine_segment.Fits.{LineFits}
+use Rattle.upp_curve.specs.affine_segment.Fits.{LineFits}
 use Rattle.element_envelope.specs.ElementRoom.{SumEnd, SumPoint, SumSegment}
 use Rattle.element_envelope.specs.SumWindows.{SumValueAt}
 use Rattle.element_envelope.proofs.PairWindows.{sum_value_on}
 use Rattle.element_envelope.proofs.SumSteps.{line_fits_at, line_value_on}
 use Rattle.curve_conv.specs.Stretches.{SumPlace, SumStretch, SumTimeIn, end_time}
-use Rattle.upp_limits.specs.upp_curve.proofs.affine_segment.ElementReading.{value_out}
+use Rattle.upp_curve.proofs.affine_segment.ElementReading.{value_out}
 
 -- ---- values
 

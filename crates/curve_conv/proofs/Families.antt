@@ -1,11 +1,11 @@
 -- Families of sums, as their infima go on from a time: of two together, and of others with the same finite sums.
 use Rattle.std.specs.Prelude.{◌⊎◌, None}
 use Rattle.std.proofs.Common.{refl}
-use Rattle.upp_limits.specs.rational.specs.Rational.{ℚ, ◌≤ℚ◌, ◌<ℚ◌}
-use Rattle.upp_limits.specs.rational.specs.Extended.{Ext, min_ext}
-use Rattle.upp_limits.specs.rational.specs.declared.Extended.TheVariants.{Inf}
-use Rattle.upp_limits.specs.rational.specs.Families.{either}
-use Rattle.upp_limits.specs.rational.proofs.Bounds.{infimum_union, all_infinite}
+use Rattle.rational.specs.Rational.{ℚ, ◌≤ℚ◌, ◌<ℚ◌}
+use Rattle.rational.specs.Extended.{Ext, min_ext}
+use Rattle.rational.specs.declared.Extended.TheVariants.{Inf}
+use Rattle.rational.specs.Families.{either}
+use Rattle.rational.proofs.Bounds.{infimum_union, all_infinite}
 use Rattle.upp_normal.specs.declared.ahead.Stretch.{Stretch}
 use Rattle.upp_normal.specs.Ahead.{GoesOn, IsBeforeNext}
 use Rattle.element_envelope.proofs.Members.{Matched, matched_out}

@@ -1,22 +1,22 @@
 -- The gap of both parts of a convolution is there, and so is the least number of periods: found by proof alone, where no code runs.
 use Rattle.std.specs.Prelude.{◌≡◌, ◌⊎◌, ℕ, suc, zero, ◌<◌, ◌≤◌, pos, Some, None}
 use Rattle.std.proofs.Common.{arith, refl, subst, inl, inr}
-use Rattle.upp_limits.specs.rational.specs.Rational.{ℚ, ◌-ℚ◌, ◌<ℚ◌, int}
-use Rattle.upp_limits.specs.rational.specs.Extended.{Ext}
-use Rattle.upp_limits.specs.rational.proofs.Laws.{le_refl, le_or_lt, antisym}
-use Rattle.upp_limits.specs.upp_curve.specs.affine_segment.Values.{line_value}
-use Rattle.upp_limits.specs.upp_curve.specs.Curve.{SpecCurve, value_at}
+use Rattle.rational.specs.Rational.{ℚ, ◌-ℚ◌, ◌<ℚ◌, int}
+use Rattle.rational.specs.Extended.{Ext}
+use Rattle.rational.proofs.Laws.{le_refl, le_or_lt, antisym}
+use Rattle.upp_curve.specs.affine_segment.Values.{line_value}
+use Rattle.upp_curve.specs.Curve.{SpecCurve, value_at}
 use Rattle.upp_limits.specs.Limits.{Sizes}
 use Rattle.upp_normal.specs.Operand.{AreLimited}
-use Rattle.upp_limits.specs.upp_curve.specs.Steady.{steady, rise_over}
+use Rattle.upp_curve.specs.Steady.{steady, rise_over}
 use Rattle.upp_limits.specs.Periods.{periods_after}
 use Rattle.element_envelope.specs.ElementRoom.{WindowTime}
-use Rattle.plain_operators.specs.curve_call.specs.declared.gaps.Gap.{Gap}
-use Rattle.plain_operators.specs.curve_call.specs.declared.gaps.Gap.TheVariants.{NoTime, Never, Is}
-use Rattle.plain_operators.specs.curve_call.specs.Gaps.{InWindow, IsGap}
-use Rattle.plain_operators.specs.curve_call.specs.GapSteps.{gap_of, larger, earlier_of}
-use Rattle.plain_operators.specs.curve_call.proofs.GapParts.{stretch_gap_is}
-use Rattle.plain_operators.specs.curve_call.proofs.BoundedNumber.{least_found}
+use Rattle.curve_call.specs.declared.gaps.Gap.{Gap}
+use Rattle.curve_call.specs.declared.gaps.Gap.TheVariants.{NoTime, Never, Is}
+use Rattle.curve_call.specs.Gaps.{InWindow, IsGap}
+use Rattle.curve_call.specs.GapSteps.{gap_of, larger, earlier_of}
+use Rattle.curve_call.proofs.GapParts.{stretch_gap_is}
+use Rattle.curve_call.proofs.BoundedNumber.{least_found}
 use Rattle.curve_conv.specs.Late.{IsLateIn, IsLateAfter, IsLateNumber, IsLateCall}
 use Rattle.curve_conv.specs.Scans.{sizes_in}
 use Rattle.curve_conv.specs.Stretches.{SumTimeIn}

@@ -1,12 +1,12 @@
 -- The least number of periods of a convolution is there, and how large it is at most: found by proof alone, where no code runs.
 use Rattle.std.specs.Prelude.{ℕ, suc, zero, ◌<◌, ◌≤◌, pos, Bool, true, false, List, [], ◌++◌, Option, Some, None}
 use Rattle.std.proofs.Common.{arith, sym, refl, inl, inr, true≢false}
-use Rattle.upp_limits.specs.rational.specs.Rational.{ℚ, ◌≤ℚ◌, int}
-use Rattle.upp_limits.specs.rational.specs.Extended.{Ext}
-use Rattle.upp_limits.specs.rational.proofs.Laws.{le_or_lt, lt_irrefl, le_lt_trans}
-use Rattle.upp_limits.specs.upp_curve.specs.declared.affine_segment.element.Element.{Element}
+use Rattle.rational.specs.Rational.{ℚ, ◌≤ℚ◌, int}
+use Rattle.rational.specs.Extended.{Ext}
+use Rattle.rational.proofs.Laws.{le_or_lt, lt_irrefl, le_lt_trans}
+use Rattle.upp_curve.specs.declared.affine_segment.element.Element.{Element}
 use Rattle.upp_normal.specs.declared.ahead.Stretch.{Stretch}
-use Rattle.upp_limits.specs.upp_curve.specs.Curve.{SpecCurve, value_at}
+use Rattle.upp_curve.specs.Curve.{SpecCurve, value_at}
 use Rattle.upp_limits.specs.Limits.{Sizes}
 use Rattle.upp_normal.specs.Ahead.{AtNext, HasWindow}
 use Rattle.element_envelope.specs.ElementRoom.{WindowTime}
@@ -17,7 +17,7 @@ use Rattle.curve_conv.specs.Stretches.{SumStretch, SumTimeIn, IsAhead, point_at,
 use Rattle.curve_conv.proofs.GridSteps.{steps_while}
 use Rattle.curve_conv.proofs.PartLoops.{limit_all, limit_until, limit_room, walk_fewer}
 use Rattle.curve_conv.proofs.SpanLoops.{SpanWalk, span_start, span_facts, span_time, span_step, span_end, spans_make}
-use Rattle.plain_operators.specs.curve_call.proofs.FoundCurves.{curve_goes}
+use Rattle.curve_call.proofs.FoundCurves.{curve_goes}
 use Rattle.curve_conv.proofs.FoundStretches.{lists_go}
 
 -- ---- the elements of a curve over some times

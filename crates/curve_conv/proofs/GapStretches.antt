@@ -1,22 +1,22 @@
 -- The gap of two sums on one stretch: its steps fit, and it stands.
 use Rattle.std.specs.Prelude.{◌≡◌, ◌*◌}
 use Rattle.std.proofs.Common.{arith, sym, subst, inl, inr}
-use Rattle.upp_limits.specs.rational.specs.Rational.{ℚ}
-use Rattle.upp_limits.specs.rational.specs.Extended.{Ext}
-use Rattle.upp_limits.specs.rational.specs.declared.Extended.TheVariants.{Fin, Inf}
-use Rattle.upp_limits.specs.rational.proofs.Grid.{whole_sub}
-use Rattle.upp_limits.specs.rational.proofs.Laws.{le_of_lt}
-use Rattle.upp_limits.specs.rational.proofs.MinMax.{max_q_one}
-use Rattle.upp_limits.specs.upp_curve.specs.affine_segment.Values.{line_value}
+use Rattle.rational.specs.Rational.{ℚ}
+use Rattle.rational.specs.Extended.{Ext}
+use Rattle.rational.specs.declared.Extended.TheVariants.{Fin, Inf}
+use Rattle.rational.proofs.Grid.{whole_sub}
+use Rattle.rational.proofs.Laws.{le_of_lt}
+use Rattle.rational.proofs.MinMax.{max_q_one}
+use Rattle.upp_curve.specs.affine_segment.Values.{line_value}
 use Rattle.upp_normal.specs.declared.ahead.Stretch.{Stretch}
 use Rattle.upp_limits.specs.Limits.{Sizes}
 use Rattle.upp_normal.specs.Operand.{AreLimited, answer_room}
 use Rattle.upp_normal.specs.Room.{TimeHasRoom}
-use Rattle.upp_limits.specs.upp_curve.specs.affine_segment.Fits.{LineFitsAt}
-use Rattle.plain_operators.specs.curve_call.specs.Made.{ValueApartFits}
-use Rattle.plain_operators.specs.curve_call.specs.declared.gaps.Gap.{Gap}
-use Rattle.plain_operators.specs.curve_call.specs.declared.gaps.Gap.TheVariants.{NoTime, Never, Is}
-use Rattle.plain_operators.specs.curve_call.specs.GapSteps.{gap_of, larger, DifferenceFits}
+use Rattle.upp_curve.specs.affine_segment.Fits.{LineFitsAt}
+use Rattle.curve_call.specs.Made.{ValueApartFits}
+use Rattle.curve_call.specs.declared.gaps.Gap.{Gap}
+use Rattle.curve_call.specs.declared.gaps.Gap.TheVariants.{NoTime, Never, Is}
+use Rattle.curve_call.specs.GapSteps.{gap_of, larger, DifferenceFits}
 use Rattle.element_envelope.specs.SumWindows.{SumValueAt}
 use Rattle.element_envelope.proofs.ElementSizes.{gap_within}
 use Rattle.element_envelope.proofs.SumSteps.{place_room, line_fits_to, line_value_to}

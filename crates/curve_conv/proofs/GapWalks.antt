@@ -1,24 +1,24 @@
 -- The gap of two parts of a convolution, stretch by stretch.
 use Rattle.std.specs.Prelude.{◌≡◌, ◌<◌, pos, Option, Some, None}
 use Rattle.std.proofs.Common.{sym, ◌∙◌, refl, subst, inl, inr}
-use Rattle.upp_limits.specs.rational.specs.Rational.{ℚ, ◌≤ℚ◌, ◌<ℚ◌, int}
-use Rattle.upp_limits.specs.rational.specs.Extended.{Ext, ◌≤ₑ◌, ◌<ₑ◌, ◌+ₑ◌}
-use Rattle.upp_limits.specs.rational.specs.declared.Extended.TheVariants.{Fin}
-use Rattle.upp_limits.specs.rational.proofs.Bounds.{infimum_unique, same_infimum}
-use Rattle.upp_limits.specs.rational.proofs.ExtendedOrder.{same_le_ext}
-use Rattle.upp_limits.specs.rational.proofs.Laws.{le_refl, le_trans, le_of_lt, le_or_lt, lt_le_trans, le_lt_trans, antisym, le_of_not_lt, lt_irrefl}
-use Rattle.upp_limits.specs.rational.proofs.MinMax.{min_q_one}
+use Rattle.rational.specs.Rational.{ℚ, ◌≤ℚ◌, ◌<ℚ◌, int}
+use Rattle.rational.specs.Extended.{Ext, ◌≤ₑ◌, ◌<ₑ◌, ◌+ₑ◌}
+use Rattle.rational.specs.declared.Extended.TheVariants.{Fin}
+use Rattle.rational.proofs.Bounds.{infimum_unique, same_infimum}
+use Rattle.rational.proofs.ExtendedOrder.{same_le_ext}
+use Rattle.rational.proofs.Laws.{le_refl, le_trans, le_of_lt, le_or_lt, lt_le_trans, le_lt_trans, antisym, le_of_not_lt, lt_irrefl}
+use Rattle.rational.proofs.MinMax.{min_q_one}
 use Rattle.upp_normal.specs.declared.ahead.Stretch.{Stretch}
 use Rattle.upp_limits.specs.Limits.{Sizes}
 use Rattle.upp_normal.specs.Ahead.{GoesOn, IsBeforeNext, AtNext}
 use Rattle.element_envelope.specs.ElementRoom.{WindowTime}
 use Rattle.element_envelope.specs.SumWindows.{SumStart}
-use Rattle.plain_operators.specs.curve_call.specs.declared.gaps.Gap.{Gap}
-use Rattle.plain_operators.specs.curve_call.specs.declared.gaps.Gap.TheVariants.{NoTime, Never, Is}
-use Rattle.plain_operators.specs.curve_call.specs.Gaps.{InWindow, IsGap}
-use Rattle.plain_operators.specs.curve_call.specs.GapSteps.{larger, IsUntil, earlier_of}
-use Rattle.plain_operators.specs.curve_call.proofs.GapParts.{window_more, window_none, before_next}
-use Rattle.plain_operators.specs.curve_call.proofs.GapWalk.{NextTime, next_is, next_found}
+use Rattle.curve_call.specs.declared.gaps.Gap.{Gap}
+use Rattle.curve_call.specs.declared.gaps.Gap.TheVariants.{NoTime, Never, Is}
+use Rattle.curve_call.specs.Gaps.{InWindow, IsGap}
+use Rattle.curve_call.specs.GapSteps.{larger, IsUntil, earlier_of}
+use Rattle.curve_call.proofs.GapParts.{window_more, window_none, before_next}
+use Rattle.curve_call.proofs.GapWalk.{NextTime, next_is, next_found}
 use Rattle.curve_conv.specs.Parts.{PartSplit, part_sum, IsPart, FirstLate, FirstEarly}
 use Rattle.curve_conv.specs.PartGaps.{PartGapStands, SumTimeTo, ArePartValues, HavePartValues}
 use Rattle.curve_conv.specs.Scans.{InPart}

@@ -1,14 +1,14 @@
 -- How many steps of a grid are left up to a time: a number that falls with each step.
 use Rattle.std.specs.Prelude.{◌≡◌, ℕ, suc, ◌<◌, pos, Bool, true, false}
 use Rattle.std.proofs.Common.{arith}
-use Rattle.upp_limits.specs.rational.specs.Rational.{ℚ, ◌+ℚ◌, ◌-ℚ◌, ◌*ℚ◌, ◌≤ℚ◌, ◌<ℚ◌, int}
-use Rattle.upp_limits.specs.rational.specs.Grid.{Whole}
-use Rattle.upp_limits.specs.rational.specs.Whole.{whole_part}
-use Rattle.upp_limits.specs.rational.proofs.Grid.{whole_sub}
-use Rattle.upp_limits.specs.rational.proofs.Integers.{nat_nonneg}
-use Rattle.upp_limits.specs.rational.proofs.Laws.{mul_nonneg, sub_mul}
-use Rattle.upp_limits.specs.rational.proofs.Linear.{with2, with6}
-use Rattle.plain_operators.specs.curve_call.proofs.GapWalk.{fewer_whole, one_step}
+use Rattle.rational.specs.Rational.{ℚ, ◌+ℚ◌, ◌-ℚ◌, ◌*ℚ◌, ◌≤ℚ◌, ◌<ℚ◌, int}
+use Rattle.rational.specs.Grid.{Whole}
+use Rattle.rational.specs.Whole.{whole_part}
+use Rattle.rational.proofs.Grid.{whole_sub}
+use Rattle.rational.proofs.Integers.{nat_nonneg}
+use Rattle.rational.proofs.Laws.{mul_nonneg, sub_mul}
+use Rattle.rational.proofs.Linear.{with2, with6}
+use Rattle.curve_call.proofs.GapWalk.{fewer_whole, one_step}
 
 -- the steps of 1 / d from t to `end`
 pub steps_to : ℕ → ℚ → ℚ → ℕ

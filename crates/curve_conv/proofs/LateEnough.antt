@@ -2,17 +2,17 @@
 -- slower lies below a line of its rate, the faster above one of its own.
 use Rattle.std.specs.Prelude.{◌≡◌, pos, [], ◌∷◌}
 use Rattle.std.proofs.Common.{arith, sym, ap₂, ◌∙◌, subst, inl, inr}
-use Rattle.upp_limits.specs.rational.specs.Rational.{ℚ, ◌+ℚ◌, ◌-ℚ◌, ◌*ℚ◌, ◌≤ℚ◌, ◌<ℚ◌, int}
-use Rattle.upp_limits.specs.rational.specs.Extended.{Ext, ◌≤ₑ◌, ◌+ₑ◌}
-use Rattle.upp_limits.specs.rational.specs.declared.Extended.TheVariants.{Fin, Inf}
-use Rattle.upp_limits.specs.rational.proofs.Linear.{with_atoms, with2, with4, with5}
-use Rattle.upp_limits.specs.rational.proofs.Laws.{le_trans, mul_le_mul, mul_add, sub_mul, sub_add}
-use Rattle.upp_limits.specs.rational.proofs.ExtendedOrder.{le_ext_trans, add_le_ext, le_ext_refl, same_le_ext}
-use Rattle.upp_limits.specs.upp_curve.specs.Steady.{Repeats}
+use Rattle.rational.specs.Rational.{ℚ, ◌+ℚ◌, ◌-ℚ◌, ◌*ℚ◌, ◌≤ℚ◌, ◌<ℚ◌, int}
+use Rattle.rational.specs.Extended.{Ext, ◌≤ₑ◌, ◌+ₑ◌}
+use Rattle.rational.specs.declared.Extended.TheVariants.{Fin, Inf}
+use Rattle.rational.proofs.Linear.{with_atoms, with2, with4, with5}
+use Rattle.rational.proofs.Laws.{le_trans, mul_le_mul, mul_add, sub_mul, sub_add}
+use Rattle.rational.proofs.ExtendedOrder.{le_ext_trans, add_le_ext, le_ext_refl, same_le_ext}
+use Rattle.upp_curve.specs.Steady.{Repeats}
 use Rattle.upp_normal.proofs.UnrollSteps.{ext_cases}
-use Rattle.upp_limits.specs.min_plus.specs.Convolution.{Split}
+use Rattle.min_plus.specs.Convolution.{Split}
 use Rattle.upp_limits.specs.Windows.{IsLateLeast}
-use Rattle.plain_operators.specs.curve_call.proofs.MostAbove.{moved_back, times_rate}
+use Rattle.curve_call.proofs.MostAbove.{moved_back, times_rate}
 use Rattle.curve_conv.specs.declared.extremes.Extremes.{Extremes}
 use Rattle.curve_conv.specs.LateBounds.{AreExtremes, most_gap}
 

@@ -3,35 +3,35 @@ use Rattle.std.specs.Prelude.{◌≡◌, ℕ, ◌*◌, ◌≤◌, pos}
 use Prim.Native.Nat.{◌∣◌}
 use native.Mathlib.Nat.{mul-pos, mul-dvd-mul_right}
 use Rattle.std.proofs.Common.{arith, sym, ap, ◌∙◌, refl, subst, mul-le-mul_right}
-use Rattle.upp_limits.specs.rational.specs.Rational.{ℚ, ◌+ℚ◌, ◌-ℚ◌, ◌*ℚ◌, ◌/ℚ◌, ◌≤ℚ◌, ◌<ℚ◌, int, neg_ℚ}
-use Rattle.upp_limits.specs.rational.specs.Ratio.{IsSmall, SumFits}
-use Rattle.upp_limits.specs.rational.specs.Grid.{Whole, Within}
-use Rattle.upp_limits.specs.rational.specs.Extended.{Ext, ◌+ₑ◌}
-use Rattle.upp_limits.specs.rational.specs.declared.Extended.TheVariants.{Fin, Inf}
-use Rattle.upp_limits.specs.rational.proofs.Linear.{with1, with3, with4, with5, with6}
-use Rattle.upp_limits.specs.rational.proofs.Laws.{le_refl, le_of_lt, le_trans, le_lt_trans, le_of_not_lt, lt_irrefl, mul_nonneg, not_zero}
-use Rattle.upp_limits.specs.rational.proofs.Grid.{whole_int, whole_neg, whole_sub, whole_add, whole_weaken, within_neg}
-use Rattle.upp_limits.specs.rational.proofs.Integers.{nat_le, nat_nonneg, int_mul}
-use Rattle.upp_limits.specs.rational.proofs.Sizes.{quotient_on_grid}
-use Rattle.upp_limits.specs.rational.proofs.ExtendedOrder.{finite_sum, same_le_ext}
-use Rattle.upp_limits.specs.rational.proofs.Bounds.{infimum_unique, same_infimum}
-use Rattle.upp_limits.specs.upp_curve.specs.Curve.{SpecCurve, value_at}
-use Rattle.upp_limits.specs.min_plus.specs.Convolution.{Split, IsConvolution}
+use Rattle.rational.specs.Rational.{ℚ, ◌+ℚ◌, ◌-ℚ◌, ◌*ℚ◌, ◌/ℚ◌, ◌≤ℚ◌, ◌<ℚ◌, int, neg_ℚ}
+use Rattle.rational.specs.Ratio.{IsSmall, SumFits}
+use Rattle.rational.specs.Grid.{Whole, Within}
+use Rattle.rational.specs.Extended.{Ext, ◌+ₑ◌}
+use Rattle.rational.specs.declared.Extended.TheVariants.{Fin, Inf}
+use Rattle.rational.proofs.Linear.{with1, with3, with4, with5, with6}
+use Rattle.rational.proofs.Laws.{le_refl, le_of_lt, le_trans, le_lt_trans, le_of_not_lt, lt_irrefl, mul_nonneg, not_zero}
+use Rattle.rational.proofs.Grid.{whole_int, whole_neg, whole_sub, whole_add, whole_weaken, within_neg}
+use Rattle.rational.proofs.Integers.{nat_le, nat_nonneg, int_mul}
+use Rattle.rational.proofs.Sizes.{quotient_on_grid}
+use Rattle.rational.proofs.ExtendedOrder.{finite_sum, same_le_ext}
+use Rattle.rational.proofs.Bounds.{infimum_unique, same_infimum}
+use Rattle.upp_curve.specs.Curve.{SpecCurve, value_at}
+use Rattle.min_plus.specs.Convolution.{Split, IsConvolution}
 use Rattle.upp_limits.specs.Limits.{Sizes}
 use Rattle.upp_limits.specs.Sized.{grid_of, times_largest}
 use Rattle.upp_normal.specs.Operand.{AreLimited}
 use Rattle.upp_normal.specs.Room.{top}
 use Rattle.upp_limits.specs.Periods.{periods_after}
-use Rattle.upp_limits.specs.upp_curve.specs.Steady.{steady, rise_over}
+use Rattle.upp_curve.specs.Steady.{steady, rise_over}
 use Rattle.upp_limits.specs.Windows.{IsLeast}
 use Rattle.upp_limits.proofs.NarrowSizes.{small_sum}
-use Rattle.upp_limits.specs.upp_curve.proofs.Steady.{steady_rule}
-use Rattle.plain_operators.specs.curve_call.proofs.CurveRises.{IsRise, rise_is}
-use Rattle.plain_operators.specs.curve_call.proofs.CurveTimes.{steady_whole}
-use Rattle.plain_operators.specs.curve_call.specs.Gaps.{InWindow, IsWithin, IsEndless, IsLargest}
-use Rattle.plain_operators.specs.curve_call.proofs.LeastNumber.{gains, finite_less}
-use Rattle.plain_operators.specs.curve_call.proofs.Shifts.{largest_bounds, endless_bounds, same_least, least_zero}
-use Rattle.plain_operators.specs.curve_call.proofs.GapParts.{within_none}
+use Rattle.upp_curve.proofs.Steady.{steady_rule}
+use Rattle.curve_call.proofs.CurveRises.{IsRise, rise_is}
+use Rattle.curve_call.proofs.CurveTimes.{steady_whole}
+use Rattle.curve_call.specs.Gaps.{InWindow, IsWithin, IsEndless, IsLargest}
+use Rattle.curve_call.proofs.LeastNumber.{gains, finite_less}
+use Rattle.curve_call.proofs.Shifts.{largest_bounds, endless_bounds, same_least, least_zero}
+use Rattle.curve_call.proofs.GapParts.{within_none}
 use Rattle.element_envelope.specs.ElementRoom.{WindowTime}
 use Rattle.element_envelope.proofs.ElementSizes.{gap_within}
 use Rattle.curve_conv.specs.Parts.{PartSplit, part_sum, IsPart, FirstLate, FirstEarly}
@@ -43,8 +43,8 @@ use Rattle.curve_conv.proofs.Repeating.{are_rising}
 use Rattle.curve_conv.proofs.LateShifts.{AreParts, after_in, after_out, late_later, back, late_value, soon_value, values_are}
 use Rattle.upp_normal.proofs.AnswerRoom.{wide_narrow}
 use Rattle.element_envelope.proofs.Members.{number_below}
-use Rattle.upp_limits.specs.upp_curve.proofs.SteadyTimes.{steady_nonneg}
-use Rattle.upp_limits.specs.rational.proofs.Stretch.{one_above}
+use Rattle.upp_curve.proofs.SteadyTimes.{steady_nonneg}
+use Rattle.rational.proofs.Stretch.{one_above}
 
 -- ---- times and rises
 pub record LateTimes (slow fast : SpecCurve) (from d end : ℚ) : Type 0 where

@@ -1,23 +1,23 @@
 -- Parts of a convolution some periods later, and the number of periods from the gap of both parts over one.
 use Rattle.std.specs.Prelude.{◌≡◌, ◌⊎◌, ℕ, suc, zero, pos}
 use Rattle.std.proofs.Common.{arith, sym, ap, ◌∙◌, subst, inl, inr}
-use Rattle.upp_limits.specs.rational.specs.Rational.{ℚ, ◌+ℚ◌, ◌-ℚ◌, ◌*ℚ◌, ◌≤ℚ◌, ◌<ℚ◌, int}
-use Rattle.upp_limits.specs.rational.specs.Extended.{Ext, ◌≤ₑ◌, ◌+ₑ◌}
-use Rattle.upp_limits.specs.rational.specs.declared.Extended.TheVariants.{Fin, Inf}
-use Rattle.upp_limits.specs.rational.proofs.Linear.{with1, with2, with3, with4}
-use Rattle.upp_limits.specs.rational.proofs.Laws.{le_refl, le_trans, le_or_lt, lt_irrefl, le_lt_trans, mul_nonneg, mul_sub, sub_add, zero_mul}
-use Rattle.upp_limits.specs.rational.proofs.Integers.{nat_nonneg}
-use Rattle.upp_limits.specs.rational.proofs.Whole.{one_more_times}
-use Rattle.upp_limits.specs.rational.proofs.ExtendedOrder.{le_inf, le_ext_trans, add_assoc_ext, add_zero_ext}
-use Rattle.upp_limits.specs.rational.proofs.Bounds.{greatest}
+use Rattle.rational.specs.Rational.{ℚ, ◌+ℚ◌, ◌-ℚ◌, ◌*ℚ◌, ◌≤ℚ◌, ◌<ℚ◌, int}
+use Rattle.rational.specs.Extended.{Ext, ◌≤ₑ◌, ◌+ₑ◌}
+use Rattle.rational.specs.declared.Extended.TheVariants.{Fin, Inf}
+use Rattle.rational.proofs.Linear.{with1, with2, with3, with4}
+use Rattle.rational.proofs.Laws.{le_refl, le_trans, le_or_lt, lt_irrefl, le_lt_trans, mul_nonneg, mul_sub, sub_add, zero_mul}
+use Rattle.rational.proofs.Integers.{nat_nonneg}
+use Rattle.rational.proofs.Whole.{one_more_times}
+use Rattle.rational.proofs.ExtendedOrder.{le_inf, le_ext_trans, add_assoc_ext, add_zero_ext}
+use Rattle.rational.proofs.Bounds.{greatest}
 use Rattle.upp_limits.specs.Periods.{periods_after}
-use Rattle.upp_limits.specs.upp_curve.specs.Steady.{Repeats}
+use Rattle.upp_curve.specs.Steady.{Repeats}
 use Rattle.upp_limits.specs.Windows.{IsLateLeast}
-use Rattle.plain_operators.specs.curve_call.specs.Gaps.{InWindow, IsWithin}
+use Rattle.curve_call.specs.Gaps.{InWindow, IsWithin}
 use Rattle.curve_conv.specs.Parts.{part_sum, IsPart, FirstLate, FirstEarly}
 use Rattle.curve_conv.specs.PartGaps.{ArePartValues, HavePartValues}
 use Rattle.curve_conv.proofs.Moves.{AreRising, late_moves, early_moves}
-use Rattle.plain_operators.specs.curve_call.proofs.Shifts.{shift_in, shift_out}
+use Rattle.curve_call.proofs.Shifts.{shift_in, shift_out}
 
 -- ---- some periods later
 times_more : (n : ℕ) (t d : ℚ) → t +ℚ int (pos (suc n)) *ℚ d ≡ (t +ℚ int (pos n) *ℚ d) +ℚ d

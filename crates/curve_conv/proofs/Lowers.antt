@@ -1,19 +1,19 @@
 -- The lower of two lines just after a time, and of two functions of which each is known from a time on.
 use Rattle.std.specs.Prelude.{◌≡◌, ◌≢◌, true, false, Option, Some, None}
 use Rattle.std.proofs.Common.{sym, ap, ap₂, ◌∙◌, refl, subst, inl, inr}
-use Rattle.upp_limits.specs.rational.specs.Rational.{ℚ, ◌<ℚ◌}
-use Rattle.upp_limits.specs.rational.specs.Extended.{Ext, ◌≤ₑ◌, min_ext}
-use Rattle.upp_limits.specs.rational.specs.declared.Extended.TheVariants.{Fin, Inf}
-use Rattle.upp_limits.specs.rational.proofs.Laws.{le_of_lt, le_trans, le_of_not_lt, lt_irrefl, lt_trans, lt_le_trans, lt_cases}
-use Rattle.upp_limits.specs.rational.proofs.ExtendedOrder.{le_inf, min_ext_of_le, min_ext_comm}
-use Rattle.upp_limits.specs.upp_curve.specs.declared.affine_segment.line.Line.{Line}
-use Rattle.upp_limits.specs.upp_curve.specs.affine_segment.Values.{line_at, line_value}
+use Rattle.rational.specs.Rational.{ℚ, ◌<ℚ◌}
+use Rattle.rational.specs.Extended.{Ext, ◌≤ₑ◌, min_ext}
+use Rattle.rational.specs.declared.Extended.TheVariants.{Fin, Inf}
+use Rattle.rational.proofs.Laws.{le_of_lt, le_trans, le_of_not_lt, lt_irrefl, lt_trans, lt_le_trans, lt_cases}
+use Rattle.rational.proofs.ExtendedOrder.{le_inf, min_ext_of_le, min_ext_comm}
+use Rattle.upp_curve.specs.declared.affine_segment.line.Line.{Line}
+use Rattle.upp_curve.specs.affine_segment.Values.{line_at, line_value}
 use Rattle.upp_normal.specs.declared.ahead.Stretch.{Stretch}
 use Rattle.upp_limits.specs.Limits.{Sizes}
 use Rattle.upp_normal.specs.Operand.{AreLimited}
 use Rattle.upp_normal.specs.Ahead.{GoesOn, IsBeforeNext, AtNext}
-use Rattle.plain_operators.specs.curve_call.specs.Lies.{CrossFits}
-use Rattle.plain_operators.specs.curve_call.proofs.LinesLie.{before_turn, after_turn, parallel_lines}
+use Rattle.curve_call.specs.Lies.{CrossFits}
+use Rattle.curve_call.proofs.LinesLie.{before_turn, after_turn, parallel_lines}
 use Rattle.element_envelope.specs.SumWindows.{SumLineAt, SumValueAt}
 use Rattle.element_envelope.proofs.SumLower.{cross_fits, is_crossing, lesser_stands}
 use Rattle.curve_conv.specs.declared.lower.Under.{Under}

@@ -1,16 +1,16 @@
 -- Parts of a convolution a period later: the part in which the slower curve repeats rises with it, and so does the convolution of curves of one rate.
 use Rattle.std.specs.Prelude.{◌≡◌, pos}
 use Rattle.std.proofs.Common.{arith, sym, ap, ◌∙◌, subst, inl, inr}
-use Rattle.upp_limits.specs.rational.specs.Rational.{ℚ, ◌+ℚ◌, ◌-ℚ◌, ◌≤ℚ◌, ◌<ℚ◌, int}
-use Rattle.upp_limits.specs.rational.specs.Extended.{Ext, ◌≤ₑ◌, ◌+ₑ◌}
-use Rattle.upp_limits.specs.rational.specs.declared.Extended.TheVariants.{Fin, Inf}
-use Rattle.upp_limits.specs.rational.proofs.Linear.{with1, with2, with3, with4, with5, with6}
-use Rattle.upp_limits.specs.rational.proofs.Laws.{le_or_lt, le_refl, le_trans, sub_add}
-use Rattle.upp_limits.specs.rational.proofs.ExtendedOrder.{same_le_ext, le_inf, le_ext_trans, le_ext_refl, add_le_ext, add_ext_comm, add_ext_assoc}
-use Rattle.upp_limits.specs.rational.proofs.Bounds.{infimum_shift}
-use Rattle.upp_limits.specs.upp_curve.specs.Steady.{Repeats}
-use Rattle.upp_limits.specs.upp_curve.proofs.Repeats.{tail_lemma}
-use Rattle.upp_limits.specs.min_plus.specs.Convolution.{Split, IsConvolution}
+use Rattle.rational.specs.Rational.{ℚ, ◌+ℚ◌, ◌-ℚ◌, ◌≤ℚ◌, ◌<ℚ◌, int}
+use Rattle.rational.specs.Extended.{Ext, ◌≤ₑ◌, ◌+ₑ◌}
+use Rattle.rational.specs.declared.Extended.TheVariants.{Fin, Inf}
+use Rattle.rational.proofs.Linear.{with1, with2, with3, with4, with5, with6}
+use Rattle.rational.proofs.Laws.{le_or_lt, le_refl, le_trans, sub_add}
+use Rattle.rational.proofs.ExtendedOrder.{same_le_ext, le_inf, le_ext_trans, le_ext_refl, add_le_ext, add_ext_comm, add_ext_assoc}
+use Rattle.rational.proofs.Bounds.{infimum_shift}
+use Rattle.upp_curve.specs.Steady.{Repeats}
+use Rattle.upp_curve.proofs.Repeats.{tail_lemma}
+use Rattle.min_plus.specs.Convolution.{Split, IsConvolution}
 use Rattle.upp_limits.specs.Windows.{IsLateLeast}
 use Rattle.curve_conv.specs.Parts.{PartSplit, part_sum, IsPart, FirstLate, FirstEarly}
 

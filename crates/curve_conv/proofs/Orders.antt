@@ -1,26 +1,26 @@
 -- The number of periods of a convolution for either order of the rates.
 use Rattle.std.specs.Prelude.{◌≡◌, ℕ, pos, Option, Some, None, MatchOption}
 use Rattle.std.proofs.Common.{arith, ◌∙◌, subst}
-use Rattle.upp_limits.specs.rational.specs.Rational.{ℚ, ◌+ℚ◌, ◌≤ℚ◌, ◌<ℚ◌, int}
-use Rattle.upp_limits.specs.rational.specs.Grid.{Whole}
-use Rattle.upp_limits.specs.rational.specs.Extended.{◌<ₑ◌}
-use Rattle.upp_limits.specs.rational.proofs.Linear.{with3, with5}
-use Rattle.upp_limits.specs.upp_curve.specs.Curve.{SpecCurve}
+use Rattle.rational.specs.Rational.{ℚ, ◌+ℚ◌, ◌≤ℚ◌, ◌<ℚ◌, int}
+use Rattle.rational.specs.Grid.{Whole}
+use Rattle.rational.specs.Extended.{◌<ₑ◌}
+use Rattle.rational.proofs.Linear.{with3, with5}
+use Rattle.upp_curve.specs.Curve.{SpecCurve}
 use Rattle.upp_limits.specs.declared.op_kind.OpKind.TheVariants.{Convolve}
 use Rattle.upp_limits.specs.Gauges.{numbers_over, kind_numbers}
 use Rattle.upp_limits.proofs.ClosedForms.{holds_joined, holds_left, holds_right}
 use Rattle.upp_limits.specs.Limits.{Numbers, joined, curve_numbers}
-use Rattle.upp_limits.specs.upp_curve.specs.Steady.{steady, rate}
+use Rattle.upp_curve.specs.Steady.{steady, rate}
 use Rattle.upp_normal.specs.Ahead.{HasWindow}
 use Rattle.upp_limits.proofs.SameSizes.{Equals, same_sizes, equals_self, equals_joined}
-use Rattle.plain_operators.specs.curve_call.specs.Times.{OneLaterFits}
-use Rattle.plain_operators.specs.curve_call.proofs.CurveTimes.{one_later}
-use Rattle.plain_operators.specs.curve_call.proofs.Shifts.{same_least, least_zero}
+use Rattle.curve_call.specs.Times.{OneLaterFits}
+use Rattle.curve_call.proofs.CurveTimes.{one_later}
+use Rattle.curve_call.proofs.Shifts.{same_least, least_zero}
 use Rattle.curve_conv.specs.Scans.{sizes_in, IsScan}
 use Rattle.curve_conv.specs.Late.{IsLateAfter, IsLateNumber, IsLateCall, IsSlowerAfter, IsSlowerNumber, IsPartsCall}
 use Rattle.upp_normal.proofs.AnswerRoom.{wide_narrow}
-use Rattle.plain_operators.specs.curve_call.proofs.EitherOrder.{apart}
-use Rattle.upp_limits.specs.upp_curve.proofs.SteadyTimes.{steady_nonneg}
+use Rattle.curve_call.proofs.EitherOrder.{apart}
+use Rattle.upp_curve.proofs.SteadyTimes.{steady_nonneg}
 
 -- ---- the sizes of both orders are one
 swapped : (a b c : Numbers) → Equals (joined a (joined b c)) (joined a (joined c b))

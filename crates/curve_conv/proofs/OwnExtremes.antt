@@ -1,22 +1,22 @@
 -- What two curves do in the first period of their own: the windows over which it is read, and what is read.
 use Rattle.std.specs.Prelude.{◌≡◌, pos}
 use Rattle.std.proofs.Common.{sym, ap, ap₂, ◌∙◌, refl, subst}
-use Rattle.upp_limits.specs.rational.specs.Rational.{ℚ, ◌+ℚ◌, ◌≤ℚ◌, int}
-use Rattle.upp_limits.specs.rational.specs.declared.Extended.TheVariants.{Fin}
-use Rattle.upp_limits.specs.rational.proofs.Grid.{whole_int}
-use Rattle.upp_limits.specs.rational.proofs.Laws.{le_refl, le_lt_trans}
-use Rattle.upp_limits.specs.upp_curve.specs.Curve.{SpecCurve, value_at}
-use Rattle.upp_limits.specs.upp_curve.specs.Steady.{steady, rise_over}
+use Rattle.rational.specs.Rational.{ℚ, ◌+ℚ◌, ◌≤ℚ◌, int}
+use Rattle.rational.specs.declared.Extended.TheVariants.{Fin}
+use Rattle.rational.proofs.Grid.{whole_int}
+use Rattle.rational.proofs.Laws.{le_refl, le_lt_trans}
+use Rattle.upp_curve.specs.Curve.{SpecCurve, value_at}
+use Rattle.upp_curve.specs.Steady.{steady, rise_over}
 use Rattle.upp_limits.specs.Limits.{Sizes}
 use Rattle.upp_normal.specs.Ahead.{HasWindow, IsTimeIn}
-use Rattle.plain_operators.specs.curve_call.specs.Rises.{CurveRiseFits}
-use Rattle.plain_operators.specs.curve_call.proofs.CurveRises.{rise_is}
-use Rattle.plain_operators.specs.curve_call.specs.Bounds.{own_or}
-use Rattle.plain_operators.specs.curve_call.specs.Compared.{IsLookedAt}
-use Rattle.plain_operators.specs.curve_call.specs.Gaps.{InWindow, IsLargest}
-use Rattle.plain_operators.specs.curve_call.specs.Levels.{level_curve}
-use Rattle.plain_operators.specs.curve_call.proofs.MostAbove.{top_bounds, depth_bounds}
-use Rattle.plain_operators.specs.curve_call.proofs.OwnPeriods.{own_period_is, own_looked, named_windows}
+use Rattle.curve_call.specs.Rises.{CurveRiseFits}
+use Rattle.curve_call.proofs.CurveRises.{rise_is}
+use Rattle.curve_call.specs.Bounds.{own_or}
+use Rattle.curve_call.specs.Compared.{IsLookedAt}
+use Rattle.curve_call.specs.Gaps.{InWindow, IsLargest}
+use Rattle.curve_call.specs.Levels.{level_curve}
+use Rattle.curve_call.proofs.MostAbove.{top_bounds, depth_bounds}
+use Rattle.curve_call.proofs.OwnPeriods.{own_period_is, own_looked, named_windows}
 use Rattle.curve_conv.specs.declared.extremes.Extremes.{Extremes}
 use Rattle.curve_conv.specs.Late.{IsLateCall}
 use Rattle.curve_conv.specs.LateBounds.{IsTop, IsDepth, AreCurveExtremes}

@@ -1,17 +1,17 @@
 -- A split of which the first side is before the slower curve repeats, moved by some periods of the faster curve's own.
 use Rattle.std.specs.Prelude.{◌≡◌, ℕ, pos}
 use Rattle.std.proofs.Common.{arith, sym, ap, ◌∙◌, subst}
-use Rattle.upp_limits.specs.rational.specs.Rational.{ℚ, ◌+ℚ◌, ◌*ℚ◌, ◌≤ℚ◌, ◌<ℚ◌, int}
-use Rattle.upp_limits.specs.rational.specs.Grid.{Whole}
-use Rattle.upp_limits.specs.rational.proofs.Linear.{with6, with7}
-use Rattle.upp_limits.specs.rational.proofs.Laws.{le_of_lt, zero_mul}
-use Rattle.upp_limits.specs.rational.proofs.Grid.{whole_times}
-use Rattle.upp_limits.specs.upp_curve.specs.Curve.{SpecCurve, value_at}
-use Rattle.upp_limits.specs.upp_curve.specs.Steady.{Repeats, steady, rise_over}
-use Rattle.upp_limits.specs.upp_curve.proofs.Repeats.{repeats_times}
-use Rattle.plain_operators.specs.curve_call.specs.Bounds.{own_or}
-use Rattle.plain_operators.specs.curve_call.proofs.OwnPeriods.{own_period_is}
-use Rattle.plain_operators.specs.curve_call.proofs.MostAbove.{own_repeats}
+use Rattle.rational.specs.Rational.{ℚ, ◌+ℚ◌, ◌*ℚ◌, ◌≤ℚ◌, ◌<ℚ◌, int}
+use Rattle.rational.specs.Grid.{Whole}
+use Rattle.rational.proofs.Linear.{with6, with7}
+use Rattle.rational.proofs.Laws.{le_of_lt, zero_mul}
+use Rattle.rational.proofs.Grid.{whole_times}
+use Rattle.upp_curve.specs.Curve.{SpecCurve, value_at}
+use Rattle.upp_curve.specs.Steady.{Repeats, steady, rise_over}
+use Rattle.upp_curve.proofs.Repeats.{repeats_times}
+use Rattle.curve_call.specs.Bounds.{own_or}
+use Rattle.curve_call.proofs.OwnPeriods.{own_period_is}
+use Rattle.curve_call.proofs.MostAbove.{own_repeats}
 use Rattle.curve_conv.specs.declared.moved.Move.{Move}
 use Rattle.curve_conv.specs.Late.{IsLateAfter, IsLateCall}
 use Rattle.curve_conv.specs.Moves.{IsMove}

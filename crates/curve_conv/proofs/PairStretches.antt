@@ -1,14 +1,14 @@
 -- What two elements make, as it goes on from a time.
 use Rattle.std.specs.Prelude.{Option, Some, None}
 use Rattle.std.proofs.Common.{sym, refl, subst}
-use Rattle.upp_limits.specs.rational.specs.Rational.{ℚ}
-use Rattle.upp_limits.specs.rational.specs.Extended.{Ext, ◌<ₑ◌}
-use Rattle.upp_limits.specs.rational.specs.declared.Extended.TheVariants.{Fin, Inf}
-use Rattle.upp_limits.specs.rational.proofs.Bounds.{all_infinite}
-use Rattle.upp_limits.specs.upp_curve.specs.declared.affine_segment.element.Element.{Element}
-use Rattle.upp_limits.specs.upp_curve.specs.declared.affine_segment.element.Element.TheVariants.{Point, Open}
-use Rattle.upp_limits.specs.upp_curve.specs.declared.affine_segment.element.Joined.{Joined}
-use Rattle.upp_limits.specs.upp_curve.specs.affine_segment.Elements.{IsProper, PairSplit, pair_sum, joined_value, AreAdjoined, IsConvolved}
+use Rattle.rational.specs.Rational.{ℚ}
+use Rattle.rational.specs.Extended.{Ext, ◌<ₑ◌}
+use Rattle.rational.specs.declared.Extended.TheVariants.{Fin, Inf}
+use Rattle.rational.proofs.Bounds.{all_infinite}
+use Rattle.upp_curve.specs.declared.affine_segment.element.Element.{Element}
+use Rattle.upp_curve.specs.declared.affine_segment.element.Element.TheVariants.{Point, Open}
+use Rattle.upp_curve.specs.declared.affine_segment.element.Joined.{Joined}
+use Rattle.upp_curve.specs.affine_segment.Elements.{IsProper, PairSplit, pair_sum, joined_value, AreAdjoined, IsConvolved}
 use Rattle.upp_normal.specs.declared.ahead.Stretch.{Stretch}
 use Rattle.upp_normal.specs.Ahead.{GoesOn}
 use Rattle.upp_limits.specs.Limits.{Sizes}

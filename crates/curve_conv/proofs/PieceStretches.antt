@@ -1,17 +1,17 @@
 -- Pieces that elements make go on from a time with the line of the last piece that starts there or before.
 use Rattle.std.specs.Prelude.{◌≡◌, pos, List, [], ◌∷◌, Option, None}
 use Rattle.std.proofs.Common.{sym, ap, ◌∙◌, refl, subst}
-use Rattle.upp_limits.specs.rational.specs.Rational.{ℚ, ◌≤ℚ◌, int}
-use Rattle.upp_limits.specs.upp_curve.specs.declared.affine_segment.line.Line.{Line}
-use Rattle.upp_limits.specs.upp_curve.specs.declared.affine_segment.line.Piece.{Piece}
-use Rattle.upp_limits.specs.upp_curve.specs.affine_segment.Values.{line_value}
+use Rattle.rational.specs.Rational.{ℚ, ◌≤ℚ◌, int}
+use Rattle.upp_curve.specs.declared.affine_segment.line.Line.{Line}
+use Rattle.upp_curve.specs.declared.affine_segment.line.Piece.{Piece}
+use Rattle.upp_curve.specs.affine_segment.Values.{line_value}
 use Rattle.upp_normal.specs.declared.ahead.Stretch.{Stretch}
 use Rattle.upp_limits.specs.Limits.{Sizes}
-use Rattle.upp_limits.specs.upp_curve.specs.affine_segment.Pieces.{StartsAtZero}
-use Rattle.upp_limits.specs.upp_curve.specs.affine_segment.Reading.{read, piece_in, next_in, line_in}
-use Rattle.upp_limits.specs.upp_curve.specs.affine_segment.Fits.{LineFitsAt}
+use Rattle.upp_curve.specs.affine_segment.Pieces.{StartsAtZero}
+use Rattle.upp_curve.specs.affine_segment.Reading.{read, piece_in, next_in, line_in}
+use Rattle.upp_curve.specs.affine_segment.Fits.{LineFitsAt}
 use Rattle.upp_normal.specs.Ahead.{GoesOn, IsBeforeNext, AtNext}
-use Rattle.upp_limits.specs.upp_curve.proofs.affine_segment.PieceOrder.{each_map}
+use Rattle.upp_curve.proofs.affine_segment.PieceOrder.{each_map}
 use Rattle.upp_normal.proofs.StretchPieces.{reads_on, next_past, next_all}
 use Rattle.element_envelope.specs.SumWindows.{SumValueAt, SumLineAt, SumPiece, SumWindow}
 use Rattle.element_envelope.proofs.SumSteps.{sum_read, sum_line_in, line_fits_at}

@@ -1,28 +1,28 @@
 -- The convolution of two curves from the time on at which the part of the slower one has the least sums.
 use Rattle.std.specs.Prelude.{◌≡◌, pos, ◌⊎◌}
 use Rattle.std.proofs.Common.{arith, sym, subst, inl, inr}
-use Rattle.upp_limits.specs.rational.specs.Rational.{ℚ, ◌+ℚ◌, ◌*ℚ◌, ◌≤ℚ◌, ◌<ℚ◌, int}
-use Rattle.upp_limits.specs.rational.specs.Extended.{Ext, ◌≤ₑ◌, ◌<ₑ◌, ◌+ₑ◌}
-use Rattle.upp_limits.specs.rational.specs.declared.Extended.TheVariants.{Fin}
-use Rattle.upp_limits.specs.rational.proofs.Linear.{with2, with3, with4}
-use Rattle.upp_limits.specs.rational.proofs.Laws.{le_trans, le_of_lt, mul_lt_mul_right}
-use Rattle.upp_limits.specs.rational.proofs.ExtendedOrder.{same_le_ext, le_ext_refl, le_inf, add_le_ext, add_ext_comm, lt_ext_irrefl, lt_ext_trans}
-use Rattle.upp_limits.specs.rational.proofs.Bounds.{same_infimum}
-use Rattle.upp_limits.specs.upp_curve.specs.Curve.{SpecCurve, repeated, value_at}
-use Rattle.upp_limits.specs.upp_curve.specs.Curves.{IsCurve}
-use Rattle.upp_limits.specs.upp_curve.specs.Steady.{Repeats, steady, rate, rise_over, IsWholePeriods}
-use Rattle.upp_limits.specs.min_plus.specs.Convolution.{Split, IsConvolution}
+use Rattle.rational.specs.Rational.{ℚ, ◌+ℚ◌, ◌*ℚ◌, ◌≤ℚ◌, ◌<ℚ◌, int}
+use Rattle.rational.specs.Extended.{Ext, ◌≤ₑ◌, ◌<ₑ◌, ◌+ₑ◌}
+use Rattle.rational.specs.declared.Extended.TheVariants.{Fin}
+use Rattle.rational.proofs.Linear.{with2, with3, with4}
+use Rattle.rational.proofs.Laws.{le_trans, le_of_lt, mul_lt_mul_right}
+use Rattle.rational.proofs.ExtendedOrder.{same_le_ext, le_ext_refl, le_inf, add_le_ext, add_ext_comm, lt_ext_irrefl, lt_ext_trans}
+use Rattle.rational.proofs.Bounds.{same_infimum}
+use Rattle.upp_curve.specs.Curve.{SpecCurve, repeated, value_at}
+use Rattle.upp_curve.specs.Curves.{IsCurve}
+use Rattle.upp_curve.specs.Steady.{Repeats, steady, rate, rise_over, IsWholePeriods}
+use Rattle.min_plus.specs.Convolution.{Split, IsConvolution}
 use Rattle.upp_normal.specs.Normalising.{HasValues}
 use Rattle.upp_limits.specs.Windows.{IsLateLeast}
-use Rattle.upp_limits.specs.upp_curve.proofs.Steady.{steady_rule}
-use Rattle.plain_operators.specs.curve_call.proofs.Answering.{answer_relation}
+use Rattle.upp_curve.proofs.Steady.{steady_rule}
+use Rattle.curve_call.proofs.Answering.{answer_relation}
 use Rattle.upp_normal.proofs.UnrollSteps.{ext_cases}
-use Rattle.plain_operators.specs.curve_call.proofs.RateRises.{rate_rise, infinite_value}
+use Rattle.curve_call.proofs.RateRises.{rate_rise, infinite_value}
 use Rattle.curve_conv.specs.Parts.{IsPart, FirstLate}
 use Rattle.curve_conv.specs.Late.{IsSlowerLate}
 use Rattle.curve_conv.proofs.Moves.{AreRising, late_moves, late_ever, late_only, alike_moves}
 use Rattle.plain_operators.proofs.pointwise.LatticeAnswers.{same_rises}
-use Rattle.upp_limits.specs.upp_curve.proofs.SteadyTimes.{steady_nonneg}
+use Rattle.upp_curve.proofs.SteadyTimes.{steady_nonneg}
 
 -- ---- functions
 -- the splits of the two the other way round

@@ -1,26 +1,26 @@
 -- By how much a curve is at most above itself a period earlier, step by step.
 use Rattle.std.specs.Prelude.{◌≡◌, ℕ, pos, [], ◌∷◌, Option, Some, None, IfSome}
 use Rattle.std.proofs.Common.{arith, sym, subst, inl, inr}
-use Rattle.upp_limits.specs.rational.specs.Rational.{ℚ, ◌+ℚ◌, ◌-ℚ◌, ◌*ℚ◌, ◌≤ℚ◌, ◌<ℚ◌, int}
-use Rattle.upp_limits.specs.rational.specs.Grid.{Whole}
-use Rattle.upp_limits.specs.rational.specs.Line.{line_at as line_of}
-use Rattle.upp_limits.specs.rational.specs.MinMax.{max_q, min_q}
-use Rattle.upp_limits.specs.rational.specs.Extended.{Ext, ◌≤ₑ◌, ◌+ₑ◌}
-use Rattle.upp_limits.specs.rational.specs.declared.Extended.TheVariants.{Fin}
-use Rattle.upp_limits.specs.rational.proofs.Linear.{with_atoms, with2, with3, with4}
-use Rattle.upp_limits.specs.rational.proofs.Laws.{le_refl, le_trans, le_of_lt, lt_le_trans, lt_cases, mul_add, sub_mul}
-use Rattle.upp_limits.specs.rational.proofs.Grid.{whole_int, whole_add, whole_sub}
-use Rattle.upp_limits.specs.rational.proofs.MinMax.{max_q_le, max_q_ge_left, max_q_ge_right, min_q_one, below_min_in, below_min_out}
-use Rattle.upp_limits.specs.rational.proofs.Stretch.{line_supremum}
-use Rattle.upp_limits.specs.rational.proofs.ExtendedOrder.{le_ext_trans, add_le_ext, le_ext_refl}
-use Rattle.upp_limits.specs.upp_curve.specs.declared.affine_segment.line.Line.{Line}
-use Rattle.upp_limits.specs.upp_curve.specs.affine_segment.Values.{line_at, line_value}
-use Rattle.upp_limits.specs.upp_curve.specs.Curve.{SpecCurve, value_at}
+use Rattle.rational.specs.Rational.{ℚ, ◌+ℚ◌, ◌-ℚ◌, ◌*ℚ◌, ◌≤ℚ◌, ◌<ℚ◌, int}
+use Rattle.rational.specs.Grid.{Whole}
+use Rattle.rational.specs.Line.{line_at as line_of}
+use Rattle.rational.specs.MinMax.{max_q, min_q}
+use Rattle.rational.specs.Extended.{Ext, ◌≤ₑ◌, ◌+ₑ◌}
+use Rattle.rational.specs.declared.Extended.TheVariants.{Fin}
+use Rattle.rational.proofs.Linear.{with_atoms, with2, with3, with4}
+use Rattle.rational.proofs.Laws.{le_refl, le_trans, le_of_lt, lt_le_trans, lt_cases, mul_add, sub_mul}
+use Rattle.rational.proofs.Grid.{whole_int, whole_add, whole_sub}
+use Rattle.rational.proofs.MinMax.{max_q_le, max_q_ge_left, max_q_ge_right, min_q_one, below_min_in, below_min_out}
+use Rattle.rational.proofs.Stretch.{line_supremum}
+use Rattle.rational.proofs.ExtendedOrder.{le_ext_trans, add_le_ext, le_ext_refl}
+use Rattle.upp_curve.specs.declared.affine_segment.line.Line.{Line}
+use Rattle.upp_curve.specs.affine_segment.Values.{line_at, line_value}
+use Rattle.upp_curve.specs.Curve.{SpecCurve, value_at}
 use Rattle.upp_limits.specs.Limits.{Sizes}
 use Rattle.upp_normal.specs.declared.ahead.Stretch.{Stretch}
 use Rattle.upp_normal.specs.Ahead.{AtNext, TimesStand, IsTimeIn, GoesOn}
 use Rattle.upp_normal.proofs.StretchSizes.{times_stand}
-use Rattle.plain_operators.specs.curve_call.specs.GapSteps.{earlier_of}
+use Rattle.curve_call.specs.GapSteps.{earlier_of}
 use Rattle.curve_conv.specs.declared.rises.Looked.{Looked}
 use Rattle.curve_conv.specs.Rises.{RisesAtMost, HasLaterIn, IsLookedUntil, IsNextTime}
 

@@ -2,23 +2,23 @@
 -- how much more the slower one is a period later: a split of which the first side is before it repeats is moved by periods.
 use Rattle.std.specs.Prelude.{◌≡◌, ℕ, zero, suc, ◌+◌, pos, [], ◌∷◌, Option, Some, None, IfSome}
 use Rattle.std.proofs.Common.{arith, sym, ap, ◌∙◌, subst, inl, inr}
-use Rattle.upp_limits.specs.rational.specs.Rational.{ℚ, ◌+ℚ◌, ◌-ℚ◌, ◌*ℚ◌, ◌/ℚ◌, ◌≤ℚ◌, ◌<ℚ◌, int}
-use Rattle.upp_limits.specs.rational.specs.Grid.{Whole}
-use Rattle.upp_limits.specs.rational.specs.Whole.{whole_part}
-use Rattle.upp_limits.specs.rational.specs.Extended.{Ext, ◌≤ₑ◌, ◌+ₑ◌}
-use Rattle.upp_limits.specs.rational.specs.declared.Extended.TheVariants.{Fin, Inf}
-use Rattle.upp_limits.specs.rational.proofs.Linear.{with_atoms, with2, with3, with4, with5, with6, with7}
-use Rattle.upp_limits.specs.rational.proofs.Laws.{le_trans, le_of_lt, le_or_lt, mul_sub, mul_nonneg, zero_mul}
-use Rattle.upp_limits.specs.rational.proofs.Integers.{nat_nonneg}
-use Rattle.upp_limits.specs.rational.proofs.Quotients.{div_le}
-use Rattle.upp_limits.specs.rational.proofs.Whole.{whole_gt, one_more_times}
-use Rattle.upp_limits.specs.rational.proofs.ExtendedOrder.{le_ext_trans, add_le_ext, le_ext_refl}
-use Rattle.upp_limits.specs.upp_curve.specs.Curve.{SpecCurve, value_at}
-use Rattle.upp_limits.specs.upp_curve.specs.Steady.{Repeats, steady, rise_over}
-use Rattle.upp_limits.specs.upp_curve.proofs.Steady.{steady_rule}
-use Rattle.upp_limits.specs.min_plus.specs.Convolution.{Split}
+use Rattle.rational.specs.Rational.{ℚ, ◌+ℚ◌, ◌-ℚ◌, ◌*ℚ◌, ◌/ℚ◌, ◌≤ℚ◌, ◌<ℚ◌, int}
+use Rattle.rational.specs.Grid.{Whole}
+use Rattle.rational.specs.Whole.{whole_part}
+use Rattle.rational.specs.Extended.{Ext, ◌≤ₑ◌, ◌+ₑ◌}
+use Rattle.rational.specs.declared.Extended.TheVariants.{Fin, Inf}
+use Rattle.rational.proofs.Linear.{with_atoms, with2, with3, with4, with5, with6, with7}
+use Rattle.rational.proofs.Laws.{le_trans, le_of_lt, le_or_lt, mul_sub, mul_nonneg, zero_mul}
+use Rattle.rational.proofs.Integers.{nat_nonneg}
+use Rattle.rational.proofs.Quotients.{div_le}
+use Rattle.rational.proofs.Whole.{whole_gt, one_more_times}
+use Rattle.rational.proofs.ExtendedOrder.{le_ext_trans, add_le_ext, le_ext_refl}
+use Rattle.upp_curve.specs.Curve.{SpecCurve, value_at}
+use Rattle.upp_curve.specs.Steady.{Repeats, steady, rise_over}
+use Rattle.upp_curve.proofs.Steady.{steady_rule}
+use Rattle.min_plus.specs.Convolution.{Split}
 use Rattle.upp_limits.specs.Windows.{IsLateLeast}
-use Rattle.plain_operators.specs.curve_call.proofs.Shifts.{later_value}
+use Rattle.curve_call.proofs.Shifts.{later_value}
 use Rattle.plain_operators.proofs.pointwise.LatticeCalls.{more_periods}
 use Rattle.curve_conv.specs.Late.{IsLateAfter, IsLateCall}
 use Rattle.curve_conv.specs.Rises.{RisesAtMost, HasLater}

@@ -5,9 +5,9 @@ use native.Mathlib.Nat.{dvd-mul_left, dvd-mul_right, mul-pos, mul-dvd-mul_left}
 use Rattle.std.proofs.Common.{arith, subst, sym, inl, inr}
 use Rattle.std.proofs.lemmas.Bool.{cases_lt}
 use Rattle.std.proofs.lemmas.Nat.Gcd.{dvd_trans}
-use Rattle.upp_limits.specs.rational.specs.Rational.{ℚ}
-use Rattle.upp_limits.specs.rational.specs.Grid.{Whole}
-use Rattle.upp_limits.specs.rational.proofs.Grid.{whole_weaken}
+use Rattle.rational.specs.Rational.{ℚ}
+use Rattle.rational.specs.Grid.{Whole}
+use Rattle.rational.proofs.Grid.{whole_weaken}
 use Rattle.upp_limits.specs.Limits.{Sizes}
 use Rattle.curve_conv.specs.Stretches.{SumPlace}
 

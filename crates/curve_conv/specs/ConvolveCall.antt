@@ -1,11 +1,11 @@
 -- A call of the convolution within both limits. Own choice.
 use Rattle.std.specs.Prelude.{◌≡◌, ℕ, ◌+◌}
-use Rattle.upp_limits.specs.rational.specs.Rational.{◌+ℚ◌, ◌-ℚ◌}
-use Rattle.upp_limits.specs.upp_curve.specs.Curve.{SpecCurve}
+use Rattle.rational.specs.Rational.{◌+ℚ◌, ◌-ℚ◌}
+use Rattle.upp_curve.specs.Curve.{SpecCurve}
 use Rattle.upp_limits.specs.Limits.{Sizes}
 use Rattle.upp_limits.specs.Sized.{grid_of}
-use Rattle.upp_limits.specs.upp_curve.specs.Steady.{steady}
-use Rattle.plain_operators.specs.curve_call.specs.declared.frame.Frame.{Frame}
+use Rattle.upp_curve.specs.Steady.{steady}
+use Rattle.curve_call.specs.declared.frame.Frame.{Frame}
 use Rattle.plain_operators.specs.pointwise.LatticeCall.{LatticeCall}
 use Rattle.curve_conv.specs.Late.{IsSlowerLate}
 

@@ -1,12 +1,12 @@
 -- From when on a convolution is the part in which the slower curve repeats. (Bouillard, Boyer and Le Corronc: the
 -- convolution of two curves repeats with the smaller of their rates.)
 use Rattle.std.specs.Prelude.{◌≡◌, ℕ, pos}
-use Rattle.upp_limits.specs.rational.specs.Rational.{ℚ, ◌+ℚ◌, ◌≤ℚ◌, ◌<ℚ◌, int}
-use Rattle.upp_limits.specs.rational.specs.Grid.{Whole}
-use Rattle.upp_limits.specs.rational.specs.Extended.{Ext, ◌<ₑ◌}
-use Rattle.upp_limits.specs.upp_curve.specs.Curve.{SpecCurve, value_at}
-use Rattle.upp_limits.specs.min_plus.specs.Convolution.{IsConvolution}
-use Rattle.upp_limits.specs.upp_curve.specs.Steady.{steady, rate, IsWholePeriods}
+use Rattle.rational.specs.Rational.{ℚ, ◌+ℚ◌, ◌≤ℚ◌, ◌<ℚ◌, int}
+use Rattle.rational.specs.Grid.{Whole}
+use Rattle.rational.specs.Extended.{Ext, ◌<ₑ◌}
+use Rattle.upp_curve.specs.Curve.{SpecCurve, value_at}
+use Rattle.min_plus.specs.Convolution.{IsConvolution}
+use Rattle.upp_curve.specs.Steady.{steady, rate, IsWholePeriods}
 use Rattle.upp_limits.specs.Periods.{periods_after}
 use Rattle.upp_limits.specs.Windows.{IsLateLeastFor, IsSlowerLateLeast, IsLeast}
 use Rattle.curve_conv.specs.Parts.{IsPart, FirstLate}

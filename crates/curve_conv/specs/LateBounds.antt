@@ -2,15 +2,15 @@
 -- curve does in one period of its own, and before it. (Le Boudec and Thiran: a curve that repeats lies between two lines
 -- of its rate.)
 use Rattle.std.specs.Prelude.{◌≡◌, ℕ, ◌≤◌, pos}
-use Rattle.upp_limits.specs.rational.specs.Rational.{ℚ, ◌+ℚ◌, int}
-use Rattle.upp_limits.specs.rational.specs.Extended.{Ext, ◌≤ₑ◌, ◌+ₑ◌}
-use Rattle.upp_limits.specs.rational.specs.declared.Extended.TheVariants.{Fin}
-use Rattle.upp_limits.specs.upp_curve.specs.Curve.{SpecCurve, value_at}
-use Rattle.upp_limits.specs.upp_curve.specs.Steady.{steady, rise_over}
+use Rattle.rational.specs.Rational.{ℚ, ◌+ℚ◌, int}
+use Rattle.rational.specs.Extended.{Ext, ◌≤ₑ◌, ◌+ₑ◌}
+use Rattle.rational.specs.declared.Extended.TheVariants.{Fin}
+use Rattle.upp_curve.specs.Curve.{SpecCurve, value_at}
+use Rattle.upp_curve.specs.Steady.{steady, rise_over}
 use Rattle.upp_limits.specs.Periods.{periods_after}
-use Rattle.plain_operators.specs.curve_call.specs.declared.bounds.Bounds.{Bounds}
-use Rattle.plain_operators.specs.curve_call.specs.Bounds.{own_or}
-use Rattle.plain_operators.specs.curve_call.specs.Gaps.{InWindow}
+use Rattle.curve_call.specs.declared.bounds.Bounds.{Bounds}
+use Rattle.curve_call.specs.Bounds.{own_or}
+use Rattle.curve_call.specs.Gaps.{InWindow}
 use Rattle.curve_conv.specs.declared.extremes.Extremes.{Extremes}
 use Rattle.curve_conv.specs.Late.{IsLateIn, IsLateNumber, IsSlowerLate, IsSlowerNumber}
 

@@ -1,10 +1,10 @@
 -- A part of a convolution: the splits of a time of which both sides are in some times. (Bouillard, Boyer and Le
 -- Corronc: the convolution of two functions is the least of those of their parts, before and from the time on from
 -- which they repeat.)
-use Rattle.upp_limits.specs.rational.specs.Rational.{ℚ, ◌≤ℚ◌, ◌<ℚ◌}
-use Rattle.upp_limits.specs.rational.specs.Extended.{Ext, ◌+ₑ◌}
-use Rattle.upp_limits.specs.rational.specs.Bounds.{IsInfimum}
-use Rattle.upp_limits.specs.min_plus.specs.Convolution.{Split}
+use Rattle.rational.specs.Rational.{ℚ, ◌≤ℚ◌, ◌<ℚ◌}
+use Rattle.rational.specs.Extended.{Ext, ◌+ₑ◌}
+use Rattle.rational.specs.Bounds.{IsInfimum}
+use Rattle.min_plus.specs.Convolution.{Split}
 
 -- a split of t whose two sides are as P says
 pub record PartSplit (P : ℚ → ℚ → Type 0) (t : ℚ) : Type 0 where

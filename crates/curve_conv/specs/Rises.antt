@@ -1,13 +1,13 @@
 -- By how much a function is at most above itself some time earlier, over the times before another. Own choice.
 use Rattle.std.specs.Prelude.{ℕ, pos, Option}
-use Rattle.upp_limits.specs.rational.specs.Rational.{ℚ, ◌+ℚ◌, ◌≤ℚ◌, ◌<ℚ◌, int}
-use Rattle.upp_limits.specs.rational.specs.Grid.{Whole}
-use Rattle.upp_limits.specs.rational.specs.Extended.{Ext, ◌≤ₑ◌, ◌+ₑ◌}
-use Rattle.upp_limits.specs.rational.specs.declared.Extended.TheVariants.{Fin}
-use Rattle.upp_limits.specs.upp_curve.specs.Curve.{SpecCurve, value_at}
+use Rattle.rational.specs.Rational.{ℚ, ◌+ℚ◌, ◌≤ℚ◌, ◌<ℚ◌, int}
+use Rattle.rational.specs.Grid.{Whole}
+use Rattle.rational.specs.Extended.{Ext, ◌≤ₑ◌, ◌+ₑ◌}
+use Rattle.rational.specs.declared.Extended.TheVariants.{Fin}
+use Rattle.upp_curve.specs.Curve.{SpecCurve, value_at}
 use Rattle.upp_limits.specs.Limits.{Sizes}
 use Rattle.upp_normal.specs.Ahead.{IsBeforeNext, AtNext, TimesStand, HasWindow}
-use Rattle.plain_operators.specs.curve_call.specs.Gaps.{InWindow}
+use Rattle.curve_call.specs.Gaps.{InWindow}
 use Rattle.curve_conv.specs.declared.rises.Looked.{Looked}
 
 -- d later f is at no time before `until` more than q above itself

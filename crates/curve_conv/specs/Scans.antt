@@ -1,9 +1,9 @@
 -- A scan of the pairs of two curves' pieces up to the end of a window: its sizes, and which times it looks at. Own
 -- choice.
 use Rattle.std.specs.Prelude.{◌≡◌, Bool, true, false, Option, Some, None}
-use Rattle.upp_limits.specs.rational.specs.Rational.{ℚ, ◌≤ℚ◌, ◌<ℚ◌}
+use Rattle.rational.specs.Rational.{ℚ, ◌≤ℚ◌, ◌<ℚ◌}
 use Rattle.upp_limits.specs.declared.op_kind.OpKind.TheVariants.{Convolve}
-use Rattle.upp_limits.specs.upp_curve.specs.Curve.{SpecCurve}
+use Rattle.upp_curve.specs.Curve.{SpecCurve}
 use Rattle.upp_limits.specs.Limits.{Sizes, sizes_of}
 use Rattle.upp_limits.specs.Gauges.{numbers_over}
 use Rattle.upp_normal.specs.Ahead.{HasWindow, IsBeforeNext, AtNext}

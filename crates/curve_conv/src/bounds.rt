@@ -1,8 +1,8 @@
 //! Between which numbers of periods the least one of a convolution is, from few numbers of each curve.
 
 ghost use Rattle.std.specs.Prelude.{◌≡◌, ◌+◌, pos, IfSome};
-ghost use Rattle.upp_limits.specs.rational.specs.Rational.{int, ◌-ℚ◌, ◌*ℚ◌, ◌≤ℚ◌, ◌<ℚ◌};
-ghost use Rattle.upp_limits.specs.upp_curve.specs.Steady.{steady, rise_over};
+ghost use Rattle.rational.specs.Rational.{int, ◌-ℚ◌, ◌*ℚ◌, ◌≤ℚ◌, ◌<ℚ◌};
+ghost use Rattle.upp_curve.specs.Steady.{steady, rise_over};
 ghost use Rattle.curve_conv.specs.Late.{IsLateAfter, IsLateCall, IsPartsCall};
 ghost use Rattle.curve_conv.specs.LateBounds.{IsLateBounds, IsSlowerBounds};
 
@@ -12,9 +12,9 @@ use crate::number::lead;
 use crate::order::is_slower_curve;
 use crate::rises::rise_before;
 use crate::rows::Scan;
-use plain_operators::curve_call::{Bounds, Side, begin, is_slower, rise_over, zero_level};
-use upp_limits::fraction128::{Frac, is_less};
-use upp_limits::upp_curve::Curve;
+use curve_call::{Bounds, Side, begin, is_slower, rise_over, zero_level};
+use fraction128::{Frac, is_less};
+use upp_curve::Curve;
 
 /// So many pieces of the slower curve are looked at over a common period; of one that has more, nothing is told.
 const MOST_PIECES: u32 = 262144;

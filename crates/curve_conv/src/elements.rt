@@ -1,21 +1,21 @@
 //! What two elements make, as it goes on from a time.
 
 ghost use Rattle.std.specs.Prelude.{◌≡◌, ◌↔◌, IsTrue};
-ghost use Rattle.upp_limits.specs.rational.specs.Rational.{ℚ, ◌<ℚ◌};
-ghost use Rattle.upp_limits.specs.rational.specs.Extended.{◌<ₑ◌};
-ghost use Rattle.upp_limits.specs.upp_curve.specs.affine_segment.Elements.{IsProper, element_value, part_value, joined_value, PairSplit, pair_sum, AreAdjoined};
+ghost use Rattle.rational.specs.Rational.{ℚ, ◌<ℚ◌};
+ghost use Rattle.rational.specs.Extended.{◌<ₑ◌};
+ghost use Rattle.upp_curve.specs.affine_segment.Elements.{IsProper, element_value, part_value, joined_value, PairSplit, pair_sum, AreAdjoined};
 ghost use Rattle.upp_limits.specs.Limits.{Sizes};
 ghost use Rattle.upp_normal.specs.Ahead.{GoesOn};
-ghost use Rattle.upp_limits.specs.upp_curve.specs.affine_segment.Fits.{LineFits};
+ghost use Rattle.upp_curve.specs.affine_segment.Fits.{LineFits};
 ghost use Rattle.element_envelope.specs.ElementRoom.{OperandElement, SumElement, SumPart, SumJoined, HaveRoom};
 ghost use Rattle.curve_conv.specs.Stretches.{SumStretch, SumTimeIn, IsAhead, end_time, until_time, point_at, open_at, PartPair, part_pair_sum, IsProperPart, OperandPart};
 
 use crate::lower::lower;
 use element_envelope::joined;
+use fraction128::{Ext, Frac, is_less};
+use rational::Extended;
 use std::cmp::Ordering;
-use upp_limits::fraction128::{Ext, Frac, is_less};
-use upp_limits::rational::Extended;
-use upp_limits::upp_curve::affine_segment::{Element, Joined, Line, line_at};
+use upp_curve::affine_segment::{Element, Joined, Line, line_at};
 use upp_normal::Stretch;
 
 /// Infinity, up to a time.

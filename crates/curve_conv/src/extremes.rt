@@ -1,21 +1,21 @@
 //! What two curves do in the first period of their own from when on they repeat, and before that. No memory is taken.
 
 ghost use Rattle.std.specs.Prelude.{◌≡◌, pos, IfSome};
-ghost use Rattle.upp_limits.specs.rational.specs.Rational.{ℚ, int, ◌+ℚ◌, ◌-ℚ◌};
-ghost use Rattle.upp_limits.specs.rational.specs.declared.Extended.TheVariants.{Fin};
-ghost use Rattle.upp_limits.specs.upp_curve.specs.Curve.{value_at};
-ghost use Rattle.upp_limits.specs.upp_curve.specs.Steady.{steady};
+ghost use Rattle.rational.specs.Rational.{ℚ, int, ◌+ℚ◌, ◌-ℚ◌};
+ghost use Rattle.rational.specs.declared.Extended.TheVariants.{Fin};
+ghost use Rattle.upp_curve.specs.Curve.{value_at};
+ghost use Rattle.upp_curve.specs.Steady.{steady};
 ghost use Rattle.upp_limits.specs.Limits.{Sizes};
 ghost use Rattle.upp_normal.specs.Ahead.{HasWindow, IsTimeIn};
-ghost use Rattle.plain_operators.specs.curve_call.specs.Levels.{level_curve};
+ghost use Rattle.curve_call.specs.Levels.{level_curve};
 ghost use Rattle.curve_conv.specs.Late.{IsLateCall};
 ghost use Rattle.curve_conv.specs.LateBounds.{IsTop, IsDepth, AreCurveExtremes, most_gap};
 
 use crate::rows::Scan;
-use plain_operators::curve_call::{Gap, Side, period_or, rise_over, side_gap, zero_level};
-use upp_limits::fraction128::Frac;
-use upp_limits::rational::Extended;
-use upp_limits::upp_curve::Curve;
+use curve_call::{Gap, Side, period_or, rise_over, side_gap, zero_level};
+use fraction128::Frac;
+use rational::Extended;
+use upp_curve::Curve;
 use upp_normal::stretch_at;
 
 /// What the slower and the faster of two curves do in the first period of their own, and the slower one before that.

@@ -1,14 +1,14 @@
 //! By how much the part of a convolution in which the first curve repeats is above the part before.
 
 ghost use Rattle.std.specs.Prelude.{◌≡◌, pos, Some, None, IfSome};
-ghost use Rattle.upp_limits.specs.rational.specs.Rational.{ℚ, ◌-ℚ◌, ◌<ℚ◌, int};
-ghost use Rattle.upp_limits.specs.rational.specs.MinMax.{max_q};
-ghost use Rattle.upp_limits.specs.rational.specs.Extended.{Ext};
-ghost use Rattle.upp_limits.specs.upp_curve.specs.Curve.{value_at};
+ghost use Rattle.rational.specs.Rational.{ℚ, ◌-ℚ◌, ◌<ℚ◌, int};
+ghost use Rattle.rational.specs.MinMax.{max_q};
+ghost use Rattle.rational.specs.Extended.{Ext};
+ghost use Rattle.upp_curve.specs.Curve.{value_at};
 ghost use Rattle.upp_limits.specs.Limits.{Sizes};
 ghost use Rattle.upp_normal.specs.Ahead.{GoesOn};
-ghost use Rattle.plain_operators.specs.curve_call.specs.Gaps.{InWindow, IsGap};
-ghost use Rattle.plain_operators.specs.curve_call.specs.GapSteps.{gap_of, larger, DifferenceFits, IsUntil, earlier_of};
+ghost use Rattle.curve_call.specs.Gaps.{InWindow, IsGap};
+ghost use Rattle.curve_call.specs.GapSteps.{gap_of, larger, DifferenceFits, IsUntil, earlier_of};
 ghost use Rattle.element_envelope.specs.ElementRoom.{WindowTime};
 ghost use Rattle.curve_conv.specs.PartGaps.{PartGapStands, SumTimeTo, ArePartValues, HavePartValues};
 ghost use Rattle.curve_conv.specs.Scans.{sizes_in, IsScan};
@@ -17,10 +17,10 @@ ghost use Rattle.curve_conv.specs.Stretches.{SumStretch, SumTimeIn};
 
 use crate::made::part_at;
 use crate::rows::Scan;
-use plain_operators::curve_call::{Gap, earlier, gap_of, larger};
-use upp_limits::fraction128::{Ext, Frac, is_less};
-use upp_limits::rational::Extended;
-use upp_limits::upp_curve::affine_segment::{Piece, line_value};
+use curve_call::{Gap, earlier, gap_of, larger};
+use fraction128::{Ext, Frac, is_less};
+use rational::Extended;
+use upp_curve::affine_segment::{Piece, line_value};
 use upp_normal::Stretch;
 
 // The gap from t up to `end`, where neither goes on otherwise before that.

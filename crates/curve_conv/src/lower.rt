@@ -1,18 +1,18 @@
 //! The lower of two functions, as it goes on from a time.
 
 ghost use Rattle.std.specs.Prelude.{◌≡◌, ◌↔◌, ◌≢◌, IsTrue, Some};
-ghost use Rattle.upp_limits.specs.rational.specs.Rational.{ℚ, ◌<ℚ◌};
-ghost use Rattle.upp_limits.specs.rational.specs.MinMax.{min_q};
-ghost use Rattle.upp_limits.specs.rational.specs.Extended.{Ext, min_ext};
-ghost use Rattle.upp_limits.specs.upp_curve.specs.affine_segment.Values.{line_at};
+ghost use Rattle.rational.specs.Rational.{ℚ, ◌<ℚ◌};
+ghost use Rattle.rational.specs.MinMax.{min_q};
+ghost use Rattle.rational.specs.Extended.{Ext, min_ext};
+ghost use Rattle.upp_curve.specs.affine_segment.Values.{line_at};
 ghost use Rattle.upp_limits.specs.Limits.{Sizes};
 ghost use Rattle.upp_normal.specs.Ahead.{GoesOn, IsBeforeNext};
-ghost use Rattle.plain_operators.specs.curve_call.specs.Lies.{CrossFits};
+ghost use Rattle.curve_call.specs.Lies.{CrossFits};
 ghost use Rattle.curve_conv.specs.Stretches.{SumStretch, SumTimeIn, IsUnder, IsEarliest};
 
-use upp_limits::fraction128::{Ext, Frac, is_less, lesser_value};
-use upp_limits::rational::Extended;
-use upp_limits::upp_curve::affine_segment::{Line, cross};
+use fraction128::{Ext, Frac, is_less, lesser_value};
+use rational::Extended;
+use upp_curve::affine_segment::{Line, cross};
 use upp_normal::Stretch;
 
 /// The lower of two lines just after a time.

@@ -2,8 +2,8 @@
 //! pairs make.
 
 ghost use Rattle.std.specs.Prelude.{◌≡◌, ◌++◌, pos, None, OnOk, IfOk, IfSome};
-ghost use Rattle.upp_limits.specs.rational.specs.Rational.{int, ◌<ℚ◌};
-ghost use Rattle.upp_limits.specs.upp_curve.specs.Curve.{value_at};
+ghost use Rattle.rational.specs.Rational.{int, ◌<ℚ◌};
+ghost use Rattle.upp_curve.specs.Curve.{value_at};
 ghost use Rattle.upp_normal.specs.Ahead.{AtNext, HasWindow};
 ghost use Rattle.element_envelope.specs.ElementRoom.{WindowTime};
 ghost use Rattle.element_envelope.specs.SumWindows.{SumStart};
@@ -17,11 +17,11 @@ use crate::parts::{limit_of, or_else, part};
 use crate::pieces::piece_stretch;
 use crate::rows::{Scan, early, is_time, time_or};
 use element_envelope::envelope;
+use fraction128::{Ext, Frac, is_less};
+use rational::Extended;
 use std::alloc::{AllocError, Global};
-use upp_limits::fraction128::{Ext, Frac, is_less};
-use upp_limits::rational::Extended;
-use upp_limits::upp_curve::Curve;
-use upp_limits::upp_curve::affine_segment::{Element, Line, Piece};
+use upp_curve::Curve;
+use upp_curve::affine_segment::{Element, Line, Piece};
 use upp_limits::{OpKind, tally_over};
 use upp_normal::{Stretch, stretch_at};
 

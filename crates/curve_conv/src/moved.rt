@@ -2,16 +2,16 @@
 //! once it is moved by some periods of the faster curve's own. No memory is taken.
 
 ghost use Rattle.std.specs.Prelude.{◌≡◌, pos, IfSome, IsTrue};
-ghost use Rattle.upp_limits.specs.rational.specs.Rational.{int, ◌*ℚ◌};
-ghost use Rattle.upp_limits.specs.upp_curve.specs.Steady.{steady};
+ghost use Rattle.rational.specs.Rational.{int, ◌*ℚ◌};
+ghost use Rattle.upp_curve.specs.Steady.{steady};
 ghost use Rattle.curve_conv.specs.Late.{IsLateAfter, IsLateCall};
 ghost use Rattle.curve_conv.specs.Moves.{IsMove};
 ghost use Rattle.curve_conv.specs.Scans.{sizes_in};
 
 use crate::rises::rise_before;
 use crate::rows::Scan;
-use plain_operators::curve_call::{period_or, rise_over};
-use upp_limits::fraction128::{Frac, is_less};
+use curve_call::{period_or, rise_over};
+use fraction128::{Frac, is_less};
 
 /// So many moves are tried, in even steps up to a common period.
 const MOVES: u32 = 16;

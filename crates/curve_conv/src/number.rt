@@ -1,16 +1,16 @@
 //! From which number of periods on a convolution is the part in which the slower curve repeats.
 
 ghost use Rattle.std.specs.Prelude.{ℕ, ◌≡◌, ◌≢◌, MatchOption};
-ghost use Rattle.upp_limits.specs.rational.specs.Rational.{ℚ, ◌-ℚ◌};
-ghost use Rattle.upp_limits.specs.upp_curve.specs.Steady.{steady, rise_over};
+ghost use Rattle.rational.specs.Rational.{ℚ, ◌-ℚ◌};
+ghost use Rattle.upp_curve.specs.Steady.{steady, rise_over};
 ghost use Rattle.curve_conv.specs.Late.{IsLateAfter, IsLateNumber, IsLateCall};
 
 use crate::gaps::part_gap;
 use crate::made::made_part;
 use crate::rows::Scan;
-use plain_operators::curve_call::{Gap, least_times, rise_over};
+use curve_call::{Gap, least_times, rise_over};
+use fraction128::{Frac, difference, is_less};
 use std::alloc::Global;
-use upp_limits::fraction128::{Frac, difference, is_less};
 
 /// By how much the faster curve rises more than the slower over a period.
 pub(crate) fn lead(s: &Scan, from: Frac, period: Frac) -> Frac

@@ -1,30 +1,28 @@
 //! The convolution of two curves.
 
 ghost use Rattle.std.specs.Prelude.{◌≡◌, ◌+◌, pos, IfOk, IfErr, IfSome};
-ghost use Rattle.upp_limits.specs.rational.specs.Rational.{ℚ, int, ◌-ℚ◌, ◌≤ℚ◌, neg_ℚ};
-ghost use Rattle.upp_limits.specs.rational.specs.Ratio.{SumFits};
-ghost use Rattle.upp_limits.specs.rational.specs.Extended.{◌<ₑ◌};
-ghost use Rattle.upp_limits.specs.upp_curve.specs.Curve.{value_at};
-ghost use Rattle.upp_limits.specs.min_plus.specs.Convolution.{IsConvolution};
-ghost use Rattle.upp_limits.specs.upp_curve.specs.Steady.{rate, rise_over};
-ghost use Rattle.upp_limits.specs.upp_curve.specs.Curves.{IsCurve};
+ghost use Rattle.rational.specs.Rational.{ℚ, int, ◌-ℚ◌, ◌≤ℚ◌, neg_ℚ};
+ghost use Rattle.rational.specs.Ratio.{SumFits};
+ghost use Rattle.rational.specs.Extended.{◌<ₑ◌};
+ghost use Rattle.upp_curve.specs.Curve.{value_at};
+ghost use Rattle.min_plus.specs.Convolution.{IsConvolution};
+ghost use Rattle.upp_curve.specs.Steady.{rate, rise_over};
+ghost use Rattle.upp_curve.specs.Curves.{IsCurve};
 ghost use Rattle.upp_limits.specs.Outcome.{IsWithin, IsCauseOf, KeepsLimits};
 ghost use Rattle.upp_limits.specs.declared.op_kind.OpKind.TheVariants.{Convolve};
-ghost use Rattle.plain_operators.specs.curve_call.specs.FirstWindows.{IsFirstWindow};
-ghost use Rattle.plain_operators.specs.curve_call.specs.Rises.{CurveRiseFits};
+ghost use Rattle.curve_call.specs.FirstWindows.{IsFirstWindow};
+ghost use Rattle.curve_call.specs.Rises.{CurveRiseFits};
 ghost use Rattle.plain_operators.specs.pointwise.Lattice.{RisesBy};
 ghost use Rattle.curve_conv.specs.ConvolveCall.{IsConvolveFrame};
 
 use crate::{is_slower_curve, late_bounds, late_periods};
+use curve_call::{CallWindow, Frame, answer, first_window, refuse_between, rise_over, within};
 use element_envelope::window_convolution;
+use fraction128::{Frac, difference};
 use outcomes::Steps;
-use plain_operators::curve_call::{
-    CallWindow, Frame, answer, first_window, refuse_between, rise_over, within,
-};
 use std::alloc::{AllocError, Global};
 use std::sync::ledger::Ledger;
-use upp_limits::fraction128::{Frac, difference};
-use upp_limits::upp_curve::Curve;
+use upp_curve::Curve;
 use upp_limits::{OpFault, OpKind, tally_over};
 use upp_normal::unrolled;
 

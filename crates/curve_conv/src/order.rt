@@ -1,17 +1,17 @@
 //! The number of periods of a convolution, for either order of the rates.
 
 ghost use Rattle.std.specs.Prelude.{ℕ, ◌≡◌, ◌↔◌, IsTrue, MatchOption};
-ghost use Rattle.upp_limits.specs.rational.specs.Extended.{◌<ₑ◌};
-ghost use Rattle.upp_limits.specs.upp_curve.specs.Steady.{steady, rate};
-ghost use Rattle.plain_operators.specs.curve_call.specs.Times.{OneLaterFits};
+ghost use Rattle.rational.specs.Extended.{◌<ₑ◌};
+ghost use Rattle.upp_curve.specs.Steady.{steady, rate};
+ghost use Rattle.curve_call.specs.Times.{OneLaterFits};
 ghost use Rattle.curve_conv.specs.Late.{IsSlowerAfter, IsSlowerNumber, IsPartsCall};
 
 use crate::number::late_number;
 use crate::rows::Scan;
-use plain_operators::curve_call::{Side, begin, is_slower};
+use curve_call::{Side, begin, is_slower};
+use fraction128::Frac;
 use std::alloc::Global;
-use upp_limits::fraction128::Frac;
-use upp_limits::upp_curve::Curve;
+use upp_curve::Curve;
 
 /// Whether f is the slower of two curves.
 pub fn is_slower_curve(f: &Curve, g: &Curve) -> bool

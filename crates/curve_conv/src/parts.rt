@@ -2,9 +2,9 @@
 //! is taken.
 
 ghost use Rattle.std.specs.Prelude.{◌≡◌, ◌⊎◌, Option, None};
-ghost use Rattle.upp_limits.specs.rational.specs.Rational.{ℚ, ◌≤ℚ◌};
-ghost use Rattle.upp_limits.specs.rational.specs.Families.{either};
-ghost use Rattle.upp_limits.specs.upp_curve.specs.Curve.{value_at};
+ghost use Rattle.rational.specs.Rational.{ℚ, ◌≤ℚ◌};
+ghost use Rattle.rational.specs.Families.{either};
+ghost use Rattle.upp_curve.specs.Curve.{value_at};
 ghost use Rattle.upp_normal.specs.Ahead.{AtNext};
 ghost use Rattle.element_envelope.specs.ElementRoom.{WindowTime};
 ghost use Rattle.element_envelope.specs.SumWindows.{SumStart};
@@ -15,8 +15,8 @@ ghost use Rattle.curve_conv.specs.Stretches.{SumStretch, IsAhead, PartRow, part_
 use crate::elements::{nothing, open_at, point_at};
 use crate::lower::lower;
 use crate::rows::{Scan, early, is_time, row, time_or};
-use upp_limits::fraction128::{Frac, difference, is_less};
-use upp_limits::upp_curve::affine_segment::Element;
+use fraction128::{Frac, difference, is_less};
+use upp_curve::affine_segment::Element;
 use upp_normal::{Stretch, stretch_at};
 
 /// The first of two times that may be missing, where it is there.

@@ -1,19 +1,19 @@
 //! By how much a curve is at most above itself a period earlier, before it repeats. No memory is taken.
 
 ghost use Rattle.std.specs.Prelude.{◌≡◌, IfSome};
-ghost use Rattle.upp_limits.specs.rational.specs.Rational.{◌+ℚ◌, ◌≤ℚ◌, ◌<ℚ◌};
-ghost use Rattle.upp_limits.specs.rational.specs.Extended.{◌≤ₑ◌, ◌+ₑ◌};
-ghost use Rattle.upp_limits.specs.rational.specs.declared.Extended.TheVariants.{Fin};
-ghost use Rattle.upp_limits.specs.upp_curve.specs.Curve.{value_at};
-ghost use Rattle.upp_limits.specs.upp_curve.specs.affine_segment.Values.{line_value};
+ghost use Rattle.rational.specs.Rational.{◌+ℚ◌, ◌≤ℚ◌, ◌<ℚ◌};
+ghost use Rattle.rational.specs.Extended.{◌≤ₑ◌, ◌+ₑ◌};
+ghost use Rattle.rational.specs.declared.Extended.TheVariants.{Fin};
+ghost use Rattle.upp_curve.specs.Curve.{value_at};
+ghost use Rattle.upp_curve.specs.affine_segment.Values.{line_value};
 ghost use Rattle.curve_conv.specs.Rises.{RisesAtMost, HasLater, IsLookedUntil, IsNextTime};
 
 use crate::extremes::{checked_sum, rest};
-use plain_operators::curve_call::earlier;
-use upp_limits::fraction128::{Ext, Frac, greater, is_less};
-use upp_limits::rational::Extended;
-use upp_limits::upp_curve::Curve;
-use upp_limits::upp_curve::affine_segment::{Line, value};
+use curve_call::earlier;
+use fraction128::{Ext, Frac, greater, is_less};
+use rational::Extended;
+use upp_curve::Curve;
+use upp_curve::affine_segment::{Line, value};
 use upp_normal::stretch_at;
 
 /// How far a curve was looked at.

@@ -1,11 +1,11 @@
 //! What an element makes with a curve, as it goes on from a time. No memory is taken.
 
 ghost use Rattle.std.specs.Prelude.{◌≡◌, ◌⊎◌};
-ghost use Rattle.upp_limits.specs.rational.specs.Rational.{ℚ, ◌-ℚ◌, ◌≤ℚ◌, neg_ℚ};
-ghost use Rattle.upp_limits.specs.rational.specs.Ratio.{SumFits};
-ghost use Rattle.upp_limits.specs.rational.specs.Families.{either};
-ghost use Rattle.upp_limits.specs.upp_curve.specs.affine_segment.Elements.{IsProper, start_of};
-ghost use Rattle.upp_limits.specs.upp_curve.specs.Curve.{value_at};
+ghost use Rattle.rational.specs.Rational.{ℚ, ◌-ℚ◌, ◌≤ℚ◌, neg_ℚ};
+ghost use Rattle.rational.specs.Ratio.{SumFits};
+ghost use Rattle.rational.specs.Families.{either};
+ghost use Rattle.upp_curve.specs.affine_segment.Elements.{IsProper, start_of};
+ghost use Rattle.upp_curve.specs.Curve.{value_at};
 ghost use Rattle.upp_limits.specs.Limits.{Sizes};
 ghost use Rattle.element_envelope.specs.ElementRoom.{OperandElement, WindowTime};
 ghost use Rattle.element_envelope.specs.SumWindows.{SumStart};
@@ -16,9 +16,9 @@ ghost use Rattle.curve_conv.specs.Stretches.{IsProperPart, OperandPart};
 
 use crate::elements::{nothing, open_at, part_pair, point_at};
 use crate::lower::lower;
-use upp_limits::fraction128::{Frac, difference, is_less};
-use upp_limits::upp_curve::Curve;
-use upp_limits::upp_curve::affine_segment::{Element, start_of};
+use fraction128::{Frac, difference, is_less};
+use upp_curve::Curve;
+use upp_curve::affine_segment::{Element, start_of};
 use upp_normal::{Stretch, stretch_at};
 
 /// Two curves whose pairs of pieces are looked at, up to the end of a window.

@@ -2,30 +2,30 @@
 -- the answer's values.
 use Rattle.std.specs.Prelude.{◌≡◌, pos, List}
 use Rattle.std.proofs.Common.{arith, sym, ap, ap₂, ◌∙◌, refl, subst, inl, inr}
-use Rattle.upp_limits.specs.rational.specs.Rational.{ℚ, ◌+ℚ◌, ◌-ℚ◌, ◌≤ℚ◌, ◌<ℚ◌, neg_ℚ, int}
-use Rattle.upp_limits.specs.rational.specs.Ratio.{SumFits}
-use Rattle.upp_limits.specs.rational.specs.Grid.{Whole}
-use Rattle.upp_limits.specs.rational.specs.Extended.{Ext, ◌≤ₑ◌, ◌<ₑ◌, ◌+ₑ◌, ◌-ₑ◌}
-use Rattle.upp_limits.specs.rational.specs.declared.Extended.TheVariants.{Fin}
-use Rattle.upp_limits.specs.rational.proofs.Grid.{whole_sub, whole_add, whole_neg, within_weaken}
-use Rattle.upp_limits.specs.rational.proofs.Linear.{with2, with3, with4, with5}
-use Rattle.upp_limits.specs.rational.proofs.MinMax.{max_q_ge_left, max_q_ge_right}
-use Rattle.upp_limits.specs.rational.proofs.Laws.{le_refl, le_trans, le_of_lt, le_lt_trans, one_mul}
-use Rattle.upp_limits.specs.rational.proofs.ExtendedOrder.{same_le_ext}
-use Rattle.upp_limits.specs.upp_curve.specs.declared.affine_segment.line.Piece.{Piece}
-use Rattle.upp_limits.specs.upp_curve.specs.affine_segment.Values.{line_value}
-use Rattle.upp_limits.specs.upp_curve.specs.declared.curve.Tail.{Tail}
-use Rattle.upp_limits.specs.upp_curve.specs.declared.curve.Tail.TheVariants.{Periodic, Affine, Infinite}
+use Rattle.rational.specs.Rational.{ℚ, ◌+ℚ◌, ◌-ℚ◌, ◌≤ℚ◌, ◌<ℚ◌, neg_ℚ, int}
+use Rattle.rational.specs.Ratio.{SumFits}
+use Rattle.rational.specs.Grid.{Whole}
+use Rattle.rational.specs.Extended.{Ext, ◌≤ₑ◌, ◌<ₑ◌, ◌+ₑ◌, ◌-ₑ◌}
+use Rattle.rational.specs.declared.Extended.TheVariants.{Fin}
+use Rattle.rational.proofs.Grid.{whole_sub, whole_add, whole_neg, within_weaken}
+use Rattle.rational.proofs.Linear.{with2, with3, with4, with5}
+use Rattle.rational.proofs.MinMax.{max_q_ge_left, max_q_ge_right}
+use Rattle.rational.proofs.Laws.{le_refl, le_trans, le_of_lt, le_lt_trans, one_mul}
+use Rattle.rational.proofs.ExtendedOrder.{same_le_ext}
+use Rattle.upp_curve.specs.declared.affine_segment.line.Piece.{Piece}
+use Rattle.upp_curve.specs.affine_segment.Values.{line_value}
+use Rattle.upp_curve.specs.declared.curve.Tail.{Tail}
+use Rattle.upp_curve.specs.declared.curve.Tail.TheVariants.{Periodic, Affine, Infinite}
 use Rattle.upp_limits.specs.declared.op_kind.OpKind.TheVariants.{Deconvolve}
-use Rattle.upp_limits.specs.upp_curve.specs.affine_segment.Reading.{read}
-use Rattle.upp_limits.specs.upp_curve.specs.Curve.{SpecCurve, repeated, value_at}
-use Rattle.upp_limits.specs.upp_curve.specs.Curves.{IsCurve}
-use Rattle.upp_limits.specs.min_plus.specs.Convolution.{IsDeconvolution}
-use Rattle.upp_limits.specs.min_plus.specs.Functions.{IsFinite}
-use Rattle.upp_limits.specs.upp_curve.specs.affine_segment.Pieces.{Each}
+use Rattle.upp_curve.specs.affine_segment.Reading.{read}
+use Rattle.upp_curve.specs.Curve.{SpecCurve, repeated, value_at}
+use Rattle.upp_curve.specs.Curves.{IsCurve}
+use Rattle.min_plus.specs.Convolution.{IsDeconvolution}
+use Rattle.min_plus.specs.Functions.{IsFinite}
+use Rattle.upp_curve.specs.affine_segment.Pieces.{Each}
 use Rattle.upp_normal.specs.Normalising.{HasValues}
-use Rattle.upp_limits.specs.upp_curve.specs.Unrolled.{unroll}
-use Rattle.upp_limits.specs.upp_curve.specs.Steady.{Repeats, steady, rate, rise_over, IsWholePeriods}
+use Rattle.upp_curve.specs.Unrolled.{unroll}
+use Rattle.upp_curve.specs.Steady.{Repeats, steady, rate, rise_over, IsWholePeriods}
 use Rattle.upp_limits.specs.Periods.{common_period, both_steady, period_of, period_or}
 use Rattle.upp_limits.specs.Windows.{window_at}
 use Rattle.upp_limits.specs.Gauges.{IsKnownAtOnce}
@@ -36,25 +36,25 @@ use Rattle.upp_normal.specs.Operand.{AreLimited}
 use Rattle.upp_normal.proofs.AnswerRoom.{more_largest}
 use Rattle.upp_normal.proofs.Below.{unroll_reads}
 use Rattle.upp_limits.proofs.NarrowSizes.{narrow_gauge}
-use Rattle.upp_limits.specs.upp_curve.proofs.affine_segment.PieceOrder.{each_map}
-use Rattle.upp_limits.specs.upp_curve.proofs.Steady.{steady_rule}
+use Rattle.upp_curve.proofs.affine_segment.PieceOrder.{each_map}
+use Rattle.upp_curve.proofs.Steady.{steady_rule}
 use Rattle.upp_normal.proofs.UnrolledPieces.{PieceStands, pieces_stand, unroll_each}
-use Rattle.plain_operators.specs.curve_call.proofs.TailGrids.{TailOf}
-use Rattle.plain_operators.specs.curve_call.specs.declared.frame.Frame.{Frame}
-use Rattle.plain_operators.specs.curve_call.specs.Answering.{IsAnswerWindow}
-use Rattle.plain_operators.specs.curve_call.specs.Frames.{IsFrame, sizes_at}
-use Rattle.plain_operators.specs.curve_call.specs.Times.{OneLaterFits}
-use Rattle.plain_operators.specs.curve_call.proofs.Answering.{answer_relation}
-use Rattle.plain_operators.specs.curve_call.proofs.CallTimes.{first_stands, second_stands}
-use Rattle.plain_operators.specs.curve_call.proofs.CurveTimes.{IsPeriod, one_later, own_or_on, steady_whole}
-use Rattle.plain_operators.specs.curve_call.proofs.CurveRises.{IsRise, rise_is, common_first, common_second}
-use Rattle.plain_operators.specs.curve_call.proofs.FrameFacts.{frame_facts}
-use Rattle.plain_operators.specs.curve_call.proofs.Operands.{unrolled_pieces}
+use Rattle.curve_call.proofs.TailGrids.{TailOf}
+use Rattle.curve_call.specs.declared.frame.Frame.{Frame}
+use Rattle.curve_call.specs.Answering.{IsAnswerWindow}
+use Rattle.curve_call.specs.Frames.{IsFrame, sizes_at}
+use Rattle.curve_call.specs.Times.{OneLaterFits}
+use Rattle.curve_call.proofs.Answering.{answer_relation}
+use Rattle.curve_call.proofs.CallTimes.{first_stands, second_stands}
+use Rattle.curve_call.proofs.CurveTimes.{IsPeriod, one_later, own_or_on, steady_whole}
+use Rattle.curve_call.proofs.CurveRises.{IsRise, rise_is, common_first, common_second}
+use Rattle.curve_call.proofs.FrameFacts.{frame_facts}
+use Rattle.curve_call.proofs.Operands.{unrolled_pieces}
 use Rattle.curve_deconv.specs.DeconvolutionWindows.{OperandWindows, IsDeconvolutionWindow, IsReached}
 use Rattle.curve_deconv.proofs.MirroredRoom.{back_fits}
 use Rattle.curve_deconv.proofs.Reduced.{AreRepeating, reduced, moves}
 use Rattle.curve_deconv.proofs.Slower.{slower_rise, repeats_from}
-use Rattle.upp_limits.specs.upp_curve.proofs.SteadyTimes.{steady_nonneg}
+use Rattle.upp_curve.proofs.SteadyTimes.{steady_nonneg}
 
 -- ---- the times
 -- the period of f's answer: its own, and the common one where it has every period

@@ -1,45 +1,45 @@
 -- What a deconvolution keeps of its first operand, and that it is finite.
 use Rattle.std.specs.Prelude.{◌≡◌, pos, List, [], ◌∷◌, Option, Some, None}
 use Rattle.std.proofs.Common.{arith, sym, ◌∙◌, refl, subst, inl, inr}
-use Rattle.upp_limits.specs.rational.specs.Rational.{ℚ, ◌+ℚ◌, ◌-ℚ◌, ◌*ℚ◌, ◌≤ℚ◌, ◌<ℚ◌, int}
-use Rattle.upp_limits.specs.rational.specs.Grid.{Within}
-use Rattle.upp_limits.specs.rational.specs.Extended.{Ext, ◌≤ₑ◌, ◌-ₑ◌}
-use Rattle.upp_limits.specs.rational.specs.declared.Extended.TheVariants.{Fin, Inf}
-use Rattle.upp_limits.specs.rational.proofs.Grid.{within_add, within_weaken}
-use Rattle.upp_limits.specs.rational.proofs.Integers.{nat_nonneg}
-use Rattle.upp_limits.specs.rational.proofs.Linear.{with1, with2, with3, with4}
-use Rattle.upp_limits.specs.rational.proofs.MinMax.{max_q_ge_left, max_q_ge_right}
-use Rattle.upp_limits.specs.rational.proofs.Laws.{le_or_lt, le_refl, le_trans, le_of_lt}
-use Rattle.upp_limits.specs.rational.proofs.ExtendedOrder.{le_ext_trans, finite_below, fin_same}
-use Rattle.upp_limits.specs.rational.proofs.Bounds.{smallest}
-use Rattle.upp_limits.specs.upp_curve.specs.declared.affine_segment.line.Line.{Line}
-use Rattle.upp_limits.specs.upp_curve.specs.declared.affine_segment.line.Piece.{Piece}
-use Rattle.upp_limits.specs.upp_curve.specs.affine_segment.Values.{line_at, line_value}
-use Rattle.upp_limits.specs.upp_curve.specs.affine_segment.Reading.{read, piece_in, piece_value}
-use Rattle.upp_limits.specs.upp_curve.specs.Curve.{SpecCurve, value_at}
-use Rattle.upp_limits.specs.upp_curve.specs.Curves.{IsCurve}
-use Rattle.upp_limits.specs.min_plus.specs.Functions.{zero_q, IsRising, IsNonnegative, FiniteTime}
-use Rattle.upp_limits.specs.upp_curve.specs.affine_segment.Pieces.{Each, StartsAtZero}
-use Rattle.upp_limits.specs.upp_curve.specs.Steady.{steady, rise_over}
+use Rattle.rational.specs.Rational.{ℚ, ◌+ℚ◌, ◌-ℚ◌, ◌*ℚ◌, ◌≤ℚ◌, ◌<ℚ◌, int}
+use Rattle.rational.specs.Grid.{Within}
+use Rattle.rational.specs.Extended.{Ext, ◌≤ₑ◌, ◌-ₑ◌}
+use Rattle.rational.specs.declared.Extended.TheVariants.{Fin, Inf}
+use Rattle.rational.proofs.Grid.{within_add, within_weaken}
+use Rattle.rational.proofs.Integers.{nat_nonneg}
+use Rattle.rational.proofs.Linear.{with1, with2, with3, with4}
+use Rattle.rational.proofs.MinMax.{max_q_ge_left, max_q_ge_right}
+use Rattle.rational.proofs.Laws.{le_or_lt, le_refl, le_trans, le_of_lt}
+use Rattle.rational.proofs.ExtendedOrder.{le_ext_trans, finite_below, fin_same}
+use Rattle.rational.proofs.Bounds.{smallest}
+use Rattle.upp_curve.specs.declared.affine_segment.line.Line.{Line}
+use Rattle.upp_curve.specs.declared.affine_segment.line.Piece.{Piece}
+use Rattle.upp_curve.specs.affine_segment.Values.{line_at, line_value}
+use Rattle.upp_curve.specs.affine_segment.Reading.{read, piece_in, piece_value}
+use Rattle.upp_curve.specs.Curve.{SpecCurve, value_at}
+use Rattle.upp_curve.specs.Curves.{IsCurve}
+use Rattle.min_plus.specs.Functions.{zero_q, IsRising, IsNonnegative, FiniteTime}
+use Rattle.upp_curve.specs.affine_segment.Pieces.{Each, StartsAtZero}
+use Rattle.upp_curve.specs.Steady.{steady, rise_over}
 use Rattle.upp_limits.specs.Periods.{common_period, both_steady}
-use Rattle.upp_limits.specs.upp_curve.specs.Unrolled.{unroll}
+use Rattle.upp_curve.specs.Unrolled.{unroll}
 use Rattle.upp_limits.specs.Gauges.{both_numbers}
 use Rattle.upp_limits.specs.Limits.{Sizes, curve_numbers, sizes_of}
 use Rattle.upp_limits.specs.Sized.{AreSizes, LineStands, Stands, ValueStands}
 use Rattle.upp_normal.proofs.Below.{unroll_reads}
 use Rattle.upp_limits.proofs.CurveStands.{are_sizes}
-use Rattle.upp_limits.specs.upp_curve.proofs.affine_segment.PieceIn.{value_past, value_by}
+use Rattle.upp_curve.proofs.affine_segment.PieceIn.{value_past, value_by}
 use Rattle.upp_limits.proofs.NarrowSizes.{run_within}
 use Rattle.upp_normal.proofs.NormaliseRoomy.{each_in, found_early}
 use Rattle.upp_limits.proofs.Stands.{sizes_stand, stands_left, stands_right}
 use Rattle.upp_normal.proofs.UnrolledPieces.{PieceStands, each_nonneg, each_with, pieces_stand, unroll_each, unroll_starts}
 use Rattle.upp_limits.proofs.PieceLists.{starts_nonneg}
-use Rattle.plain_operators.specs.curve_call.proofs.CurveRises.{common_first, common_second}
+use Rattle.curve_call.proofs.CurveRises.{common_first, common_second}
 use Rattle.curve_deconv.specs.DeconvolutionLaws.{IsDeconvolved, DeconvolutionKeeps, DeconvolutionIsFinite}
 use Rattle.curve_deconv.proofs.Reduced.{AreRepeating, early}
 use Rattle.curve_deconv.proofs.Slower.{slower_rise, repeats_from}
-use Rattle.upp_limits.specs.upp_curve.proofs.SteadyTimes.{steady_nonneg}
-use Rattle.plain_operators.specs.curve_call.proofs.CurveTimes.{common_some}
+use Rattle.upp_curve.proofs.SteadyTimes.{steady_nonneg}
+use Rattle.curve_call.proofs.CurveTimes.{common_some}
 use Rattle.element_envelope.proofs.Growth.{line_gains}
 
 -- ---- of any functions

@@ -1,17 +1,17 @@
 -- Until when what pieces read is infinite at some later time.
 use Rattle.std.specs.Prelude.{◌≡◌, ◌⊎◌, ℕ, pos, List, [], ◌∷◌, Option, Some, None}
 use Rattle.std.proofs.Common.{sym, ap, ◌∙◌, refl, subst, inl, inr}
-use Rattle.upp_limits.specs.rational.specs.Rational.{ℚ, ◌≤ℚ◌, ◌<ℚ◌, int}
-use Rattle.upp_limits.specs.rational.specs.Grid.{Whole}
-use Rattle.upp_limits.specs.rational.specs.Extended.{Ext}
-use Rattle.upp_limits.specs.rational.specs.declared.Extended.TheVariants.{Fin, Inf}
-use Rattle.upp_limits.specs.rational.proofs.Laws.{le_or_lt, le_refl, le_trans, le_of_lt, lt_irrefl, lt_trans, lt_le_trans, antisym, between}
-use Rattle.upp_limits.specs.upp_curve.specs.declared.affine_segment.line.Line.{Line}
-use Rattle.upp_limits.specs.upp_curve.specs.declared.affine_segment.line.Piece.{Piece}
-use Rattle.upp_limits.specs.upp_curve.specs.affine_segment.Values.{line_at, line_value}
-use Rattle.upp_limits.specs.upp_curve.specs.affine_segment.Reading.{read, piece_value}
-use Rattle.upp_limits.specs.upp_curve.specs.affine_segment.Pieces.{Each, RisesFrom, StartsAtZero}
-use Rattle.upp_limits.specs.upp_curve.proofs.affine_segment.PieceIn.{value_past, read_go, read_one, read_stop, value_by}
+use Rattle.rational.specs.Rational.{ℚ, ◌≤ℚ◌, ◌<ℚ◌, int}
+use Rattle.rational.specs.Grid.{Whole}
+use Rattle.rational.specs.Extended.{Ext}
+use Rattle.rational.specs.declared.Extended.TheVariants.{Fin, Inf}
+use Rattle.rational.proofs.Laws.{le_or_lt, le_refl, le_trans, le_of_lt, lt_irrefl, lt_trans, lt_le_trans, antisym, between}
+use Rattle.upp_curve.specs.declared.affine_segment.line.Line.{Line}
+use Rattle.upp_curve.specs.declared.affine_segment.line.Piece.{Piece}
+use Rattle.upp_curve.specs.affine_segment.Values.{line_at, line_value}
+use Rattle.upp_curve.specs.affine_segment.Reading.{read, piece_value}
+use Rattle.upp_curve.specs.affine_segment.Pieces.{Each, RisesFrom, StartsAtZero}
+use Rattle.upp_curve.proofs.affine_segment.PieceIn.{value_past, read_go, read_one, read_stop, value_by}
 use Rattle.curve_deconv.specs.declared.marks.Last.{Last}
 use Rattle.curve_deconv.specs.Marks.{first_last, last_by, last_step, last_of, next_time}
 use Rattle.curve_deconv.specs.DeconvolutionWindows.{IsInfiniteFrom, IsFiniteFrom}

@@ -1,21 +1,21 @@
 -- The lines of an operand have room with minus their values, and mirrored in time.
 use Rattle.std.specs.Prelude.{◌≡◌, pos, Some}
 use Rattle.std.proofs.Common.{arith, sym, subst}
-use Rattle.upp_limits.specs.rational.specs.Rational.{ℚ, ◌+ℚ◌, ◌-ℚ◌, ◌*ℚ◌, ◌≤ℚ◌, ◌<ℚ◌, neg_ℚ, int}
-use Rattle.upp_limits.specs.rational.specs.Ratio.{SumFits}
-use Rattle.upp_limits.specs.rational.specs.Grid.{Whole, Within}
-use Rattle.upp_limits.specs.rational.proofs.Grid.{whole_neg, within_neg, within_add}
-use Rattle.upp_limits.specs.rational.proofs.Linear.{with1, with2, with3}
-use Rattle.upp_limits.specs.rational.proofs.Laws.{le_of_lt}
-use Rattle.upp_limits.specs.upp_curve.specs.declared.affine_segment.line.Line.{Line}
-use Rattle.upp_limits.specs.upp_curve.specs.declared.affine_segment.line.Piece.{Piece}
-use Rattle.upp_limits.specs.upp_curve.specs.affine_segment.Values.{line_at, line_value}
+use Rattle.rational.specs.Rational.{ℚ, ◌+ℚ◌, ◌-ℚ◌, ◌*ℚ◌, ◌≤ℚ◌, ◌<ℚ◌, neg_ℚ, int}
+use Rattle.rational.specs.Ratio.{SumFits}
+use Rattle.rational.specs.Grid.{Whole, Within}
+use Rattle.rational.proofs.Grid.{whole_neg, within_neg, within_add}
+use Rattle.rational.proofs.Linear.{with1, with2, with3}
+use Rattle.rational.proofs.Laws.{le_of_lt}
+use Rattle.upp_curve.specs.declared.affine_segment.line.Line.{Line}
+use Rattle.upp_curve.specs.declared.affine_segment.line.Piece.{Piece}
+use Rattle.upp_curve.specs.affine_segment.Values.{line_at, line_value}
 use Rattle.upp_limits.specs.Limits.{Sizes}
 use Rattle.upp_limits.specs.Sized.{IsSlope, IsValue, ValueStands, grid_of, times_largest}
 use Rattle.upp_normal.specs.Operand.{AreLimited, OperandLine, OperandPiece}
 use Rattle.upp_limits.proofs.NarrowSizes.{narrow_gauge}
 use Rattle.upp_normal.proofs.AnswerRoom.{operand_line, operand_line_value, steep_run}
-use Rattle.plain_operators.specs.curve_call.proofs.CurveTimes.{sum_fits, time_within}
+use Rattle.curve_call.proofs.CurveTimes.{sum_fits, time_within}
 use Rattle.curve_deconv.specs.Mirrored.{neg_line, mirror_line}
 use Rattle.element_envelope.proofs.Growth.{line_gains}
 

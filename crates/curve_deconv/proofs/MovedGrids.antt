@@ -1,19 +1,19 @@
 -- What repeats pieces that are moved left and turned over repeats as what repeats them: its periods stand on the same grids.
 use Rattle.std.specs.Prelude.{◌≡◌, ◌⊎◌, ℕ, ◌≤◌, pos, Option, Some, None}
 use Rattle.std.proofs.Common.{arith, sym, ap, ◌∙◌, refl, subst, inl, inr}
-use Rattle.upp_limits.specs.rational.specs.Rational.{ℚ, ◌+ℚ◌, ◌-ℚ◌, ◌*ℚ◌, ◌/ℚ◌, ◌≤ℚ◌, ◌<ℚ◌, neg_ℚ, inv_ℚ, int}
-use Rattle.upp_limits.specs.rational.specs.Whole.{periods, whole_part}
-use Rattle.upp_limits.specs.rational.specs.Grid.{Whole}
-use Rattle.upp_limits.specs.rational.specs.Extended.{Ext, ◌+ₑ◌}
-use Rattle.upp_limits.specs.rational.specs.declared.Extended.TheVariants.{Fin, Inf}
-use Rattle.upp_limits.specs.rational.proofs.Grid.{whole_neg}
-use Rattle.upp_limits.specs.rational.proofs.Linear.{with1, with2, with3, with4, with5}
-use Rattle.upp_limits.specs.rational.proofs.Laws.{le_of_lt, le_or_lt, neg_mul, mul_neg, mul_add, zero_mul}
-use Rattle.upp_limits.specs.rational.proofs.Whole.{periods_low, periods_small}
-use Rattle.upp_limits.specs.upp_curve.specs.declared.affine_segment.line.Line.{Line}
-use Rattle.upp_limits.specs.upp_curve.specs.affine_segment.Values.{line_at, line_value}
-use Rattle.upp_limits.specs.upp_curve.specs.Curve.{repeated}
-use Rattle.upp_limits.specs.upp_curve.specs.Steady.{Repeats}
+use Rattle.rational.specs.Rational.{ℚ, ◌+ℚ◌, ◌-ℚ◌, ◌*ℚ◌, ◌/ℚ◌, ◌≤ℚ◌, ◌<ℚ◌, neg_ℚ, inv_ℚ, int}
+use Rattle.rational.specs.Whole.{periods, whole_part}
+use Rattle.rational.specs.Grid.{Whole}
+use Rattle.rational.specs.Extended.{Ext, ◌+ₑ◌}
+use Rattle.rational.specs.declared.Extended.TheVariants.{Fin, Inf}
+use Rattle.rational.proofs.Grid.{whole_neg}
+use Rattle.rational.proofs.Linear.{with1, with2, with3, with4, with5}
+use Rattle.rational.proofs.Laws.{le_of_lt, le_or_lt, neg_mul, mul_neg, mul_add, zero_mul}
+use Rattle.rational.proofs.Whole.{periods_low, periods_small}
+use Rattle.upp_curve.specs.declared.affine_segment.line.Line.{Line}
+use Rattle.upp_curve.specs.affine_segment.Values.{line_at, line_value}
+use Rattle.upp_curve.specs.Curve.{repeated}
+use Rattle.upp_curve.specs.Steady.{Repeats}
 use Rattle.upp_normal.specs.Normalising.{IsOneLine, OnGridsUnlessLine}
 use Rattle.upp_normal.proofs.NormaliseLeast.{share_some}
 use Rattle.curve_deconv.specs.Mirrored.{neg_ext}

@@ -1,21 +1,21 @@
 -- The window of the pairs: its operands have room, and it reads as the least of the second at u less the first at t + u.
 use Rattle.std.specs.Prelude.{◌≡◌, pos, List, [], ◌∷◌, map, Result, Ok, Err, IfOk, Vec}
 use Rattle.std.proofs.Common.{arith, sym, ap, ap₂, ◌∙◌, refl, subst, inl, inr, Global}
-use Rattle.upp_limits.specs.rational.specs.Rational.{ℚ, ◌+ℚ◌, ◌-ℚ◌, ◌≤ℚ◌, ◌<ℚ◌, neg_ℚ, int}
-use Rattle.upp_limits.specs.rational.specs.Grid.{Whole}
-use Rattle.upp_limits.specs.rational.specs.Extended.{Ext, ◌≤ₑ◌, ◌+ₑ◌}
-use Rattle.upp_limits.specs.rational.specs.declared.Extended.TheVariants.{Fin, Inf}
-use Rattle.upp_limits.specs.rational.proofs.Linear.{with2, with3, with4}
-use Rattle.upp_limits.specs.rational.proofs.Laws.{le_of_lt, le_or_lt, le_refl}
-use Rattle.upp_limits.specs.rational.proofs.ExtendedOrder.{finite_sum, fin_same, same_le_ext}
-use Rattle.upp_limits.specs.upp_curve.specs.declared.affine_segment.line.Piece.{Piece}
-use Rattle.upp_limits.specs.upp_curve.specs.affine_segment.Values.{line_value}
-use Rattle.upp_limits.specs.upp_curve.specs.affine_segment.Fits.{ReadFits}
-use Rattle.upp_limits.specs.upp_curve.specs.affine_segment.Reading.{read, piece_in, piece_value}
-use Rattle.upp_limits.specs.upp_curve.specs.affine_segment.Pieces.{Each, StartsAtZero}
-use Rattle.upp_limits.specs.upp_curve.proofs.affine_segment.PieceIn.{read_is, value_by, value_past}
-use Rattle.upp_limits.specs.min_plus.specs.Convolution.{Split, IsConvolution}
-use Rattle.upp_limits.specs.upp_curve.proofs.Finite.{each_in}
+use Rattle.rational.specs.Rational.{ℚ, ◌+ℚ◌, ◌-ℚ◌, ◌≤ℚ◌, ◌<ℚ◌, neg_ℚ, int}
+use Rattle.rational.specs.Grid.{Whole}
+use Rattle.rational.specs.Extended.{Ext, ◌≤ₑ◌, ◌+ₑ◌}
+use Rattle.rational.specs.declared.Extended.TheVariants.{Fin, Inf}
+use Rattle.rational.proofs.Linear.{with2, with3, with4}
+use Rattle.rational.proofs.Laws.{le_of_lt, le_or_lt, le_refl}
+use Rattle.rational.proofs.ExtendedOrder.{finite_sum, fin_same, same_le_ext}
+use Rattle.upp_curve.specs.declared.affine_segment.line.Piece.{Piece}
+use Rattle.upp_curve.specs.affine_segment.Values.{line_value}
+use Rattle.upp_curve.specs.affine_segment.Fits.{ReadFits}
+use Rattle.upp_curve.specs.affine_segment.Reading.{read, piece_in, piece_value}
+use Rattle.upp_curve.specs.affine_segment.Pieces.{Each, StartsAtZero}
+use Rattle.upp_curve.proofs.affine_segment.PieceIn.{read_is, value_by, value_past}
+use Rattle.min_plus.specs.Convolution.{Split, IsConvolution}
+use Rattle.upp_curve.proofs.Finite.{each_in}
 use Rattle.upp_limits.specs.Limits.{Sizes}
 use Rattle.upp_limits.specs.Sized.{ValueStands}
 use Rattle.upp_normal.specs.Ahead.{GridValue}

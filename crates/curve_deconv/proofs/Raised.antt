@@ -1,24 +1,24 @@
 -- The window of the pairs with the marks of infinity.
 use Rattle.std.specs.Prelude.{◌≡◌, pos, List, Result, Ok, Err, IfOk, Vec}
 use Rattle.std.proofs.Common.{arith, sym, ap, ◌∙◌, subst, inl, inr, Global}
-use Rattle.upp_limits.specs.rational.specs.Rational.{ℚ, ◌+ℚ◌, ◌≤ℚ◌, ◌<ℚ◌, int}
-use Rattle.upp_limits.specs.rational.specs.Ratio.{SumFits}
-use Rattle.upp_limits.specs.rational.specs.Grid.{Whole}
-use Rattle.upp_limits.specs.rational.specs.Extended.{Ext, ◌+ₑ◌}
-use Rattle.upp_limits.specs.rational.specs.declared.Extended.TheVariants.{Fin}
-use Rattle.upp_limits.specs.rational.proofs.Grid.{whole_int, whole_add}
-use Rattle.upp_limits.specs.rational.proofs.Linear.{with2, with3}
-use Rattle.upp_limits.specs.rational.proofs.Laws.{le_or_lt, le_of_lt, antisym}
-use Rattle.upp_limits.specs.rational.proofs.ExtendedOrder.{add_zero_ext}
-use Rattle.upp_limits.specs.upp_curve.specs.declared.affine_segment.line.Piece.{Piece}
-use Rattle.upp_limits.specs.upp_curve.specs.affine_segment.Reading.{read}
-use Rattle.upp_limits.specs.upp_curve.specs.affine_segment.Pieces.{Each, StartsAtZero}
+use Rattle.rational.specs.Rational.{ℚ, ◌+ℚ◌, ◌≤ℚ◌, ◌<ℚ◌, int}
+use Rattle.rational.specs.Ratio.{SumFits}
+use Rattle.rational.specs.Grid.{Whole}
+use Rattle.rational.specs.Extended.{Ext, ◌+ₑ◌}
+use Rattle.rational.specs.declared.Extended.TheVariants.{Fin}
+use Rattle.rational.proofs.Grid.{whole_int, whole_add}
+use Rattle.rational.proofs.Linear.{with2, with3}
+use Rattle.rational.proofs.Laws.{le_or_lt, le_of_lt, antisym}
+use Rattle.rational.proofs.ExtendedOrder.{add_zero_ext}
+use Rattle.upp_curve.specs.declared.affine_segment.line.Piece.{Piece}
+use Rattle.upp_curve.specs.affine_segment.Reading.{read}
+use Rattle.upp_curve.specs.affine_segment.Pieces.{Each, StartsAtZero}
 use Rattle.upp_normal.specs.Operand.{OperandPiece}
 use Rattle.upp_limits.proofs.NarrowSizes.{narrow_gauge}
-use Rattle.upp_limits.specs.upp_curve.proofs.affine_segment.PieceOrder.{each_map}
-use Rattle.plain_operators.specs.curve_call.specs.Stretches.{CutsFit}
-use Rattle.plain_operators.specs.curve_call.specs.Pointwise.{SumsFit, IsWindowSum}
-use Rattle.plain_operators.specs.curve_call.proofs.CurveTimes.{sum_fits, time_within}
+use Rattle.upp_curve.proofs.affine_segment.PieceOrder.{each_map}
+use Rattle.curve_call.specs.Stretches.{CutsFit}
+use Rattle.curve_call.specs.Pointwise.{SumsFit, IsWindowSum}
+use Rattle.curve_call.proofs.CurveTimes.{sum_fits, time_within}
 use Rattle.element_envelope.proofs.Arching.{same_arches}
 use Rattle.element_envelope.proofs.SumSteps.{sum_cuts_fit}
 use Rattle.curve_deconv.specs.declared.marks.Last.{Last}

@@ -2,21 +2,21 @@
 -- gains on the second it is infinite.
 use Rattle.std.specs.Prelude.{◌≡◌, pos}
 use Rattle.std.proofs.Common.{arith, sym, ap, ◌∙◌, refl, subst, inl, inr}
-use Rattle.upp_limits.specs.rational.specs.Rational.{ℚ, ◌+ℚ◌, ◌-ℚ◌, ◌*ℚ◌, ◌≤ℚ◌, ◌<ℚ◌, int}
-use Rattle.upp_limits.specs.rational.specs.Whole.{periods}
-use Rattle.upp_limits.specs.rational.specs.Extended.{Ext, ◌≤ₑ◌, ◌<ₑ◌, ◌+ₑ◌, ◌-ₑ◌}
-use Rattle.upp_limits.specs.rational.specs.declared.Extended.TheVariants.{Fin, Inf}
-use Rattle.upp_limits.specs.rational.proofs.Linear.{with2, with3, with4, with5}
-use Rattle.upp_limits.specs.rational.proofs.Laws.{le_or_lt, le_refl, le_trans, le_of_lt, mul_le_mul, mul_nonneg}
-use Rattle.upp_limits.specs.rational.proofs.Integers.{nat_nonneg}
-use Rattle.upp_limits.specs.rational.proofs.Quotients.{times_above, past_each}
-use Rattle.upp_limits.specs.rational.proofs.Whole.{periods_low, periods_high}
-use Rattle.upp_limits.specs.rational.proofs.ExtendedOrder.{same_le_ext, fin_same}
-use Rattle.upp_limits.specs.rational.proofs.Bounds.{infinite_member, unbounded, supremum_shift}
-use Rattle.upp_limits.specs.min_plus.specs.Functions.{IsFinite, FiniteTime}
-use Rattle.upp_limits.specs.upp_curve.specs.Steady.{Repeats}
-use Rattle.upp_limits.specs.min_plus.specs.Convolution.{IsDeconvolution}
-use Rattle.plain_operators.specs.curve_call.proofs.Shifts.{later_value}
+use Rattle.rational.specs.Rational.{ℚ, ◌+ℚ◌, ◌-ℚ◌, ◌*ℚ◌, ◌≤ℚ◌, ◌<ℚ◌, int}
+use Rattle.rational.specs.Whole.{periods}
+use Rattle.rational.specs.Extended.{Ext, ◌≤ₑ◌, ◌<ₑ◌, ◌+ₑ◌, ◌-ₑ◌}
+use Rattle.rational.specs.declared.Extended.TheVariants.{Fin, Inf}
+use Rattle.rational.proofs.Linear.{with2, with3, with4, with5}
+use Rattle.rational.proofs.Laws.{le_or_lt, le_refl, le_trans, le_of_lt, mul_le_mul, mul_nonneg}
+use Rattle.rational.proofs.Integers.{nat_nonneg}
+use Rattle.rational.proofs.Quotients.{times_above, past_each}
+use Rattle.rational.proofs.Whole.{periods_low, periods_high}
+use Rattle.rational.proofs.ExtendedOrder.{same_le_ext, fin_same}
+use Rattle.rational.proofs.Bounds.{infinite_member, unbounded, supremum_shift}
+use Rattle.min_plus.specs.Functions.{IsFinite, FiniteTime}
+use Rattle.upp_curve.specs.Steady.{Repeats}
+use Rattle.min_plus.specs.Convolution.{IsDeconvolution}
+use Rattle.curve_call.proofs.Shifts.{later_value}
 use Rattle.curve_deconv.specs.DeconvolutionWindows.{EarlyTime, IsReached}
 
 -- both repeat from `from` on with the period d, the second rises by at least as much, and `reach` is one period after

@@ -1,27 +1,27 @@
 -- Two curves of which the second is finite: by how much they rise, and the deconvolution where the first is the faster.
 use Rattle.std.specs.Prelude.{◌≡◌, pos}
 use Rattle.std.proofs.Common.{sym, ◌∙◌, subst, inl, inr, arith}
-use Rattle.upp_limits.specs.rational.specs.Rational.{ℚ, ◌+ℚ◌, ◌*ℚ◌, ◌≤ℚ◌, ◌<ℚ◌, int}
-use Rattle.upp_limits.specs.rational.specs.Extended.{◌<ₑ◌}
-use Rattle.upp_limits.specs.rational.specs.declared.Extended.TheVariants.{Fin, Inf}
-use Rattle.upp_limits.specs.rational.proofs.Linear.{with3}
-use Rattle.upp_limits.specs.rational.proofs.MinMax.{max_q_ge_left, max_q_ge_right}
-use Rattle.upp_limits.specs.rational.proofs.Laws.{le_refl, le_trans, le_of_lt, le_of_not_lt, mul_le_mul_right}
-use Rattle.upp_limits.specs.rational.proofs.ExtendedOrder.{same_le_ext}
-use Rattle.upp_limits.specs.upp_curve.specs.Curve.{SpecCurve, value_at}
-use Rattle.upp_limits.specs.upp_curve.specs.Curves.{IsCurve}
-use Rattle.upp_limits.specs.min_plus.specs.Functions.{IsFinite}
-use Rattle.upp_limits.specs.upp_curve.specs.Steady.{Repeats, steady, rate, rise_over, IsWholePeriods}
+use Rattle.rational.specs.Rational.{ℚ, ◌+ℚ◌, ◌*ℚ◌, ◌≤ℚ◌, ◌<ℚ◌, int}
+use Rattle.rational.specs.Extended.{◌<ₑ◌}
+use Rattle.rational.specs.declared.Extended.TheVariants.{Fin, Inf}
+use Rattle.rational.proofs.Linear.{with3}
+use Rattle.rational.proofs.MinMax.{max_q_ge_left, max_q_ge_right}
+use Rattle.rational.proofs.Laws.{le_refl, le_trans, le_of_lt, le_of_not_lt, mul_le_mul_right}
+use Rattle.rational.proofs.ExtendedOrder.{same_le_ext}
+use Rattle.upp_curve.specs.Curve.{SpecCurve, value_at}
+use Rattle.upp_curve.specs.Curves.{IsCurve}
+use Rattle.min_plus.specs.Functions.{IsFinite}
+use Rattle.upp_curve.specs.Steady.{Repeats, steady, rate, rise_over, IsWholePeriods}
 use Rattle.upp_limits.specs.Periods.{common_period, both_steady}
-use Rattle.upp_limits.specs.min_plus.specs.Convolution.{IsDeconvolution}
-use Rattle.upp_limits.specs.upp_curve.proofs.Steady.{steady_rule}
-use Rattle.plain_operators.specs.curve_call.proofs.CurveTimes.{common_some}
-use Rattle.plain_operators.specs.curve_call.proofs.CurveRises.{common_first, common_second}
+use Rattle.min_plus.specs.Convolution.{IsDeconvolution}
+use Rattle.upp_curve.proofs.Steady.{steady_rule}
+use Rattle.curve_call.proofs.CurveTimes.{common_some}
+use Rattle.curve_call.proofs.CurveRises.{common_first, common_second}
 use Rattle.upp_normal.proofs.UnrollSteps.{ext_cases}
-use Rattle.plain_operators.specs.curve_call.proofs.LeastNumber.{gains}
-use Rattle.plain_operators.specs.curve_call.proofs.RateRises.{rate_rise, infinite_value}
+use Rattle.curve_call.proofs.LeastNumber.{gains}
+use Rattle.curve_call.proofs.RateRises.{rate_rise, infinite_value}
 use Rattle.curve_deconv.proofs.Reduced.{gaining}
-use Rattle.upp_limits.specs.upp_curve.proofs.SteadyTimes.{steady_nonneg}
+use Rattle.upp_curve.proofs.SteadyTimes.{steady_nonneg}
 
 no_rate : (g : SpecCurve) → IsCurve g → IsFinite (value_at g) → rate g ≡ Inf → ⊥
 no_rate g G finite e =

@@ -1,14 +1,14 @@
 -- What a deconvolution keeps of its first operand. (Le Boudec and Thiran, chapter 3: the output of a rising curve
 -- rises; that it is finite for finite curves of which the first is not the faster is folklore.)
 use Rattle.std.specs.Prelude.{◌≡◌}
-use Rattle.upp_limits.specs.rational.specs.Rational.{ℚ, ◌≤ℚ◌}
-use Rattle.upp_limits.specs.rational.specs.Extended.{Ext, ◌≤ₑ◌, ◌<ₑ◌, ◌-ₑ◌}
-use Rattle.upp_limits.specs.rational.specs.declared.Extended.TheVariants.{Fin}
-use Rattle.upp_limits.specs.upp_curve.specs.Curve.{SpecCurve, value_at}
-use Rattle.upp_limits.specs.upp_curve.specs.Curves.{IsCurve}
-use Rattle.upp_limits.specs.min_plus.specs.Functions.{zero_q, IsFinite, IsRising, IsNonnegative}
-use Rattle.upp_limits.specs.upp_curve.specs.Steady.{rate}
-use Rattle.upp_limits.specs.min_plus.specs.Convolution.{IsDeconvolution}
+use Rattle.rational.specs.Rational.{ℚ, ◌≤ℚ◌}
+use Rattle.rational.specs.Extended.{Ext, ◌≤ₑ◌, ◌<ₑ◌, ◌-ₑ◌}
+use Rattle.rational.specs.declared.Extended.TheVariants.{Fin}
+use Rattle.upp_curve.specs.Curve.{SpecCurve, value_at}
+use Rattle.upp_curve.specs.Curves.{IsCurve}
+use Rattle.min_plus.specs.Functions.{zero_q, IsFinite, IsRising, IsNonnegative}
+use Rattle.upp_curve.specs.Steady.{rate}
+use Rattle.min_plus.specs.Convolution.{IsDeconvolution}
 
 -- h is the deconvolution at each time from 0 on
 abbrev pub IsDeconvolved : (ℚ → Ext) → (ℚ → Ext) → (ℚ → Ext) → Type 0

@@ -1,23 +1,23 @@
 -- The deconvolution of two operands' windows, as pieces. (Le Boudec and Thiran, chapter 3; the form is own choice.)
 use Rattle.std.specs.Prelude.{◌≡◌, ◌⊎◌, pos, List}
-use Rattle.upp_limits.specs.rational.specs.Rational.{ℚ, ◌+ℚ◌, ◌-ℚ◌, ◌≤ℚ◌, ◌<ℚ◌, neg_ℚ, int}
-use Rattle.upp_limits.specs.rational.specs.Grid.{Whole}
-use Rattle.upp_limits.specs.rational.specs.Extended.{Ext, ◌-ₑ◌}
-use Rattle.upp_limits.specs.rational.specs.declared.Extended.TheVariants.{Fin, Inf}
-use Rattle.upp_limits.specs.rational.specs.Bounds.{IsInfimum, IsSupremum}
-use Rattle.upp_limits.specs.upp_curve.specs.declared.affine_segment.line.Piece.{Piece}
-use Rattle.upp_limits.specs.upp_curve.specs.affine_segment.Values.{line_value}
+use Rattle.rational.specs.Rational.{ℚ, ◌+ℚ◌, ◌-ℚ◌, ◌≤ℚ◌, ◌<ℚ◌, neg_ℚ, int}
+use Rattle.rational.specs.Grid.{Whole}
+use Rattle.rational.specs.Extended.{Ext, ◌-ₑ◌}
+use Rattle.rational.specs.declared.Extended.TheVariants.{Fin, Inf}
+use Rattle.rational.specs.Bounds.{IsInfimum, IsSupremum}
+use Rattle.upp_curve.specs.declared.affine_segment.line.Piece.{Piece}
+use Rattle.upp_curve.specs.affine_segment.Values.{line_value}
 use Rattle.upp_limits.specs.Limits.{Sizes}
-use Rattle.upp_limits.specs.upp_curve.specs.affine_segment.Pieces.{Each, StartsAtZero}
+use Rattle.upp_curve.specs.affine_segment.Pieces.{Each, StartsAtZero}
 use Rattle.upp_normal.specs.Normalising.{OnGridsUnlessLine}
 use Rattle.upp_normal.specs.Operand.{AreLimited, OperandPieces, answer_room}
-use Rattle.upp_limits.specs.upp_curve.specs.affine_segment.Reading.{read}
-use Rattle.upp_limits.specs.upp_curve.specs.Curve.{repeated}
+use Rattle.upp_curve.specs.affine_segment.Reading.{read}
+use Rattle.upp_curve.specs.Curve.{repeated}
 use Rattle.upp_normal.specs.Room.{PieceHasRoom}
 use Rattle.upp_limits.specs.Sized.{ValueStands, grid_of}
 use Rattle.element_envelope.specs.SumWindows.{SumWindow}
 use Rattle.element_envelope.specs.Arches.{Arches}
-use Rattle.plain_operators.specs.curve_call.specs.Tails.{TailOf}
+use Rattle.curve_call.specs.Tails.{TailOf}
 
 -- ---- pairs of times
 -- a time u from 0 on and up to `reach` at which g is finite, and f at t + u

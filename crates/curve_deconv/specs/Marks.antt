@@ -1,13 +1,13 @@
 -- Until when a function that is read off pieces is infinite at some later time, and pieces that are infinite that long.
 -- Own choice.
 use Rattle.std.specs.Prelude.{pos, cond, List, [], ◌∷◌, Option, Some, None}
-use Rattle.upp_limits.specs.rational.specs.Rational.{ℚ, ◌+ℚ◌, int, lt_q}
-use Rattle.upp_limits.specs.rational.specs.Extended.{Ext}
-use Rattle.upp_limits.specs.rational.specs.declared.Extended.TheVariants.{Fin, Inf}
-use Rattle.upp_limits.specs.upp_curve.specs.declared.affine_segment.line.Line.{Line}
-use Rattle.upp_limits.specs.upp_curve.specs.declared.affine_segment.line.Piece.{Piece}
+use Rattle.rational.specs.Rational.{ℚ, ◌+ℚ◌, int, lt_q}
+use Rattle.rational.specs.Extended.{Ext}
+use Rattle.rational.specs.declared.Extended.TheVariants.{Fin, Inf}
+use Rattle.upp_curve.specs.declared.affine_segment.line.Line.{Line}
+use Rattle.upp_curve.specs.declared.affine_segment.line.Piece.{Piece}
 use Rattle.curve_deconv.specs.declared.marks.Last.{Last}
-use Rattle.plain_operators.specs.curve_call.specs.Made.{zero_line}
+use Rattle.curve_call.specs.Made.{zero_line}
 
 -- nowhere yet
 abbrev pub first_last : Last

@@ -1,14 +1,14 @@
 //! Where a function is infinite last.
 
 ghost use Rattle.std.specs.Prelude.{◌≡◌, ◌+◌, ◌<◌, ◌++◌, length, drop, OnOk, IfOk};
-ghost use Rattle.upp_limits.specs.rational.specs.Ratio.{SumFits};
+ghost use Rattle.rational.specs.Ratio.{SumFits};
 ghost use Rattle.curve_deconv.specs.Marks.{last_step, last_of, first_last, next_time, after_pieces, mark_pieces};
 
+use fraction128::{Ext, Frac, sum};
+use rational::Extended;
 use std::alloc::{AllocError, Global};
 use std::cmp::Ordering;
-use upp_limits::fraction128::{Ext, Frac, sum};
-use upp_limits::rational::Extended;
-use upp_limits::upp_curve::affine_segment::{Line, Piece};
+use upp_curve::affine_segment::{Line, Piece};
 
 /// Until when a function is infinite at some later time.
 #[derive(Debug, Clone, Copy)]

@@ -1,16 +1,16 @@
 //! Pieces turned over, and mirrored in time.
 
 ghost use Rattle.std.specs.Prelude.{◌≡◌, map, Some, IfOk};
-ghost use Rattle.upp_limits.specs.rational.specs.Rational.{neg_ℚ};
-ghost use Rattle.upp_limits.specs.rational.specs.Ratio.{SumFits};
-ghost use Rattle.upp_limits.specs.upp_curve.specs.affine_segment.Fits.{LineFitsAt};
+ghost use Rattle.rational.specs.Rational.{neg_ℚ};
+ghost use Rattle.rational.specs.Ratio.{SumFits};
+ghost use Rattle.upp_curve.specs.affine_segment.Fits.{LineFitsAt};
 ghost use Rattle.curve_deconv.specs.Mirrored.{neg_ext, neg_line, neg_option, neg_piece};
 ghost use Rattle.curve_deconv.specs.Mirrored.{mirror_line, mirror_option, mirror_piece, mirror_pieces, AreMirrorable};
 
+use fraction128::{Ext, Frac, difference};
+use rational::Extended;
 use std::alloc::{AllocError, Global};
-use upp_limits::fraction128::{Ext, Frac, difference};
-use upp_limits::rational::Extended;
-use upp_limits::upp_curve::affine_segment::{Line, Piece, value};
+use upp_curve::affine_segment::{Line, Piece, value};
 
 fn negated_line(line: Line) -> Line
     ensures { result ≡ neg_line line }

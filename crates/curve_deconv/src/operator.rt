@@ -1,28 +1,26 @@
 //! The deconvolution of two curves.
 
 ghost use Rattle.std.specs.Prelude.{◌≡◌, ◌↔◌, ◌+◌, pos, IfOk, IsTrue};
-ghost use Rattle.upp_limits.specs.rational.specs.Rational.{ℚ, int, ◌≤ℚ◌};
-ghost use Rattle.upp_limits.specs.rational.specs.Extended.{◌<ₑ◌};
-ghost use Rattle.upp_limits.specs.upp_curve.specs.Curve.{value_at};
-ghost use Rattle.upp_limits.specs.upp_curve.specs.Curves.{IsCurve};
-ghost use Rattle.upp_limits.specs.min_plus.specs.Convolution.{IsDeconvolution};
-ghost use Rattle.upp_limits.specs.min_plus.specs.Functions.{IsFinite};
-ghost use Rattle.upp_limits.specs.upp_curve.specs.Steady.{rate, steady};
+ghost use Rattle.rational.specs.Rational.{ℚ, int, ◌≤ℚ◌};
+ghost use Rattle.rational.specs.Extended.{◌<ₑ◌};
+ghost use Rattle.upp_curve.specs.Curve.{value_at};
+ghost use Rattle.upp_curve.specs.Curves.{IsCurve};
+ghost use Rattle.min_plus.specs.Convolution.{IsDeconvolution};
+ghost use Rattle.min_plus.specs.Functions.{IsFinite};
+ghost use Rattle.upp_curve.specs.Steady.{rate, steady};
 ghost use Rattle.upp_limits.specs.Outcome.{KeepsLimits};
 ghost use Rattle.upp_limits.specs.declared.op_kind.OpKind.TheVariants.{Deconvolve};
-ghost use Rattle.plain_operators.specs.curve_call.specs.Frames.{IsFrame};
-ghost use Rattle.plain_operators.specs.curve_call.specs.Times.{OneLaterFits};
+ghost use Rattle.curve_call.specs.Frames.{IsFrame};
+ghost use Rattle.curve_call.specs.Times.{OneLaterFits};
 
 use crate::window::window_deconvolution;
+use curve_call::{Frame, Side, answer, begin, is_slower, period_or, rise_over, within};
+use fraction128::difference;
 use outcomes::Steps;
-use plain_operators::curve_call::{
-    Frame, Side, answer, begin, is_slower, period_or, rise_over, within,
-};
 use plain_operators::pointwise::infinite_curve;
 use std::alloc::{AllocError, Global};
 use std::sync::ledger::Ledger;
-use upp_limits::fraction128::difference;
-use upp_limits::upp_curve::Curve;
+use upp_curve::Curve;
 use upp_limits::{OpFault, OpKind};
 use upp_normal::unrolled;
 

@@ -6,13 +6,13 @@ ghost use Rattle.curve_deconv.specs.DeconvolutionWindows.{IsDeconvolutionWindow}
 
 use crate::marks::{last_infinite, mark_pieces};
 use crate::mirroring::{mirrored_pieces, negated_pieces};
+use curve_call::window_sum;
 use element_envelope::window_convolution_from;
-use plain_operators::curve_call::window_sum;
+use fraction128::Frac;
 use plain_operators::pointwise::left_window;
 use plain_operators::running::front_before;
 use std::alloc::{AllocError, Global};
-use upp_limits::fraction128::Frac;
-use upp_limits::upp_curve::affine_segment::{Piece, read};
+use upp_curve::affine_segment::{Piece, read};
 
 /// Pieces, or want of memory.
 pub(crate) type MadePieces = Result<Vec<Piece>, AllocError>;

@@ -1,26 +1,26 @@
 -- When the vertical deviation is infinite whatever the sizes are: the first curve is infinite somewhere, or the faster one.
 use Rattle.std.specs.Prelude.{◌≡◌, pos, List, [], ◌∷◌, Option, Some, None}
 use Rattle.std.proofs.Common.{arith, ◌∙◌, subst, inl, inr}
-use Rattle.upp_limits.specs.rational.specs.Rational.{ℚ, ◌+ℚ◌, ◌≤ℚ◌, ◌<ℚ◌, int}
-use Rattle.upp_limits.specs.rational.specs.Extended.{Ext, ◌<ₑ◌}
-use Rattle.upp_limits.specs.rational.specs.declared.Extended.TheVariants.{Inf}
-use Rattle.upp_limits.specs.rational.proofs.Linear.{with1, with2}
-use Rattle.upp_limits.specs.upp_curve.specs.declared.affine_segment.line.Piece.{Piece}
-use Rattle.upp_limits.specs.upp_curve.specs.declared.curve.Tail.{Tail}
-use Rattle.upp_limits.specs.upp_curve.specs.declared.curve.Tail.TheVariants.{Periodic, Affine, Infinite}
-use Rattle.upp_limits.specs.upp_curve.specs.affine_segment.Reading.{read}
-use Rattle.upp_limits.specs.upp_curve.specs.Curve.{SpecCurve, value_at, with_tail, repeated}
-use Rattle.upp_limits.specs.upp_curve.specs.Curves.{IsCurve}
-use Rattle.upp_limits.specs.upp_curve.specs.affine_segment.Pieces.{StartsAtZero, Each}
-use Rattle.upp_limits.specs.upp_curve.specs.Normal.{TailFits}
-use Rattle.upp_limits.specs.upp_curve.specs.Shapes.{IsFinitePiece, IsNumber}
-use Rattle.upp_limits.specs.min_plus.specs.Functions.{IsFinite}
-use Rattle.upp_limits.specs.upp_curve.specs.Steady.{rise_over, rate}
-use Rattle.upp_limits.specs.min_plus.specs.Deviations.{IsVerticalDeviation}
-use Rattle.curve_call.specs.upp_normal.specs.Ahead.{IsBeforeNext}
-use Rattle.upp_limits.specs.upp_curve.proofs.Finite.{level_of, read_number, repeated_number}
-use Rattle.upp_limits.specs.upp_curve.proofs.Repeats.{repeated_first}
-use Rattle.upp_limits.specs.upp_curve.proofs.Steady.{cut_past}
+use Rattle.rational.specs.Rational.{ℚ, ◌+ℚ◌, ◌≤ℚ◌, ◌<ℚ◌, int}
+use Rattle.rational.specs.Extended.{Ext, ◌<ₑ◌}
+use Rattle.rational.specs.declared.Extended.TheVariants.{Inf}
+use Rattle.rational.proofs.Linear.{with1, with2}
+use Rattle.upp_curve.specs.declared.affine_segment.line.Piece.{Piece}
+use Rattle.upp_curve.specs.declared.curve.Tail.{Tail}
+use Rattle.upp_curve.specs.declared.curve.Tail.TheVariants.{Periodic, Affine, Infinite}
+use Rattle.upp_curve.specs.affine_segment.Reading.{read}
+use Rattle.upp_curve.specs.Curve.{SpecCurve, value_at, with_tail, repeated}
+use Rattle.upp_curve.specs.Curves.{IsCurve}
+use Rattle.upp_curve.specs.affine_segment.Pieces.{StartsAtZero, Each}
+use Rattle.upp_curve.specs.Normal.{TailFits}
+use Rattle.upp_curve.specs.Shapes.{IsFinitePiece, IsNumber}
+use Rattle.min_plus.specs.Functions.{IsFinite}
+use Rattle.upp_curve.specs.Steady.{rise_over, rate}
+use Rattle.min_plus.specs.Deviations.{IsVerticalDeviation}
+use Rattle.upp_normal.specs.Ahead.{IsBeforeNext}
+use Rattle.upp_curve.proofs.Finite.{level_of, read_number, repeated_number}
+use Rattle.upp_curve.proofs.Repeats.{repeated_first}
+use Rattle.upp_curve.proofs.Steady.{cut_past}
 use Rattle.curve_call.specs.Ever.{RepeatsBy}
 use Rattle.curve_call.proofs.LeastNumber.{gains}
 use Rattle.curve_deviation.proofs.Infinite.{InfiniteTime, finite_or, infinite_deviation, gaining_deviation}

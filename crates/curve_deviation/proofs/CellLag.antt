@@ -1,17 +1,17 @@
 -- The lag of two rising lines over a stretch of each.
 use Rattle.std.specs.Prelude.{◌≡◌, pos}
 use Rattle.std.proofs.Common.{arith, sym, ap, ◌∙◌, subst, inl, inr}
-use Rattle.upp_limits.specs.rational.specs.Rational.{ℚ, ◌+ℚ◌, ◌-ℚ◌, ◌*ℚ◌, ◌≤ℚ◌, ◌<ℚ◌, int}
-use Rattle.upp_limits.specs.rational.specs.MinMax.{min_q, max_q}
-use Rattle.upp_limits.specs.rational.proofs.Linear.{with2, with3, with4}
-use Rattle.upp_limits.specs.rational.proofs.Laws.{le_trans, le_of_lt, le_or_lt, lt_le_trans, le_lt_trans, lt_irrefl, antisym, between, mul_comm, mul_le_mul_right, mul_lt_mul}
-use Rattle.upp_limits.specs.rational.proofs.Stretch.{rising_supremum}
-use Rattle.upp_limits.specs.rational.proofs.MinMax.{below_min_in, min_q_le_left, min_q_le_right, max_q_lt, max_q_ge_left, max_q_ge_right}
-use Rattle.upp_limits.specs.upp_curve.specs.declared.affine_segment.line.Line.{Line}
-use Rattle.upp_limits.specs.upp_curve.specs.affine_segment.Values.{line_at}
+use Rattle.rational.specs.Rational.{ℚ, ◌+ℚ◌, ◌-ℚ◌, ◌*ℚ◌, ◌≤ℚ◌, ◌<ℚ◌, int}
+use Rattle.rational.specs.MinMax.{min_q, max_q}
+use Rattle.rational.proofs.Linear.{with2, with3, with4}
+use Rattle.rational.proofs.Laws.{le_trans, le_of_lt, le_or_lt, lt_le_trans, le_lt_trans, lt_irrefl, antisym, between, mul_comm, mul_le_mul_right, mul_lt_mul}
+use Rattle.rational.proofs.Stretch.{rising_supremum}
+use Rattle.rational.proofs.MinMax.{below_min_in, min_q_le_left, min_q_le_right, max_q_lt, max_q_ge_left, max_q_ge_right}
+use Rattle.upp_curve.specs.declared.affine_segment.line.Line.{Line}
+use Rattle.upp_curve.specs.affine_segment.Values.{line_at}
 use Rattle.curve_deviation.specs.declared.cells.Cell.{Cell}
 use Rattle.curve_deviation.specs.Cells.{RisingCell, IsCellLag, BehindBy}
-use Rattle.upp_limits.specs.upp_curve.proofs.affine_segment.LineValues.{value_later, value_rises, value_moved}
+use Rattle.upp_curve.proofs.affine_segment.LineValues.{value_later, value_rises, value_moved}
 
 -- ---- times between
 pub after_both : (lo w hi : ℚ) → lo <ℚ hi → w <ℚ hi → (m : ℚ) × (lo <ℚ m) × (w <ℚ m) × (m <ℚ hi)

@@ -2,26 +2,26 @@
 use Rattle.std.specs.Prelude.{◌≡◌, ◌*◌, pos, Some, ◌↔◌, IsTrue}
 use native.Mathlib.Nat.{dvd-mul_left}
 use Rattle.std.proofs.Common.{arith, sym, ap, ap₂, ◌∙◌, subst, false}
-use Rattle.upp_limits.specs.rational.specs.Rational.{ℚ, ◌-ℚ◌, ◌*ℚ◌, ◌/ℚ◌, ◌≤ℚ◌, ◌<ℚ◌, int, neg_ℚ}
-use Rattle.upp_limits.specs.rational.specs.Ratio.{IsSmall, SumFits}
-use Rattle.upp_limits.specs.rational.specs.Grid.{Within}
-use Rattle.upp_limits.specs.rational.proofs.Sizes.{largest_part, quotient_on_grid}
-use Rattle.upp_limits.specs.rational.proofs.Grid.{whole_weaken}
-use Rattle.upp_limits.specs.rational.proofs.Integers.{nat_le, nat_nonneg, int_mul}
-use Rattle.upp_limits.specs.rational.proofs.Linear.{with2}
-use Rattle.upp_limits.specs.rational.proofs.Laws.{div_mul, not_zero}
-use Rattle.upp_limits.specs.upp_curve.specs.declared.affine_segment.line.Line.{Line}
-use Rattle.upp_limits.specs.upp_curve.specs.affine_segment.Values.{line_at}
-use Rattle.upp_limits.specs.upp_curve.specs.affine_segment.Fits.{LineFits}
+use Rattle.rational.specs.Rational.{ℚ, ◌-ℚ◌, ◌*ℚ◌, ◌/ℚ◌, ◌≤ℚ◌, ◌<ℚ◌, int, neg_ℚ}
+use Rattle.rational.specs.Ratio.{IsSmall, SumFits}
+use Rattle.rational.specs.Grid.{Within}
+use Rattle.rational.proofs.Sizes.{largest_part, quotient_on_grid}
+use Rattle.rational.proofs.Grid.{whole_weaken}
+use Rattle.rational.proofs.Integers.{nat_le, nat_nonneg, int_mul}
+use Rattle.rational.proofs.Linear.{with2}
+use Rattle.rational.proofs.Laws.{div_mul, not_zero}
+use Rattle.upp_curve.specs.declared.affine_segment.line.Line.{Line}
+use Rattle.upp_curve.specs.affine_segment.Values.{line_at}
+use Rattle.upp_curve.specs.affine_segment.Fits.{LineFits}
 use Rattle.upp_limits.specs.Limits.{Sizes}
 use Rattle.upp_limits.specs.Sized.{grid_of, times_largest, IsSlope}
-use Rattle.curve_call.specs.upp_normal.specs.Operand.{AreLimited, OperandLine}
-use Rattle.curve_call.specs.upp_normal.proofs.AnswerRoom.{operand_line_fits, operand_line_value, values_fit, value_difference_stands, tight}
+use Rattle.upp_normal.specs.Operand.{AreLimited, OperandLine}
+use Rattle.upp_normal.proofs.AnswerRoom.{operand_line_fits, operand_line_value, values_fit, value_difference_stands, tight}
 use Rattle.upp_limits.proofs.NarrowSizes.{grid_pos}
-use Rattle.curve_call.specs.upp_normal.proofs.StretchSizes.{times_fit}
+use Rattle.upp_normal.proofs.StretchSizes.{times_fit}
 use Rattle.curve_deviation.specs.Cells.{IsTimeTo}
-use Rattle.curve_call.specs.upp_normal.specs.Ahead.{IsGridValue}
-use Rattle.upp_limits.specs.rational.proofs.Compared.{least_by_test}
+use Rattle.upp_normal.specs.Ahead.{IsGridValue}
+use Rattle.rational.proofs.Compared.{least_by_test}
 
 -- ---- values and their differences
 pub value_fits : (z : Sizes) (last t : ℚ) (l : Line) → AreLimited z last → OperandLine z l → IsTimeTo z last t → LineFits t l

@@ -2,46 +2,46 @@
 use Rattle.std.specs.Prelude.{◌≡◌, ℕ, cond, pos, List, [], ◌∷◌, Option, Some, None}
 use Rattle.std.specs.List.{AllByRecursion}
 use Rattle.std.proofs.Common.{sym, ap, ◌∙◌, refl, subst, inl, inr}
-use Rattle.upp_limits.specs.rational.specs.Rational.{ℚ, ◌+ℚ◌, ◌≤ℚ◌, ◌<ℚ◌, int}
-use Rattle.upp_limits.specs.rational.specs.MinMax.{min_q}
-use Rattle.upp_limits.specs.rational.specs.Grid.{Whole}
-use Rattle.upp_limits.specs.rational.specs.Extended.{Ext}
-use Rattle.upp_limits.specs.rational.proofs.Laws.{le_refl, le_trans, le_of_lt, le_or_lt, lt_irrefl, lt_le_trans, le_lt_trans}
-use Rattle.upp_limits.specs.rational.proofs.MinMax.{min_q_right, min_q_le_left, min_q_le_right}
-use Rattle.upp_limits.specs.rational.proofs.Over.{le_q_out}
-use Rattle.upp_limits.specs.upp_curve.specs.declared.affine_segment.line.Piece.{Piece}
-use Rattle.upp_limits.specs.upp_curve.specs.affine_segment.Values.{line_value}
-use Rattle.upp_limits.specs.upp_curve.specs.declared.curve.Tail.{Tail}
-use Rattle.upp_limits.specs.upp_curve.specs.declared.curve.Tail.TheVariants.{Periodic, Affine, Infinite}
-use Rattle.curve_call.specs.upp_normal.specs.declared.ahead.Stretch.{Stretch}
-use Rattle.upp_limits.specs.upp_curve.specs.affine_segment.Reading.{read, piece_in, piece_value, next_in, line_in}
-use Rattle.upp_limits.specs.upp_curve.specs.Curve.{SpecCurve, value_at, with_tail}
-use Rattle.upp_limits.specs.upp_curve.specs.Curves.{IsCurve}
-use Rattle.upp_limits.specs.min_plus.specs.Functions.{IsFinite}
-use Rattle.upp_limits.specs.upp_curve.specs.affine_segment.Pieces.{Each, StartsAtZero}
-use Rattle.upp_limits.specs.upp_curve.specs.Normal.{IsNormal, TailFits}
-use Rattle.upp_limits.specs.upp_curve.specs.affine_segment.Fits.{ReadFits, LineFitsAt}
-use Rattle.upp_limits.specs.upp_curve.specs.Readable.{TailReadable}
-use Rattle.upp_limits.specs.rational.specs.Ratio.{SumFits}
+use Rattle.rational.specs.Rational.{ℚ, ◌+ℚ◌, ◌≤ℚ◌, ◌<ℚ◌, int}
+use Rattle.rational.specs.MinMax.{min_q}
+use Rattle.rational.specs.Grid.{Whole}
+use Rattle.rational.specs.Extended.{Ext}
+use Rattle.rational.proofs.Laws.{le_refl, le_trans, le_of_lt, le_or_lt, lt_irrefl, lt_le_trans, le_lt_trans}
+use Rattle.rational.proofs.MinMax.{min_q_right, min_q_le_left, min_q_le_right}
+use Rattle.rational.proofs.Over.{le_q_out}
+use Rattle.upp_curve.specs.declared.affine_segment.line.Piece.{Piece}
+use Rattle.upp_curve.specs.affine_segment.Values.{line_value}
+use Rattle.upp_curve.specs.declared.curve.Tail.{Tail}
+use Rattle.upp_curve.specs.declared.curve.Tail.TheVariants.{Periodic, Affine, Infinite}
+use Rattle.upp_normal.specs.declared.ahead.Stretch.{Stretch}
+use Rattle.upp_curve.specs.affine_segment.Reading.{read, piece_in, piece_value, next_in, line_in}
+use Rattle.upp_curve.specs.Curve.{SpecCurve, value_at, with_tail}
+use Rattle.upp_curve.specs.Curves.{IsCurve}
+use Rattle.min_plus.specs.Functions.{IsFinite}
+use Rattle.upp_curve.specs.affine_segment.Pieces.{Each, StartsAtZero}
+use Rattle.upp_curve.specs.Normal.{IsNormal, TailFits}
+use Rattle.upp_curve.specs.affine_segment.Fits.{ReadFits, LineFitsAt}
+use Rattle.upp_curve.specs.Readable.{TailReadable}
+use Rattle.rational.specs.Ratio.{SumFits}
 use Rattle.upp_limits.specs.Limits.{Sizes}
-use Rattle.upp_limits.specs.rational.proofs.Grid.{whole_add}
-use Rattle.upp_limits.specs.upp_curve.specs.Steady.{rank_of}
+use Rattle.rational.proofs.Grid.{whole_add}
+use Rattle.upp_curve.specs.Steady.{rank_of}
 use Rattle.upp_limits.specs.Periods.{period_of}
 use Rattle.upp_limits.specs.Spans.{spans, piece_read}
 use Rattle.upp_limits.specs.Sized.{SpanStands}
-use Rattle.curve_call.specs.upp_normal.specs.Operand.{OperandLineAt}
-use Rattle.curve_call.specs.upp_normal.specs.Ahead.{IsBeforeNext, GoesOn, AtNext, TimesStand, HasWindow, IsOverBy, IsTimeIn, GridValue}
+use Rattle.upp_normal.specs.Operand.{OperandLineAt}
+use Rattle.upp_normal.specs.Ahead.{IsBeforeNext, GoesOn, AtNext, TimesStand, HasWindow, IsOverBy, IsTimeIn, GridValue}
 use Rattle.upp_limits.proofs.PieceLists.{spans_some}
-use Rattle.upp_limits.specs.upp_curve.proofs.Repeats.{repeated_first}
-use Rattle.upp_limits.specs.upp_curve.proofs.RisingCurves.{infinite_is_not_finite, GoesOn as IsEndless}
+use Rattle.upp_curve.proofs.Repeats.{repeated_first}
+use Rattle.upp_curve.proofs.RisingCurves.{infinite_is_not_finite, GoesOn as IsEndless}
 use Rattle.upp_limits.proofs.CurveStands.{unrolled_stand, each_stands, has_period}
-use Rattle.curve_call.specs.upp_normal.proofs.StretchPieces.{next_past, next_all, reads_on, span_in}
-use Rattle.curve_call.specs.upp_normal.proofs.StretchSizes.{times_stand}
-use Rattle.curve_call.specs.upp_normal.proofs.StretchValues.{read_here, with_pieces}
+use Rattle.upp_normal.proofs.StretchPieces.{next_past, next_all, reads_on, span_in}
+use Rattle.upp_normal.proofs.StretchSizes.{times_stand}
+use Rattle.upp_normal.proofs.StretchValues.{read_here, with_pieces}
 use Rattle.curve_deviation.specs.declared.parts.Part.{Part}
 use Rattle.curve_deviation.specs.Parts.{IsFiniteInSizes, GoesTo, PartStands, IsEarlyBy, IsKeptUntil}
-use Rattle.upp_limits.specs.upp_curve.proofs.affine_segment.Lower.{left_low}
-use Rattle.curve_call.specs.upp_normal.proofs.NormaliseRoomy.{found_early}
+use Rattle.upp_curve.proofs.affine_segment.Lower.{left_low}
+use Rattle.upp_normal.proofs.NormaliseRoomy.{found_early}
 use Rattle.curve_call.proofs.GapWalk.{earlier_high, earlier_past}
 use Rattle.curve_call.specs.GapSteps.{earlier_of}
 

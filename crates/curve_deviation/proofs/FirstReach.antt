@@ -1,37 +1,37 @@
 -- The first time from a start on at which a finite curve that rises reaches a level: it is found among the curve's pieces, or there is none.
 use Rattle.std.specs.Prelude.{◌≡◌, pos, List, [], ◌∷◌, Option, Some, None, ◌⊎◌}
 use Rattle.std.proofs.Common.{arith, sym, ap, ◌∙◌, refl, subst, inl, inr}
-use Rattle.upp_limits.specs.rational.specs.Rational.{ℚ, ◌+ℚ◌, ◌-ℚ◌, ◌*ℚ◌, ◌/ℚ◌, ◌≤ℚ◌, ◌<ℚ◌, int}
-use Rattle.upp_limits.specs.rational.specs.Extended.{Ext, ◌≤ₑ◌, ◌<ₑ◌, ◌+ₑ◌}
-use Rattle.upp_limits.specs.rational.specs.declared.Extended.TheVariants.{Fin}
-use Rattle.upp_limits.specs.rational.specs.MinMax.{max_q}
-use Rattle.upp_limits.specs.rational.proofs.Linear.{with1, with3, with4}
-use Rattle.upp_limits.specs.rational.proofs.Laws.{le_refl, le_trans, le_of_lt, le_or_lt, lt_le_trans, le_lt_trans, lt_trans, lt_irrefl, antisym, between, mul_comm, div_mul, not_zero, mul_nonneg, mul_le_mul, mul_zero}
-use Rattle.upp_limits.specs.rational.proofs.Lines.{line_moved}
-use Rattle.upp_limits.specs.rational.proofs.Integers.{nat_nonneg}
-use Rattle.upp_limits.specs.rational.proofs.Quotients.{times_above}
-use Rattle.upp_limits.specs.rational.proofs.MinMax.{max_q_ge_left, max_q_ge_right}
-use Rattle.upp_limits.specs.rational.proofs.ExtendedOrder.{le_ext_trans, le_lt_ext, le_or_lt_ext}
-use Rattle.upp_limits.specs.upp_curve.specs.declared.affine_segment.line.Line.{Line}
-use Rattle.upp_limits.specs.upp_curve.specs.declared.affine_segment.line.Piece.{Piece}
-use Rattle.upp_limits.specs.upp_curve.specs.affine_segment.Values.{line_at, line_value}
-use Rattle.upp_limits.specs.upp_curve.specs.affine_segment.Reading.{read, piece_value}
-use Rattle.upp_limits.specs.upp_curve.specs.affine_segment.Pieces.{RisesFrom, StartsAtZero}
-use Rattle.upp_limits.specs.upp_curve.specs.Curve.{SpecCurve, value_at}
-use Rattle.upp_limits.specs.upp_curve.specs.Curves.{IsCurve}
-use Rattle.upp_limits.specs.min_plus.specs.Functions.{IsFinite, IsRising}
-use Rattle.upp_limits.specs.upp_curve.specs.Steady.{Repeats}
-use Rattle.upp_limits.specs.upp_curve.specs.Unrolled.{unroll}
-use Rattle.upp_limits.specs.min_plus.proofs.FiniteValues.{no_inf}
-use Rattle.upp_limits.specs.upp_curve.proofs.affine_segment.PieceIn.{piece_in_stop, piece_in_go, piece_in_end, value_past, read_is}
-use Rattle.upp_limits.specs.upp_curve.proofs.FirstStretch.{read_in}
-use Rattle.curve_call.specs.upp_normal.proofs.Below.{unroll_reads}
-use Rattle.curve_call.specs.upp_normal.proofs.UnrolledPieces.{unroll_starts}
+use Rattle.rational.specs.Rational.{ℚ, ◌+ℚ◌, ◌-ℚ◌, ◌*ℚ◌, ◌/ℚ◌, ◌≤ℚ◌, ◌<ℚ◌, int}
+use Rattle.rational.specs.Extended.{Ext, ◌≤ₑ◌, ◌<ₑ◌, ◌+ₑ◌}
+use Rattle.rational.specs.declared.Extended.TheVariants.{Fin}
+use Rattle.rational.specs.MinMax.{max_q}
+use Rattle.rational.proofs.Linear.{with1, with3, with4}
+use Rattle.rational.proofs.Laws.{le_refl, le_trans, le_of_lt, le_or_lt, lt_le_trans, le_lt_trans, lt_trans, lt_irrefl, antisym, between, mul_comm, div_mul, not_zero, mul_nonneg, mul_le_mul, mul_zero}
+use Rattle.rational.proofs.Lines.{line_moved}
+use Rattle.rational.proofs.Integers.{nat_nonneg}
+use Rattle.rational.proofs.Quotients.{times_above}
+use Rattle.rational.proofs.MinMax.{max_q_ge_left, max_q_ge_right}
+use Rattle.rational.proofs.ExtendedOrder.{le_ext_trans, le_lt_ext, le_or_lt_ext}
+use Rattle.upp_curve.specs.declared.affine_segment.line.Line.{Line}
+use Rattle.upp_curve.specs.declared.affine_segment.line.Piece.{Piece}
+use Rattle.upp_curve.specs.affine_segment.Values.{line_at, line_value}
+use Rattle.upp_curve.specs.affine_segment.Reading.{read, piece_value}
+use Rattle.upp_curve.specs.affine_segment.Pieces.{RisesFrom, StartsAtZero}
+use Rattle.upp_curve.specs.Curve.{SpecCurve, value_at}
+use Rattle.upp_curve.specs.Curves.{IsCurve}
+use Rattle.min_plus.specs.Functions.{IsFinite, IsRising}
+use Rattle.upp_curve.specs.Steady.{Repeats}
+use Rattle.upp_curve.specs.Unrolled.{unroll}
+use Rattle.min_plus.proofs.FiniteValues.{no_inf}
+use Rattle.upp_curve.proofs.affine_segment.PieceIn.{piece_in_stop, piece_in_go, piece_in_end, value_past, read_is}
+use Rattle.upp_curve.proofs.FirstStretch.{read_in}
+use Rattle.upp_normal.proofs.Below.{unroll_reads}
+use Rattle.upp_normal.proofs.UnrolledPieces.{unroll_starts}
 use Rattle.curve_call.proofs.Shifts.{later_value}
 use Rattle.curve_deviation.specs.Rises.{RisesOn}
 use Rattle.curve_deviation.proofs.CellLag.{rises_more, gets_higher, before_both}
 use Rattle.curve_deviation.proofs.RisingParts.{rises_on}
-use Rattle.upp_limits.specs.upp_curve.proofs.affine_segment.LineValues.{value_later, value_rises}
+use Rattle.upp_curve.proofs.affine_segment.LineValues.{value_later, value_rises}
 
 -- x is the first time from t on at which g has reached v, or the limit of such times
 pub record IsReached (g : ℚ → Ext) (v t x : ℚ) : Type 0 where

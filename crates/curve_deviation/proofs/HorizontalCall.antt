@@ -1,27 +1,27 @@
 -- A call for the horizontal deviation within its limits: what its window gives, and that the longest lag in it is the deviation.
 use Rattle.std.specs.Prelude.{◌≡◌, ℕ, suc, ◌≤◌, pos}
 use Rattle.std.proofs.Common.{arith, sym, ◌∙◌, subst, inl, inr}
-use Rattle.upp_limits.specs.rational.specs.Rational.{ℚ, ◌*ℚ◌, ◌≤ℚ◌, ◌<ℚ◌, int}
-use Rattle.upp_limits.specs.rational.specs.Extended.{◌≤ₑ◌, ◌<ₑ◌}
-use Rattle.upp_limits.specs.rational.specs.declared.Extended.TheVariants.{Fin, Inf}
-use Rattle.upp_limits.specs.rational.proofs.Linear.{with2}
-use Rattle.upp_limits.specs.rational.proofs.Laws.{le_refl, le_trans, le_of_lt, le_lt_trans, mul_le_mul_right, le_of_not_lt}
-use Rattle.upp_limits.specs.rational.proofs.ExtendedOrder.{same_le_ext, le_ext_trans}
+use Rattle.rational.specs.Rational.{ℚ, ◌*ℚ◌, ◌≤ℚ◌, ◌<ℚ◌, int}
+use Rattle.rational.specs.Extended.{◌≤ₑ◌, ◌<ₑ◌}
+use Rattle.rational.specs.declared.Extended.TheVariants.{Fin, Inf}
+use Rattle.rational.proofs.Linear.{with2}
+use Rattle.rational.proofs.Laws.{le_refl, le_trans, le_of_lt, le_lt_trans, mul_le_mul_right, le_of_not_lt}
+use Rattle.rational.proofs.ExtendedOrder.{same_le_ext, le_ext_trans}
 use Rattle.upp_limits.specs.declared.op_kind.OpKind.TheVariants.{Horizontal}
-use Rattle.upp_limits.specs.upp_curve.specs.Curve.{SpecCurve, value_at}
-use Rattle.upp_limits.specs.upp_curve.specs.Curves.{IsCurve}
-use Rattle.upp_limits.specs.min_plus.specs.Functions.{IsFinite}
-use Rattle.upp_limits.specs.upp_curve.specs.Steady.{steady, rise_over, rate}
+use Rattle.upp_curve.specs.Curve.{SpecCurve, value_at}
+use Rattle.upp_curve.specs.Curves.{IsCurve}
+use Rattle.min_plus.specs.Functions.{IsFinite}
+use Rattle.upp_curve.specs.Steady.{steady, rise_over, rate}
 use Rattle.upp_limits.specs.Periods.{common_period, periods_after}
 use Rattle.upp_limits.specs.Windows.{window_at, IsLeastPeriods}
 use Rattle.upp_limits.specs.Limits.{Sizes, sizes_of}
-use Rattle.curve_call.specs.upp_normal.specs.Ahead.{IsTimeIn}
+use Rattle.upp_normal.specs.Ahead.{IsTimeIn}
 use Rattle.upp_limits.specs.Gauges.{IsKnownAtOnce, numbers_over}
-use Rattle.upp_limits.specs.min_plus.specs.Deviations.{IsHorizontalDeviation}
+use Rattle.min_plus.specs.Deviations.{IsHorizontalDeviation}
 use Rattle.curve_call.specs.declared.frame.Frame.{Frame}
 use Rattle.curve_call.specs.Frames.{IsFrame, sizes_at}
-use Rattle.upp_limits.specs.rational.proofs.Grid.{whole_add, whole_times}
-use Rattle.curve_call.specs.upp_normal.proofs.UnrollSteps.{ext_cases}
+use Rattle.rational.proofs.Grid.{whole_add, whole_times}
+use Rattle.upp_normal.proofs.UnrollSteps.{ext_cases}
 use Rattle.curve_call.proofs.RateRises.{rate_rise, infinite_value}
 use Rattle.curve_deviation.specs.Parts.{IsFiniteInSizes}
 use Rattle.curve_deviation.specs.Lags.{IsLongestLag}
@@ -34,7 +34,7 @@ use Rattle.curve_deviation.proofs.PeriodsFound.{found_least}
 use Rattle.curve_deviation.proofs.Searching.{later_periods}
 use Rattle.curve_deviation.proofs.SoonerLags.{settled_nonneg, sooner_lag}
 use Rattle.curve_deviation.proofs.WindowTimes.{WindowTimes, times_at, periods_low, settled_is}
-use Rattle.upp_limits.specs.upp_curve.proofs.SteadyTimes.{steady_nonneg}
+use Rattle.upp_curve.proofs.SteadyTimes.{steady_nonneg}
 use Rattle.curve_call.proofs.CurveTimes.{common_some}
 
 -- the sizes of a window's end

@@ -1,36 +1,36 @@
 -- When the horizontal deviation is infinite whatever the sizes are.
 use Rattle.std.specs.Prelude.{◌≡◌, pos}
 use Rattle.std.proofs.Common.{arith, sym, ap, ◌∙◌, subst, inl, inr}
-use Rattle.upp_limits.specs.rational.specs.Rational.{ℚ, ◌+ℚ◌, ◌-ℚ◌, ◌*ℚ◌, ◌≤ℚ◌, ◌<ℚ◌, int}
-use Rattle.upp_limits.specs.rational.specs.Extended.{Ext, ◌<ₑ◌, ◌+ₑ◌}
-use Rattle.upp_limits.specs.rational.specs.declared.Extended.TheVariants.{Fin, Inf}
-use Rattle.upp_limits.specs.rational.proofs.Linear.{with2, with4, with6}
-use Rattle.upp_limits.specs.rational.proofs.Laws.{le_refl, le_trans, le_of_lt, mul_nonneg, mul_sub}
-use Rattle.upp_limits.specs.rational.proofs.Integers.{nat_nonneg}
-use Rattle.upp_limits.specs.rational.proofs.Quotients.{times_above}
-use Rattle.upp_limits.specs.rational.proofs.MinMax.{max_q_ge_left, max_q_ge_right}
+use Rattle.rational.specs.Rational.{ℚ, ◌+ℚ◌, ◌-ℚ◌, ◌*ℚ◌, ◌≤ℚ◌, ◌<ℚ◌, int}
+use Rattle.rational.specs.Extended.{Ext, ◌<ₑ◌, ◌+ₑ◌}
+use Rattle.rational.specs.declared.Extended.TheVariants.{Fin, Inf}
+use Rattle.rational.proofs.Linear.{with2, with4, with6}
+use Rattle.rational.proofs.Laws.{le_refl, le_trans, le_of_lt, mul_nonneg, mul_sub}
+use Rattle.rational.proofs.Integers.{nat_nonneg}
+use Rattle.rational.proofs.Quotients.{times_above}
+use Rattle.rational.proofs.MinMax.{max_q_ge_left, max_q_ge_right}
 use Rattle.upp_limits.specs.declared.op_kind.OpKind.TheVariants.{Horizontal}
-use Rattle.upp_limits.specs.upp_curve.specs.Curve.{SpecCurve, value_at}
-use Rattle.upp_limits.specs.upp_curve.specs.Curves.{IsCurve}
-use Rattle.upp_limits.specs.min_plus.specs.Functions.{IsFinite, IsRising}
-use Rattle.upp_limits.specs.upp_curve.specs.Steady.{Repeats, steady, rise_over, rate}
+use Rattle.upp_curve.specs.Curve.{SpecCurve, value_at}
+use Rattle.upp_curve.specs.Curves.{IsCurve}
+use Rattle.min_plus.specs.Functions.{IsFinite, IsRising}
+use Rattle.upp_curve.specs.Steady.{Repeats, steady, rise_over, rate}
 use Rattle.upp_limits.specs.Periods.{common_period, both_steady}
 use Rattle.upp_limits.specs.Gauges.{IsKnownAtOnce}
 use Rattle.upp_limits.specs.Outcome.{IsWithin}
-use Rattle.upp_limits.specs.min_plus.specs.Deviations.{IsHorizontalDeviation}
-use Rattle.upp_limits.specs.upp_curve.proofs.Steady.{steady_rule}
+use Rattle.min_plus.specs.Deviations.{IsHorizontalDeviation}
+use Rattle.upp_curve.proofs.Steady.{steady_rule}
 use Rattle.curve_call.proofs.CurveTimes.{common_some}
 use Rattle.curve_call.proofs.CurveRises.{common_first, common_second}
 use Rattle.curve_call.specs.Ever.{RepeatsBy}
 use Rattle.curve_call.proofs.Shifts.{later_value}
 use Rattle.curve_call.proofs.LeastNumber.{gains}
-use Rattle.curve_call.specs.upp_normal.proofs.UnrollSteps.{ext_cases}
+use Rattle.upp_normal.proofs.UnrollSteps.{ext_cases}
 use Rattle.curve_deviation.specs.Lags.{LagsBy}
 use Rattle.curve_deviation.proofs.AtOnce.{infinite_somewhere}
 use Rattle.curve_deviation.proofs.FirstReach.{reached_or}
 use Rattle.curve_deviation.proofs.Lagging.{ReachesOr, endless_is, never_reached}
 use Rattle.curve_call.proofs.EverAfter.{repeats_by}
-use Rattle.upp_limits.specs.upp_curve.proofs.SteadyTimes.{steady_nonneg}
+use Rattle.upp_curve.proofs.SteadyTimes.{steady_nonneg}
 
 -- ---- two curves have a period in common
 

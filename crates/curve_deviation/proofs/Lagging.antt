@@ -1,18 +1,18 @@
 -- The horizontal deviation by pairs of times: the second curve is still below at the later one.
 use Rattle.std.specs.Prelude.{◌≡◌, pos, ◌⊎◌}
 use Rattle.std.proofs.Common.{arith, sym, subst, inl, inr}
-use Rattle.upp_limits.specs.rational.specs.Rational.{ℚ, ◌+ℚ◌, ◌-ℚ◌, ◌≤ℚ◌, ◌<ℚ◌, int}
-use Rattle.upp_limits.specs.rational.specs.Extended.{Ext, ◌≤ₑ◌, ◌<ₑ◌}
-use Rattle.upp_limits.specs.rational.specs.declared.Extended.TheVariants.{Fin, Inf}
-use Rattle.upp_limits.specs.rational.specs.MinMax.{max_q}
-use Rattle.upp_limits.specs.rational.proofs.Linear.{with1, with2, with3}
-use Rattle.upp_limits.specs.rational.proofs.Laws.{le_refl, le_trans, le_of_lt, le_or_lt, lt_le_trans, lt_irrefl, between}
-use Rattle.upp_limits.specs.rational.proofs.Bounds.{greatest, unbounded}
-use Rattle.upp_limits.specs.rational.proofs.MinMax.{max_q_ge_left, max_q_ge_right}
-use Rattle.upp_limits.specs.rational.proofs.ExtendedOrder.{le_ext_trans, le_lt_ext, lt_le_ext, le_or_lt_ext, lt_ext_irrefl}
-use Rattle.upp_limits.specs.min_plus.specs.Functions.{Time, IsFinite, IsRising}
-use Rattle.upp_limits.specs.min_plus.specs.Deviations.{Lag, IsLag, IsHorizontalDeviation}
-use Rattle.curve_call.specs.upp_normal.proofs.UnrollSteps.{ext_cases}
+use Rattle.rational.specs.Rational.{ℚ, ◌+ℚ◌, ◌-ℚ◌, ◌≤ℚ◌, ◌<ℚ◌, int}
+use Rattle.rational.specs.Extended.{Ext, ◌≤ₑ◌, ◌<ₑ◌}
+use Rattle.rational.specs.declared.Extended.TheVariants.{Fin, Inf}
+use Rattle.rational.specs.MinMax.{max_q}
+use Rattle.rational.proofs.Linear.{with1, with2, with3}
+use Rattle.rational.proofs.Laws.{le_refl, le_trans, le_of_lt, le_or_lt, lt_le_trans, lt_irrefl, between}
+use Rattle.rational.proofs.Bounds.{greatest, unbounded}
+use Rattle.rational.proofs.MinMax.{max_q_ge_left, max_q_ge_right}
+use Rattle.rational.proofs.ExtendedOrder.{le_ext_trans, le_lt_ext, lt_le_ext, le_or_lt_ext, lt_ext_irrefl}
+use Rattle.min_plus.specs.Functions.{Time, IsFinite, IsRising}
+use Rattle.min_plus.specs.Deviations.{Lag, IsLag, IsHorizontalDeviation}
+use Rattle.upp_normal.proofs.UnrollSteps.{ext_cases}
 use Rattle.curve_deviation.specs.Lags.{IsBehindAt, LagsBy, IsLongestLag}
 use Rattle.curve_deviation.proofs.FirstReach.{IsReached, StaysBelow}
 

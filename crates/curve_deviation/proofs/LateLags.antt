@@ -1,17 +1,17 @@
 -- No lag behind a time from which on both curves repeat is longer than those behind the times before it.
 use Rattle.std.specs.Prelude.{◌≡◌, ℕ, pos}
 use Rattle.std.proofs.Common.{arith, sym, ap, ◌∙◌, subst, inl, inr}
-use Rattle.upp_limits.specs.rational.specs.Rational.{ℚ, ◌+ℚ◌, ◌-ℚ◌, ◌*ℚ◌, ◌≤ℚ◌, ◌<ℚ◌, int}
-use Rattle.upp_limits.specs.rational.specs.Whole.{periods}
-use Rattle.upp_limits.specs.rational.specs.Extended.{Ext, ◌<ₑ◌, ◌+ₑ◌}
-use Rattle.upp_limits.specs.rational.specs.declared.Extended.TheVariants.{Fin}
-use Rattle.upp_limits.specs.rational.proofs.Linear.{with2, with3, with4}
-use Rattle.upp_limits.specs.rational.proofs.Laws.{le_trans, le_of_lt, le_or_lt, mul_le_mul, sub_add}
-use Rattle.upp_limits.specs.rational.proofs.Integers.{nat_nonneg}
-use Rattle.upp_limits.specs.rational.proofs.Whole.{periods_low, periods_high}
-use Rattle.upp_limits.specs.rational.proofs.ExtendedOrder.{le_lt_ext, lt_le_ext}
-use Rattle.upp_limits.specs.min_plus.specs.Functions.{IsFinite, IsRising}
-use Rattle.upp_limits.specs.upp_curve.specs.Steady.{Repeats, steady}
+use Rattle.rational.specs.Rational.{ℚ, ◌+ℚ◌, ◌-ℚ◌, ◌*ℚ◌, ◌≤ℚ◌, ◌<ℚ◌, int}
+use Rattle.rational.specs.Whole.{periods}
+use Rattle.rational.specs.Extended.{Ext, ◌<ₑ◌, ◌+ₑ◌}
+use Rattle.rational.specs.declared.Extended.TheVariants.{Fin}
+use Rattle.rational.proofs.Linear.{with2, with3, with4}
+use Rattle.rational.proofs.Laws.{le_trans, le_of_lt, le_or_lt, mul_le_mul, sub_add}
+use Rattle.rational.proofs.Integers.{nat_nonneg}
+use Rattle.rational.proofs.Whole.{periods_low, periods_high}
+use Rattle.rational.proofs.ExtendedOrder.{le_lt_ext, lt_le_ext}
+use Rattle.min_plus.specs.Functions.{IsFinite, IsRising}
+use Rattle.upp_curve.specs.Steady.{Repeats, steady}
 use Rattle.upp_limits.specs.Windows.{IsConstantFrom}
 use Rattle.curve_call.proofs.Shifts.{later_value}
 use Rattle.curve_deviation.specs.Lags.{IsBehindAt, IsLongestLag}

@@ -1,26 +1,26 @@
 -- The parts of a finite curve that rises: their lines, and their limits at both ends.
 use Rattle.std.specs.Prelude.{◌≡◌, pos, Option, Some, None}
 use Rattle.std.proofs.Common.{arith, sym, ap, ◌∙◌, subst, inl, inr}
-use Rattle.upp_limits.specs.rational.specs.Rational.{ℚ, ◌*ℚ◌, ◌≤ℚ◌, ◌<ℚ◌, int, neg_ℚ}
-use Rattle.upp_limits.specs.rational.specs.MinMax.{min_q}
-use Rattle.upp_limits.specs.rational.specs.Grid.{Whole}
-use Rattle.upp_limits.specs.rational.specs.Stretch.{Between}
-use Rattle.upp_limits.specs.rational.specs.Extended.{Ext, ◌≤ₑ◌}
-use Rattle.upp_limits.specs.rational.specs.declared.Extended.TheVariants.{Fin}
-use Rattle.upp_limits.specs.rational.proofs.Linear.{with1, with3, with4}
-use Rattle.upp_limits.specs.rational.proofs.Laws.{le_refl, le_trans, le_of_lt, le_or_lt, lt_le_trans, lt_trans, between, mul_lt_mul, neg_mul}
-use Rattle.upp_limits.specs.rational.proofs.Bounds.{greatest, smallest}
-use Rattle.upp_limits.specs.rational.proofs.Stretch.{rising_infimum, rising_supremum}
-use Rattle.upp_limits.specs.rational.proofs.MinMax.{min_q_le_left, min_q_le_right, min_q_one, below_min_in}
-use Rattle.upp_limits.specs.upp_curve.specs.declared.affine_segment.line.Line.{Line}
-use Rattle.upp_limits.specs.upp_curve.specs.affine_segment.Values.{line_at, line_value}
-use Rattle.upp_limits.specs.upp_curve.specs.Curve.{SpecCurve, value_at}
-use Rattle.upp_limits.specs.min_plus.specs.Functions.{IsFinite, IsRising}
-use Rattle.upp_limits.specs.upp_curve.specs.Shapes.{IsLine}
+use Rattle.rational.specs.Rational.{ℚ, ◌*ℚ◌, ◌≤ℚ◌, ◌<ℚ◌, int, neg_ℚ}
+use Rattle.rational.specs.MinMax.{min_q}
+use Rattle.rational.specs.Grid.{Whole}
+use Rattle.rational.specs.Stretch.{Between}
+use Rattle.rational.specs.Extended.{Ext, ◌≤ₑ◌}
+use Rattle.rational.specs.declared.Extended.TheVariants.{Fin}
+use Rattle.rational.proofs.Linear.{with1, with3, with4}
+use Rattle.rational.proofs.Laws.{le_refl, le_trans, le_of_lt, le_or_lt, lt_le_trans, lt_trans, between, mul_lt_mul, neg_mul}
+use Rattle.rational.proofs.Bounds.{greatest, smallest}
+use Rattle.rational.proofs.Stretch.{rising_infimum, rising_supremum}
+use Rattle.rational.proofs.MinMax.{min_q_le_left, min_q_le_right, min_q_one, below_min_in}
+use Rattle.upp_curve.specs.declared.affine_segment.line.Line.{Line}
+use Rattle.upp_curve.specs.affine_segment.Values.{line_at, line_value}
+use Rattle.upp_curve.specs.Curve.{SpecCurve, value_at}
+use Rattle.min_plus.specs.Functions.{IsFinite, IsRising}
+use Rattle.upp_curve.specs.Shapes.{IsLine}
 use Rattle.upp_limits.specs.Limits.{Sizes}
-use Rattle.curve_call.specs.upp_normal.specs.Operand.{OperandLine, OperandLineAt}
-use Rattle.curve_call.specs.upp_normal.specs.Ahead.{IsTimeIn}
-use Rattle.upp_limits.specs.min_plus.proofs.FiniteValues.{no_inf}
+use Rattle.upp_normal.specs.Operand.{OperandLine, OperandLineAt}
+use Rattle.upp_normal.specs.Ahead.{IsTimeIn}
+use Rattle.min_plus.proofs.FiniteValues.{no_inf}
 use Rattle.curve_deviation.specs.declared.cells.Cell.{Cell}
 use Rattle.curve_deviation.specs.declared.parts.Part.{Part}
 use Rattle.curve_deviation.specs.Cells.{RisingCell, CellSizes, IsTimeTo}

@@ -1,23 +1,23 @@
 -- What is looked for stays met once it is met; the search by doubling and halving.
 use Rattle.std.specs.Prelude.{◌≡◌, ℕ, suc, ◌+◌, ◌-◌, ◌*◌, ◌<◌, ◌≤◌, ◌^◌, ◌/◌, pos}
 use Rattle.std.proofs.Common.{arith, sym, ap, ◌∙◌, subst}
-use Rattle.upp_limits.specs.rational.specs.Rational.{ℚ, ◌-ℚ◌, ◌*ℚ◌, ◌≤ℚ◌, ◌<ℚ◌, int}
-use Rattle.upp_limits.specs.rational.specs.Extended.{◌≤ₑ◌, ◌<ₑ◌}
-use Rattle.upp_limits.specs.rational.specs.declared.Extended.TheVariants.{Fin}
-use Rattle.upp_limits.specs.rational.proofs.Linear.{with3}
-use Rattle.upp_limits.specs.rational.proofs.Laws.{le_trans, le_of_lt, lt_le_trans, lt_irrefl, mul_le_mul_right}
-use Rattle.upp_limits.specs.rational.proofs.Integers.{nat_le}
-use Rattle.upp_limits.specs.rational.proofs.ExtendedOrder.{le_ext_trans, lt_le_ext}
-use Rattle.upp_limits.specs.upp_curve.specs.Curve.{SpecCurve, value_at}
-use Rattle.upp_limits.specs.upp_curve.specs.Curves.{IsCurve}
-use Rattle.upp_limits.specs.upp_curve.specs.Steady.{steady}
+use Rattle.rational.specs.Rational.{ℚ, ◌-ℚ◌, ◌*ℚ◌, ◌≤ℚ◌, ◌<ℚ◌, int}
+use Rattle.rational.specs.Extended.{◌≤ₑ◌, ◌<ₑ◌}
+use Rattle.rational.specs.declared.Extended.TheVariants.{Fin}
+use Rattle.rational.proofs.Linear.{with3}
+use Rattle.rational.proofs.Laws.{le_trans, le_of_lt, lt_le_trans, lt_irrefl, mul_le_mul_right}
+use Rattle.rational.proofs.Integers.{nat_le}
+use Rattle.rational.proofs.ExtendedOrder.{le_ext_trans, lt_le_ext}
+use Rattle.upp_curve.specs.Curve.{SpecCurve, value_at}
+use Rattle.upp_curve.specs.Curves.{IsCurve}
+use Rattle.upp_curve.specs.Steady.{steady}
 use Rattle.upp_limits.specs.Periods.{common_period, periods_after}
 use Rattle.curve_deviation.specs.declared.search.Stage.{Stage}
 use Rattle.curve_deviation.specs.declared.search.Stage.TheVariants.{First, Second}
 use Rattle.curve_deviation.specs.Stages.{AreFinite, HasLeft, HasReached, settled, Meets, stage_gauge, IsBefore, IsPast}
 use Rattle.curve_deviation.proofs.WindowTimes.{WindowTimes, periods_low, few_within, twice_is}
 use Rattle.upp_limits.specs.Limits.{Sizes}
-use Rattle.upp_limits.specs.upp_curve.proofs.SteadyTimes.{steady_nonneg}
+use Rattle.upp_curve.proofs.SteadyTimes.{steady_nonneg}
 use Rattle.curve_call.proofs.CurveTimes.{common_some}
 
 -- more periods are later

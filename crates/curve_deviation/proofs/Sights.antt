@@ -1,16 +1,16 @@
 -- What a walk sees is a cell, and stays so from step to step.
 use Rattle.std.specs.Prelude.{◌≡◌, ◌<◌, pos}
 use Rattle.std.proofs.Common.{sym, refl, subst, inl, inr}
-use Rattle.upp_limits.specs.rational.specs.Rational.{ℚ, ◌≤ℚ◌, ◌<ℚ◌, int}
-use Rattle.upp_limits.specs.rational.specs.MinMax.{max_q}
-use Rattle.upp_limits.specs.rational.specs.Extended.{Ext, ◌≤ₑ◌}
-use Rattle.upp_limits.specs.rational.proofs.Laws.{le_refl, le_or_lt, lt_irrefl, lt_trans}
-use Rattle.upp_limits.specs.rational.proofs.Grid.{whole_int}
-use Rattle.upp_limits.specs.upp_curve.specs.affine_segment.Values.{line_at}
+use Rattle.rational.specs.Rational.{ℚ, ◌≤ℚ◌, ◌<ℚ◌, int}
+use Rattle.rational.specs.MinMax.{max_q}
+use Rattle.rational.specs.Extended.{Ext, ◌≤ₑ◌}
+use Rattle.rational.proofs.Laws.{le_refl, le_or_lt, lt_irrefl, lt_trans}
+use Rattle.rational.proofs.Grid.{whole_int}
+use Rattle.upp_curve.specs.affine_segment.Values.{line_at}
 use Rattle.upp_limits.specs.Limits.{Sizes}
-use Rattle.curve_call.specs.upp_normal.specs.Operand.{AreLimited}
-use Rattle.curve_call.specs.upp_normal.specs.Ahead.{IsTimeIn}
-use Rattle.upp_limits.specs.min_plus.specs.Functions.{IsRising}
+use Rattle.upp_normal.specs.Operand.{AreLimited}
+use Rattle.upp_normal.specs.Ahead.{IsTimeIn}
+use Rattle.min_plus.specs.Functions.{IsRising}
 use Rattle.curve_deviation.specs.declared.cells.Cell.{Cell}
 use Rattle.curve_deviation.specs.declared.cells.Levels.{Levels}
 use Rattle.curve_deviation.specs.declared.walks.Rise.{Rise}

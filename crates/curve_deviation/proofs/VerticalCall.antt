@@ -1,26 +1,26 @@
 -- A call for the vertical deviation: what its frame gives, and its limits where it is known at once.
 use Rattle.std.specs.Prelude.{◌≡◌, pos}
 use Rattle.std.proofs.Common.{sym, ap₂, ◌∙◌, subst, inl, inr}
-use Rattle.upp_limits.specs.rational.specs.Rational.{ℚ, ◌+ℚ◌, ◌≤ℚ◌, int}
-use Rattle.upp_limits.specs.rational.specs.Extended.{◌<ₑ◌}
-use Rattle.upp_limits.specs.rational.specs.declared.Extended.TheVariants.{Inf}
-use Rattle.upp_limits.specs.rational.proofs.MinMax.{max_q_ge_left, max_q_ge_right}
-use Rattle.upp_limits.specs.rational.proofs.Laws.{le_trans}
+use Rattle.rational.specs.Rational.{ℚ, ◌+ℚ◌, ◌≤ℚ◌, int}
+use Rattle.rational.specs.Extended.{◌<ₑ◌}
+use Rattle.rational.specs.declared.Extended.TheVariants.{Inf}
+use Rattle.rational.proofs.MinMax.{max_q_ge_left, max_q_ge_right}
+use Rattle.rational.proofs.Laws.{le_trans}
 use Rattle.upp_limits.specs.declared.op_kind.OpKind.TheVariants.{Vertical}
 use Rattle.upp_limits.specs.declared.op_kind.OpFault.{OpFault}
 use Rattle.upp_limits.specs.declared.op_kind.OpFault.TheVariants.{NoMemory}
-use Rattle.upp_limits.specs.upp_curve.specs.Curve.{SpecCurve, value_at}
-use Rattle.upp_limits.specs.upp_curve.specs.Curves.{IsCurve}
-use Rattle.upp_limits.specs.min_plus.specs.Functions.{IsFinite}
-use Rattle.upp_limits.specs.upp_curve.specs.Steady.{steady, rate, IsWholePeriods}
+use Rattle.upp_curve.specs.Curve.{SpecCurve, value_at}
+use Rattle.upp_curve.specs.Curves.{IsCurve}
+use Rattle.min_plus.specs.Functions.{IsFinite}
+use Rattle.upp_curve.specs.Steady.{steady, rate, IsWholePeriods}
 use Rattle.upp_limits.specs.Periods.{common_period, both_steady}
 use Rattle.upp_limits.specs.Windows.{window_at}
 use Rattle.upp_limits.specs.Limits.{curve_numbers, sizes_of}
 use Rattle.upp_limits.specs.Sized.{Stands}
-use Rattle.curve_call.specs.upp_normal.specs.Operand.{AreLimited}
+use Rattle.upp_normal.specs.Operand.{AreLimited}
 use Rattle.upp_limits.specs.Gauges.{IsKnownAtOnce, both_numbers}
 use Rattle.upp_limits.specs.Outcome.{IsWithin}
-use Rattle.upp_limits.specs.min_plus.specs.Deviations.{IsVerticalDeviation}
+use Rattle.min_plus.specs.Deviations.{IsVerticalDeviation}
 use Rattle.upp_limits.proofs.Stands.{sizes_stand, stands_left, stands_right}
 use Rattle.curve_call.specs.declared.frame.Frame.{Frame}
 use Rattle.curve_call.specs.Frames.{IsFrame, IsRefusedAt, sizes_at}
@@ -31,7 +31,7 @@ use Rattle.curve_call.proofs.FrameFacts.{frame_facts}
 use Rattle.curve_call.specs.Compared.{AreCompared}
 use Rattle.curve_call.specs.Ever.{RepeatsBy}
 use Rattle.curve_deviation.proofs.AtOnce.{faster_deviation}
-use Rattle.upp_limits.specs.upp_curve.proofs.SteadyTimes.{steady_nonneg}
+use Rattle.upp_curve.proofs.SteadyTimes.{steady_nonneg}
 
 pub frame_compared : (f g : SpecCurve) (r : Frame) → IsFrame Vertical f g 0 0 r → AreCompared (sizes_at Vertical f g 0 0) r.start r.period f g
 unfolding window_at

@@ -1,30 +1,30 @@
 -- The walk to the longest lag: what has been looked at, and that it ends.
 use Rattle.std.specs.Prelude.{◌≡◌, ℕ, ◌+◌, ◌<◌, pos, ◌⊎◌}
 use Rattle.std.proofs.Common.{arith, sym, ap, ◌∙◌, subst, inl, inr}
-use Rattle.upp_limits.specs.rational.specs.Rational.{ℚ, ◌-ℚ◌, ◌*ℚ◌, ◌≤ℚ◌, ◌<ℚ◌, int}
-use Rattle.upp_limits.specs.rational.specs.MinMax.{max_q}
-use Rattle.upp_limits.specs.rational.specs.Whole.{whole_part}
-use Rattle.upp_limits.specs.rational.specs.Grid.{Whole}
-use Rattle.upp_limits.specs.rational.specs.Extended.{Ext, ◌≤ₑ◌, ◌<ₑ◌}
-use Rattle.upp_limits.specs.rational.specs.declared.Extended.TheVariants.{Fin}
-use Rattle.upp_limits.specs.rational.proofs.Linear.{with2, with4}
-use Rattle.upp_limits.specs.rational.proofs.Laws.{antisym, le_refl, le_trans, le_of_lt, le_or_lt, lt_le_trans, le_lt_trans, lt_irrefl, lt_trans}
-use Rattle.upp_limits.specs.rational.proofs.Grid.{whole_int}
-use Rattle.upp_limits.specs.rational.proofs.Stretch.{rising_supremum}
-use Rattle.upp_limits.specs.rational.proofs.MinMax.{max_q_one, max_q_ge_left, max_q_ge_right}
-use Rattle.upp_limits.specs.rational.proofs.ExtendedOrder.{le_ext_trans, le_lt_ext, lt_le_ext}
-use Rattle.upp_limits.specs.upp_curve.specs.declared.affine_segment.line.Line.{Line}
-use Rattle.upp_limits.specs.upp_curve.specs.affine_segment.Values.{line_at}
-use Rattle.upp_limits.specs.min_plus.specs.Functions.{IsRising}
+use Rattle.rational.specs.Rational.{ℚ, ◌-ℚ◌, ◌*ℚ◌, ◌≤ℚ◌, ◌<ℚ◌, int}
+use Rattle.rational.specs.MinMax.{max_q}
+use Rattle.rational.specs.Whole.{whole_part}
+use Rattle.rational.specs.Grid.{Whole}
+use Rattle.rational.specs.Extended.{Ext, ◌≤ₑ◌, ◌<ₑ◌}
+use Rattle.rational.specs.declared.Extended.TheVariants.{Fin}
+use Rattle.rational.proofs.Linear.{with2, with4}
+use Rattle.rational.proofs.Laws.{antisym, le_refl, le_trans, le_of_lt, le_or_lt, lt_le_trans, le_lt_trans, lt_irrefl, lt_trans}
+use Rattle.rational.proofs.Grid.{whole_int}
+use Rattle.rational.proofs.Stretch.{rising_supremum}
+use Rattle.rational.proofs.MinMax.{max_q_one, max_q_ge_left, max_q_ge_right}
+use Rattle.rational.proofs.ExtendedOrder.{le_ext_trans, le_lt_ext, lt_le_ext}
+use Rattle.upp_curve.specs.declared.affine_segment.line.Line.{Line}
+use Rattle.upp_curve.specs.affine_segment.Values.{line_at}
+use Rattle.min_plus.specs.Functions.{IsRising}
 use Rattle.upp_limits.specs.Limits.{Sizes}
-use Rattle.curve_call.specs.upp_normal.specs.Ahead.{IsTimeIn}
+use Rattle.upp_normal.specs.Ahead.{IsTimeIn}
 use Rattle.curve_deviation.specs.declared.cells.Cell.{Cell}
 use Rattle.curve_deviation.specs.declared.walks.Walk.{Walk}
 use Rattle.curve_deviation.specs.Cells.{CellSizes, IsTimeTo, IsBehind, IsCellLag}
 use Rattle.curve_deviation.specs.Rises.{RisesOn, IsCellOf}
 use Rattle.curve_deviation.specs.Lags.{IsBehindAt, LagsBy, IsLongestLag}
 use Rattle.curve_call.proofs.GapWalk.{fewer_on_grid}
-use Rattle.upp_limits.specs.upp_curve.proofs.affine_segment.LineValues.{value_rises}
+use Rattle.upp_curve.proofs.affine_segment.LineValues.{value_rises}
 
 -- what holds on the way: the pairs of times that are looked at have no longer lag
 pub record IsWalked (z : Sizes) (f g : ℚ → Ext) (until end : ℚ) (w : Walk) : Type 0 where

@@ -1,29 +1,29 @@
 -- The gap over a window that reaches a period past the time from which on both curves repeat is the gap over all times.
 use Rattle.std.specs.Prelude.{◌≡◌, pos}
 use Rattle.std.proofs.Common.{arith, sym, ◌∙◌, subst, inl, inr}
-use Rattle.upp_limits.specs.rational.specs.Rational.{ℚ, ◌+ℚ◌, ◌-ℚ◌, ◌*ℚ◌, ◌≤ℚ◌, ◌<ℚ◌, int}
-use Rattle.upp_limits.specs.rational.specs.Whole.{periods}
-use Rattle.upp_limits.specs.rational.specs.Extended.{Ext, ◌≤ₑ◌, ◌<ₑ◌, ◌+ₑ◌, ◌-ₑ◌}
-use Rattle.upp_limits.specs.rational.specs.declared.Extended.TheVariants.{Fin, Inf}
-use Rattle.upp_limits.specs.rational.proofs.Linear.{with2, with3, with4}
-use Rattle.upp_limits.specs.rational.proofs.Laws.{le_or_lt, le_refl, le_trans, le_of_lt, le_of_not_lt, mul_le_mul, mul_le_mul_right, sub_add}
-use Rattle.upp_limits.specs.rational.proofs.Integers.{nat_nonneg}
-use Rattle.upp_limits.specs.rational.proofs.Whole.{periods_low, periods_high}
-use Rattle.upp_limits.specs.rational.proofs.Grid.{whole_int}
-use Rattle.upp_limits.specs.rational.proofs.ExtendedOrder.{add_le_ext, same_le_ext}
-use Rattle.upp_limits.specs.upp_curve.specs.Curve.{SpecCurve, value_at}
-use Rattle.upp_limits.specs.min_plus.specs.Functions.{IsFinite}
-use Rattle.upp_limits.specs.upp_curve.specs.Steady.{Repeats, rise_over, rate}
+use Rattle.rational.specs.Rational.{ℚ, ◌+ℚ◌, ◌-ℚ◌, ◌*ℚ◌, ◌≤ℚ◌, ◌<ℚ◌, int}
+use Rattle.rational.specs.Whole.{periods}
+use Rattle.rational.specs.Extended.{Ext, ◌≤ₑ◌, ◌<ₑ◌, ◌+ₑ◌, ◌-ₑ◌}
+use Rattle.rational.specs.declared.Extended.TheVariants.{Fin, Inf}
+use Rattle.rational.proofs.Linear.{with2, with3, with4}
+use Rattle.rational.proofs.Laws.{le_or_lt, le_refl, le_trans, le_of_lt, le_of_not_lt, mul_le_mul, mul_le_mul_right, sub_add}
+use Rattle.rational.proofs.Integers.{nat_nonneg}
+use Rattle.rational.proofs.Whole.{periods_low, periods_high}
+use Rattle.rational.proofs.Grid.{whole_int}
+use Rattle.rational.proofs.ExtendedOrder.{add_le_ext, same_le_ext}
+use Rattle.upp_curve.specs.Curve.{SpecCurve, value_at}
+use Rattle.min_plus.specs.Functions.{IsFinite}
+use Rattle.upp_curve.specs.Steady.{Repeats, rise_over, rate}
 use Rattle.upp_limits.specs.Limits.{Sizes}
-use Rattle.upp_limits.specs.min_plus.specs.Deviations.{IsVerticalDeviation}
-use Rattle.curve_call.specs.upp_normal.specs.Ahead.{HasWindow, IsTimeIn}
+use Rattle.min_plus.specs.Deviations.{IsVerticalDeviation}
+use Rattle.upp_normal.specs.Ahead.{HasWindow, IsTimeIn}
 use Rattle.curve_call.specs.Gaps.{InWindow, IsWithin, IsEndless, IsLargest}
 use Rattle.curve_call.specs.Compared.{RepeatsIn, AreCompared}
 use Rattle.curve_call.proofs.Shifts.{later_value}
 use Rattle.curve_call.proofs.RateRises.{rate_rise, infinite_value, from_low}
-use Rattle.curve_call.specs.upp_normal.proofs.UnrollSteps.{ext_cases}
+use Rattle.upp_normal.proofs.UnrollSteps.{ext_cases}
 use Rattle.curve_call.proofs.LeastNumber.{repeats_from, compared_window}
-use Rattle.upp_limits.specs.upp_curve.proofs.Rules.{swap_ext}
+use Rattle.upp_curve.proofs.Rules.{swap_ext}
 
 -- ---- later times add nothing
 

@@ -1,11 +1,11 @@
 -- Two rising lines, each over a stretch of time: how long the second lies behind the first. (The horizontal deviation
 -- of Le Boudec and Thiran, of two lines over part of the times.)
 use Rattle.std.specs.Prelude.{◌≡◌, pos, ◌⊎◌}
-use Rattle.upp_limits.specs.rational.specs.Rational.{ℚ, ◌-ℚ◌, ◌≤ℚ◌, ◌<ℚ◌, int}
-use Rattle.upp_limits.specs.rational.specs.Grid.{Whole}
-use Rattle.upp_limits.specs.upp_curve.specs.affine_segment.Values.{line_at}
+use Rattle.rational.specs.Rational.{ℚ, ◌-ℚ◌, ◌≤ℚ◌, ◌<ℚ◌, int}
+use Rattle.rational.specs.Grid.{Whole}
+use Rattle.upp_curve.specs.affine_segment.Values.{line_at}
 use Rattle.upp_limits.specs.Limits.{Sizes}
-use Rattle.curve_call.specs.upp_normal.specs.Operand.{AreLimited, OperandLine}
+use Rattle.upp_normal.specs.Operand.{AreLimited, OperandLine}
 use Rattle.curve_deviation.specs.declared.cells.Cell.{Cell}
 use Rattle.curve_deviation.specs.declared.cells.Levels.{Levels}
 

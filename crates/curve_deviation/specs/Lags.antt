@@ -2,8 +2,8 @@
 -- over all pairs of times of which the second function's value at the later one is still below the first function's
 -- at the earlier.)
 use Rattle.std.specs.Prelude.{pos, ◌⊎◌}
-use Rattle.upp_limits.specs.rational.specs.Rational.{ℚ, ◌-ℚ◌, ◌≤ℚ◌, ◌<ℚ◌, int}
-use Rattle.upp_limits.specs.rational.specs.Extended.{Ext, ◌<ₑ◌}
+use Rattle.rational.specs.Rational.{ℚ, ◌-ℚ◌, ◌≤ℚ◌, ◌<ℚ◌, int}
+use Rattle.rational.specs.Extended.{Ext, ◌<ₑ◌}
 
 -- at u g is still below what f was at s
 pub record IsBehindAt (f g : ℚ → Ext) (s u : ℚ) : Type 0 where

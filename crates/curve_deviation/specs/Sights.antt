@@ -1,7 +1,7 @@
 -- What a walk over two rising curves sees from where it stands: a stretch of each. Own choice.
 use Rattle.std.specs.Prelude.{◌≡◌, ◌⊎◌}
-use Rattle.upp_limits.specs.rational.specs.Rational.{ℚ, ◌<ℚ◌}
-use Rattle.upp_limits.specs.rational.specs.Extended.{Ext}
+use Rattle.rational.specs.Rational.{ℚ, ◌<ℚ◌}
+use Rattle.rational.specs.Extended.{Ext}
 use Rattle.upp_limits.specs.Limits.{Sizes}
 use Rattle.curve_deviation.specs.declared.cells.Cell.{Cell}
 use Rattle.curve_deviation.specs.declared.cells.Levels.{Levels}

@@ -1,12 +1,12 @@
 -- The two numbers of periods of a horizontal deviation, and how they are looked for. Own choice.
 use Rattle.std.specs.Prelude.{◌≡◌, ℕ, suc, ◌<◌, ◌≤◌, ◌^◌, ◌⊎◌}
-use Rattle.upp_limits.specs.rational.specs.Rational.{ℚ}
-use Rattle.upp_limits.specs.rational.specs.Extended.{◌≤ₑ◌, ◌<ₑ◌}
-use Rattle.upp_limits.specs.rational.specs.declared.Extended.TheVariants.{Fin}
+use Rattle.rational.specs.Rational.{ℚ}
+use Rattle.rational.specs.Extended.{◌≤ₑ◌, ◌<ₑ◌}
+use Rattle.rational.specs.declared.Extended.TheVariants.{Fin}
 use Rattle.upp_limits.specs.declared.op_kind.OpKind.TheVariants.{Horizontal}
-use Rattle.upp_limits.specs.upp_curve.specs.Curve.{SpecCurve, value_at}
-use Rattle.upp_limits.specs.min_plus.specs.Functions.{IsFinite, IsRising}
-use Rattle.upp_limits.specs.upp_curve.specs.Steady.{steady}
+use Rattle.upp_curve.specs.Curve.{SpecCurve, value_at}
+use Rattle.min_plus.specs.Functions.{IsFinite, IsRising}
+use Rattle.upp_curve.specs.Steady.{steady}
 use Rattle.upp_limits.specs.Periods.{common_period, periods_after}
 use Rattle.upp_limits.specs.Windows.{IsLeastPeriods, Reaches, Meets as KindMeets}
 use Rattle.upp_limits.specs.Gauges.{gauge_at}

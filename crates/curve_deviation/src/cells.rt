@@ -1,16 +1,16 @@
 //! How long one line lies behind another over a stretch of each.
 
 ghost use Rattle.std.specs.Prelude.{◌≡◌, ◌≢◌, ◌↔◌, IsTrue, pos};
-ghost use Rattle.upp_limits.specs.rational.specs.Rational.{ℚ, int, ◌-ℚ◌, ◌*ℚ◌, ◌/ℚ◌, ◌<ℚ◌, ◌≤ℚ◌, neg_ℚ};
-ghost use Rattle.upp_limits.specs.rational.specs.Ratio.{IsSmall, SumFits};
-ghost use Rattle.upp_limits.specs.upp_curve.specs.affine_segment.Values.{line_at};
-ghost use Rattle.upp_limits.specs.upp_curve.specs.affine_segment.Fits.{LineFits};
+ghost use Rattle.rational.specs.Rational.{ℚ, int, ◌-ℚ◌, ◌*ℚ◌, ◌/ℚ◌, ◌<ℚ◌, ◌≤ℚ◌, neg_ℚ};
+ghost use Rattle.rational.specs.Ratio.{IsSmall, SumFits};
+ghost use Rattle.upp_curve.specs.affine_segment.Values.{line_at};
+ghost use Rattle.upp_curve.specs.affine_segment.Fits.{LineFits};
 ghost use Rattle.upp_limits.specs.Limits.{Sizes};
 ghost use Rattle.upp_limits.specs.Sized.{IsSlope};
 ghost use Rattle.curve_deviation.specs.Cells.{RisingCell, CellSizes, AreLevels, IsTimeTo, IsCellLag};
 
-use upp_limits::fraction128::{Frac, difference, is_less, quotient};
-use upp_limits::upp_curve::affine_segment::{Line, line_at};
+use fraction128::{Frac, difference, is_less, quotient};
+use upp_curve::affine_segment::{Line, line_at};
 
 /// Two lines, each over its stretch.
 #[derive(Debug, Clone, Copy)]

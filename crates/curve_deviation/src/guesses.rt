@@ -1,14 +1,14 @@
 //! The numbers of periods of a horizontal deviation, by a division each and one more where the second curve repeats late:
 //! what they are is only held to be likely here, and looked at afterwards.
 
-ghost use Rattle.upp_limits.specs.rational.specs.Rational.{ℚ, int};
+ghost use Rattle.rational.specs.Rational.{ℚ, int};
 
-use curve_call::upp_normal::steady_time;
 use curve_call::{CallWindow, call_window};
-use upp_limits::fraction128::{Frac, is_less};
-use upp_limits::rational::Extended;
-use upp_limits::upp_curve::Curve;
+use fraction128::{Frac, is_less};
+use rational::Extended;
+use upp_curve::Curve;
 use upp_limits::{OpKind, is_level};
+use upp_normal::steady_time;
 
 /// After how many periods the first curve has settled, and after how many more the second has reached it.
 #[derive(Clone, Copy)]

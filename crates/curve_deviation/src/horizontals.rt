@@ -1,13 +1,13 @@
 //! The horizontal deviation of two curves.
 
 ghost use Rattle.std.specs.Prelude.{ℕ, ◌≡◌, ◌+◌, ◌<◌, ◌≤◌, ◌^◌, IfOk, IfErr, IfSome, IsSome, IsTrue, MatchOption};
-ghost use Rattle.upp_limits.specs.rational.specs.Rational.{ℚ, ◌<ℚ◌};
-ghost use Rattle.upp_limits.specs.upp_curve.specs.Curve.{value_at};
-ghost use Rattle.upp_limits.specs.min_plus.specs.Functions.{IsFinite, IsRising};
-ghost use Rattle.upp_limits.specs.upp_curve.specs.Steady.{steady};
+ghost use Rattle.rational.specs.Rational.{ℚ, ◌<ℚ◌};
+ghost use Rattle.upp_curve.specs.Curve.{value_at};
+ghost use Rattle.min_plus.specs.Functions.{IsFinite, IsRising};
+ghost use Rattle.upp_curve.specs.Steady.{steady};
 ghost use Rattle.upp_limits.specs.Limits.{Sizes};
 ghost use Rattle.upp_limits.specs.Gauges.{IsKnownAtOnce, gauge_at};
-ghost use Rattle.upp_limits.specs.min_plus.specs.Deviations.{IsHorizontalDeviation};
+ghost use Rattle.min_plus.specs.Deviations.{IsHorizontalDeviation};
 ghost use Rattle.upp_limits.specs.Outcome.{KeepsLimits};
 ghost use Rattle.curve_call.specs.Frames.{IsFrame};
 ghost use Rattle.curve_deviation.specs.Parts.{IsFiniteInSizes};
@@ -17,14 +17,14 @@ use crate::guesses::{Guess, likely_numbers};
 use crate::known::is_known;
 use crate::search::{Stage, has_left, is_below, known_window, least_past, narrow_window, value_in};
 use crate::walks::longest_lag;
-use curve_call::upp_normal::steady_time;
 use curve_call::{CallWindow, Frame, within_both};
+use fraction128::{Ext, Frac, difference};
 use outcomes::Steps;
+use rational::Extended;
 use std::sync::ledger::Ledger;
-use upp_limits::fraction128::{Ext, Frac, difference};
-use upp_limits::rational::Extended;
-use upp_limits::upp_curve::Curve;
+use upp_curve::Curve;
 use upp_limits::{OpFault, OpKind, is_level};
+use upp_normal::steady_time;
 
 /// A time and the first curve's value there.
 #[derive(Clone, Copy)]

@@ -1,16 +1,16 @@
 //! Horizontal deviations that are known to be infinite by what is infinite, by the rates, or by the levels at the end.
 
 ghost use Rattle.std.specs.Prelude.{◌≡◌, ◌↔◌, pos, IsTrue};
-ghost use Rattle.upp_limits.specs.rational.specs.Rational.{int, ◌<ℚ◌};
-ghost use Rattle.upp_limits.specs.upp_curve.specs.Curve.{value_at};
-ghost use Rattle.upp_limits.specs.upp_curve.specs.Curves.{IsCurve};
-ghost use Rattle.upp_limits.specs.min_plus.specs.Functions.{IsFinite, IsRising};
-ghost use Rattle.upp_limits.specs.upp_curve.specs.Steady.{rate, last_line};
+ghost use Rattle.rational.specs.Rational.{int, ◌<ℚ◌};
+ghost use Rattle.upp_curve.specs.Curve.{value_at};
+ghost use Rattle.upp_curve.specs.Curves.{IsCurve};
+ghost use Rattle.min_plus.specs.Functions.{IsFinite, IsRising};
+ghost use Rattle.upp_curve.specs.Steady.{rate, last_line};
 ghost use Rattle.upp_limits.specs.Levels.{icept_of, level_of, IsLevelAbove};
 ghost use Rattle.upp_limits.specs.Gauges.{EndsAbove, IsKnownAtOnce};
 
 use crate::verticals::{is_faster, is_number};
-use upp_limits::upp_curve::Curve;
+use upp_curve::Curve;
 use upp_limits::{OpKind, is_level, is_level_above};
 
 /// Whether both have rate 0 and f ends above g.

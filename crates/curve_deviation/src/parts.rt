@@ -1,25 +1,25 @@
 //! How a curve goes on from a time, up to the end of a window that may end before all its pieces have started.
 
 ghost use Rattle.std.specs.Prelude.{◌≡◌, pos, List, ◌∷◌, Some, None};
-ghost use Rattle.upp_limits.specs.rational.specs.Rational.{ℚ, int, ◌+ℚ◌, ◌≤ℚ◌, ◌<ℚ◌, le_q};
-ghost use Rattle.upp_limits.specs.rational.specs.MinMax.{min_q};
-ghost use Rattle.upp_limits.specs.rational.specs.Ratio.{SumFits};
-ghost use Rattle.upp_limits.specs.upp_curve.specs.affine_segment.Values.{line_value};
-ghost use Rattle.upp_limits.specs.upp_curve.specs.affine_segment.Reading.{piece_in, piece_value, read, next_in, line_in};
-ghost use Rattle.upp_limits.specs.upp_curve.specs.affine_segment.Pieces.{StartsAtZero};
-ghost use Rattle.upp_limits.specs.upp_curve.specs.Curve.{value_at};
-ghost use Rattle.upp_limits.specs.upp_curve.specs.Curves.{IsCurve};
-ghost use Rattle.upp_limits.specs.upp_curve.specs.affine_segment.Fits.{LineFitsAt, ReadFits};
+ghost use Rattle.rational.specs.Rational.{ℚ, int, ◌+ℚ◌, ◌≤ℚ◌, ◌<ℚ◌, le_q};
+ghost use Rattle.rational.specs.MinMax.{min_q};
+ghost use Rattle.rational.specs.Ratio.{SumFits};
+ghost use Rattle.upp_curve.specs.affine_segment.Values.{line_value};
+ghost use Rattle.upp_curve.specs.affine_segment.Reading.{piece_in, piece_value, read, next_in, line_in};
+ghost use Rattle.upp_curve.specs.affine_segment.Pieces.{StartsAtZero};
+ghost use Rattle.upp_curve.specs.Curve.{value_at};
+ghost use Rattle.upp_curve.specs.Curves.{IsCurve};
+ghost use Rattle.upp_curve.specs.affine_segment.Fits.{LineFitsAt, ReadFits};
 ghost use Rattle.upp_limits.specs.Limits.{Sizes};
-ghost use Rattle.curve_call.specs.upp_normal.specs.Ahead.{IsOverBy, IsTimeIn};
+ghost use Rattle.upp_normal.specs.Ahead.{IsOverBy, IsTimeIn};
 ghost use Rattle.curve_deviation.specs.Parts.{IsFiniteInSizes, GoesTo, PartStands, IsKeptUntil};
 ghost use Rattle.curve_call.specs.GapSteps.{earlier_of};
 
 use curve_call::earlier;
-use curve_call::upp_normal::stretch_at;
-use upp_limits::fraction128::{Ext, Frac, is_less, lesser, sum};
-use upp_limits::upp_curve::affine_segment::{Line, Piece, next_start, piece_at, piece_value};
-use upp_limits::upp_curve::{Curve, Tail};
+use fraction128::{Ext, Frac, is_less, lesser, sum};
+use upp_curve::affine_segment::{Line, Piece, next_start, piece_at, piece_value};
+use upp_curve::{Curve, Tail};
+use upp_normal::stretch_at;
 
 /// How a curve goes on from a time of a window.
 #[derive(Debug, Clone, Copy)]

@@ -2,21 +2,21 @@
 //! second begins to repeat, and after how many more the second has reached the first.
 
 ghost use Rattle.std.specs.Prelude.{ℕ, ◌≡◌, ◌-◌, ◌<◌, ◌≤◌, ◌^◌, IsTrue, MatchOption};
-ghost use Rattle.upp_limits.specs.rational.specs.Rational.{◌-ℚ◌, neg_ℚ};
-ghost use Rattle.upp_limits.specs.rational.specs.Ratio.{SumFits};
-ghost use Rattle.upp_limits.specs.upp_curve.specs.Curve.{value_at};
-ghost use Rattle.upp_limits.specs.upp_curve.specs.Curves.{IsCurve};
+ghost use Rattle.rational.specs.Rational.{◌-ℚ◌, neg_ℚ};
+ghost use Rattle.rational.specs.Ratio.{SumFits};
+ghost use Rattle.upp_curve.specs.Curve.{value_at};
+ghost use Rattle.upp_curve.specs.Curves.{IsCurve};
 ghost use Rattle.upp_limits.specs.Limits.{Sizes};
-ghost use Rattle.curve_call.specs.upp_normal.specs.Ahead.{IsTimeIn};
+ghost use Rattle.upp_normal.specs.Ahead.{IsTimeIn};
 ghost use Rattle.upp_limits.specs.Gauges.{gauge_at};
 ghost use Rattle.curve_deviation.specs.Parts.{IsFiniteInSizes};
 ghost use Rattle.curve_deviation.specs.Stages.{IsNarrowWindow, AreFinite, HasLeft, HasReached, Meets, stage_gauge, IsBefore, IsPast};
 
 use crate::parts::part_at;
 use curve_call::{CallWindow, call_window};
-use upp_limits::fraction128::{Frac, difference, is_less};
-use upp_limits::rational::Extended;
-use upp_limits::upp_curve::Curve;
+use fraction128::{Frac, difference, is_less};
+use rational::Extended;
+use upp_curve::Curve;
 use upp_limits::{OpKind, call_numbers};
 
 /// What is looked for.

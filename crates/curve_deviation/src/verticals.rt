@@ -1,25 +1,25 @@
 //! The vertical deviation of two curves.
 
 ghost use Rattle.std.specs.Prelude.{◌≡◌, ◌↔◌, ◌+◌, IfOk, IfErr, IsTrue};
-ghost use Rattle.upp_limits.specs.rational.specs.Rational.{◌+ℚ◌};
-ghost use Rattle.upp_limits.specs.rational.specs.Ratio.{SumFits};
-ghost use Rattle.upp_limits.specs.rational.specs.Extended.{◌<ₑ◌};
-ghost use Rattle.upp_limits.specs.upp_curve.specs.Curve.{value_at};
-ghost use Rattle.upp_limits.specs.min_plus.specs.Functions.{IsFinite};
-ghost use Rattle.upp_limits.specs.upp_curve.specs.Steady.{rate};
+ghost use Rattle.rational.specs.Rational.{◌+ℚ◌};
+ghost use Rattle.rational.specs.Ratio.{SumFits};
+ghost use Rattle.rational.specs.Extended.{◌<ₑ◌};
+ghost use Rattle.upp_curve.specs.Curve.{value_at};
+ghost use Rattle.min_plus.specs.Functions.{IsFinite};
+ghost use Rattle.upp_curve.specs.Steady.{rate};
 ghost use Rattle.upp_limits.specs.Limits.{Sizes};
-ghost use Rattle.upp_limits.specs.min_plus.specs.Deviations.{IsVerticalDeviation};
-ghost use Rattle.upp_limits.specs.upp_curve.specs.Curves.{IsCurve};
+ghost use Rattle.min_plus.specs.Deviations.{IsVerticalDeviation};
+ghost use Rattle.upp_curve.specs.Curves.{IsCurve};
 ghost use Rattle.upp_limits.specs.Outcome.{KeepsLimits};
 ghost use Rattle.curve_call.specs.Frames.{IsFrame};
 ghost use Rattle.curve_call.specs.Compared.{AreCompared};
 
 use curve_call::{Frame, Gap, Side, is_slower, window_gap, within};
+use fraction128::{Ext, Frac, sum};
 use outcomes::Steps;
+use rational::Extended;
 use std::sync::ledger::Ledger;
-use upp_limits::fraction128::{Ext, Frac, sum};
-use upp_limits::rational::Extended;
-use upp_limits::upp_curve::Curve;
+use upp_curve::Curve;
 use upp_limits::{OpFault, OpKind};
 
 /// The vertical deviation of two finite curves, the first no faster than the second: the supremum of their difference

@@ -1,15 +1,15 @@
 //! The longest lag of one curve behind another, by one walk over the stretches of both.
 
 ghost use Rattle.std.specs.Prelude.{◌≡◌, pos, Some};
-ghost use Rattle.upp_limits.specs.rational.specs.Rational.{ℚ, int, ◌≤ℚ◌, ◌<ℚ◌};
-ghost use Rattle.upp_limits.specs.rational.specs.MinMax.{max_q};
-ghost use Rattle.upp_limits.specs.rational.specs.Extended.{◌≤ₑ◌};
-ghost use Rattle.upp_limits.specs.upp_curve.specs.affine_segment.Values.{line_at};
-ghost use Rattle.upp_limits.specs.upp_curve.specs.Curve.{value_at};
-ghost use Rattle.upp_limits.specs.min_plus.specs.Functions.{IsRising};
+ghost use Rattle.rational.specs.Rational.{ℚ, int, ◌≤ℚ◌, ◌<ℚ◌};
+ghost use Rattle.rational.specs.MinMax.{max_q};
+ghost use Rattle.rational.specs.Extended.{◌≤ₑ◌};
+ghost use Rattle.upp_curve.specs.affine_segment.Values.{line_at};
+ghost use Rattle.upp_curve.specs.Curve.{value_at};
+ghost use Rattle.min_plus.specs.Functions.{IsRising};
 ghost use Rattle.upp_limits.specs.Limits.{Sizes};
-ghost use Rattle.upp_limits.specs.upp_curve.specs.Shapes.{IsLine};
-ghost use Rattle.curve_call.specs.upp_normal.specs.Ahead.{IsTimeIn};
+ghost use Rattle.upp_curve.specs.Shapes.{IsLine};
+ghost use Rattle.upp_normal.specs.Ahead.{IsTimeIn};
 ghost use Rattle.curve_deviation.specs.Cells.{RisingCell, CellSizes, AreLevels, IsTimeTo, IsCellLag};
 ghost use Rattle.curve_deviation.specs.Parts.{IsFiniteInSizes};
 ghost use Rattle.curve_deviation.specs.Rises.{IsRiseFrom, RiseSizes};
@@ -18,9 +18,9 @@ ghost use Rattle.curve_deviation.specs.Sights.{cell_in, levels_in, HasPassed, Se
 
 use crate::cells::{Cell, Levels, cell_lag};
 use crate::parts::{Part, part_at};
-use upp_limits::fraction128::{Frac, greater, is_less, lesser};
-use upp_limits::upp_curve::Curve;
-use upp_limits::upp_curve::affine_segment::{Line, line_at};
+use fraction128::{Frac, greater, is_less, lesser};
+use upp_curve::Curve;
+use upp_curve::affine_segment::{Line, line_at};
 
 /// Where the walk stands: all times of the first curve before `time` have been looked at, and all of the second up to
 /// `reached`.

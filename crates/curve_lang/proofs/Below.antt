@@ -1,16 +1,16 @@
 -- Whether a curve is nowhere below another, by a call on both.
 use Rattle.std.specs.Prelude.{◌≡◌, ◌↔◌}
 use Rattle.std.proofs.Common.{arith, sym, subst, ◌∙◌, inl, inr}
-use Rattle.upp_limits.specs.rational.specs.Rational.{ℚ, ◌≤ℚ◌}
-use Rattle.upp_limits.specs.rational.specs.Extended.{Ext, ◌≤ₑ◌, ◌<ₑ◌, ◌-ₑ◌}
-use Rattle.upp_limits.specs.rational.specs.declared.Extended.TheVariants.{Fin}
-use Rattle.upp_limits.specs.rational.proofs.Linear.{with1}
-use Rattle.upp_limits.specs.rational.proofs.Bounds.{smallest}
-use Rattle.upp_limits.specs.rational.proofs.ExtendedOrder.{le_ext_trans, le_or_lt_ext, lt_ext_not_le, min_right, min_ext_of_le}
-use Rattle.upp_limits.specs.min_plus.specs.Functions.{zero_q, IsFinite, IsNonnegative, FiniteTime}
-use Rattle.upp_limits.specs.min_plus.specs.Pointwise.{IsMinimum}
-use Rattle.upp_limits.specs.min_plus.specs.Deviations.{IsVerticalDeviation}
-use Rattle.upp_limits.specs.upp_curve.specs.Curve.{SpecCurve, value_at, HasSameValues}
+use Rattle.rational.specs.Rational.{ℚ, ◌≤ℚ◌}
+use Rattle.rational.specs.Extended.{Ext, ◌≤ₑ◌, ◌<ₑ◌, ◌-ₑ◌}
+use Rattle.rational.specs.declared.Extended.TheVariants.{Fin}
+use Rattle.rational.proofs.Linear.{with1}
+use Rattle.rational.proofs.Bounds.{smallest}
+use Rattle.rational.proofs.ExtendedOrder.{le_ext_trans, le_or_lt_ext, lt_ext_not_le, min_right, min_ext_of_le}
+use Rattle.min_plus.specs.Functions.{zero_q, IsFinite, IsNonnegative, FiniteTime}
+use Rattle.min_plus.specs.Pointwise.{IsMinimum}
+use Rattle.min_plus.specs.Deviations.{IsVerticalDeviation}
+use Rattle.upp_curve.specs.Curve.{SpecCurve, value_at, HasSameValues}
 use Rattle.curve_lang.specs.Meaning.{FromZero}
 use Rattle.curve_lang.specs.Finding.{zero_curve}
 use Rattle.curve_lang.proofs.Meant.{zero_value}

@@ -2,7 +2,7 @@
 use Rattle.std.specs.Prelude.{◌≡◌, ℕ, Result, Ok}
 use Rattle.std.proofs.Common.{inl, inr}
 use Rattle.input_texts.specs.declared.curve_script.fault.LangKind.{LangKind}
-use Rattle.upp_limits.specs.upp_curve.specs.Curve.{SpecCurve}
+use Rattle.upp_curve.specs.Curve.{SpecCurve}
 use Rattle.curve_lang.specs.Finding.{Then, goes_on, stops, Gives, Guarded, BucketFinds}
 
 -- both found something

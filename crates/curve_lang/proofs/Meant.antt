@@ -2,14 +2,14 @@
 use Rattle.std.specs.Prelude.{◌≡◌, ℕ, List, [], ◌∷◌, Option, Some, None, option_map, cond, Bool, true, false, Ok}
 use Rattle.std.specs.Str.{bytes_eq}
 use Rattle.std.proofs.Common.{refl, sym, ap, subst, ◌∙◌, inl, inr}
-use Rattle.upp_limits.specs.rational.specs.Rational.{ℚ, ◌+ℚ◌, ◌≤ℚ◌, ◌<ℚ◌}
-use Rattle.upp_limits.specs.rational.specs.declared.Extended.TheVariants.{Fin}
-use Rattle.upp_limits.specs.rational.proofs.Integers.{nat_nonneg}
-use Rattle.upp_limits.specs.rational.proofs.Laws.{le_of_not_lt, lt_of_not_le, not_le_of_lt, antisym, zero_mul, add_zero}
-use Rattle.upp_limits.specs.min_plus.specs.Functions.{zero_q, IsFinite, IsNonnegative}
-use Rattle.upp_limits.specs.upp_curve.specs.Curve.{SpecCurve, value_at}
-use Rattle.upp_limits.specs.upp_curve.specs.Kinds.{bucket}
-use Rattle.upp_limits.specs.upp_curve.proofs.KindsAre.{kinds_have_their_values}
+use Rattle.rational.specs.Rational.{ℚ, ◌+ℚ◌, ◌≤ℚ◌, ◌<ℚ◌}
+use Rattle.rational.specs.declared.Extended.TheVariants.{Fin}
+use Rattle.rational.proofs.Integers.{nat_nonneg}
+use Rattle.rational.proofs.Laws.{le_of_not_lt, lt_of_not_le, not_le_of_lt, antisym, zero_mul, add_zero}
+use Rattle.min_plus.specs.Functions.{zero_q, IsFinite, IsNonnegative}
+use Rattle.upp_curve.specs.Curve.{SpecCurve, value_at}
+use Rattle.upp_curve.specs.Kinds.{bucket}
+use Rattle.upp_curve.proofs.KindsAre.{kinds_have_their_values}
 use Rattle.input_texts.specs.declared.curve_script.keyword.NumberPair.{NumberPair}
 use Rattle.input_texts.specs.declared.curve_script.keyword.NumberPair.TheVariants.{Bucket, Latency}
 use Rattle.input_texts.specs.declared.curve_script.keyword.NumberTriple.{NumberTriple}

@@ -2,11 +2,11 @@
 use Rattle.std.specs.Prelude.{◌≡◌, ℕ, List, [], ◌∷◌, ◌++◌, Option, Some, option_map, cond, Bool, true, false, Ok}
 use Rattle.std.specs.Str.{bytes_eq}
 use Rattle.std.proofs.Common.{sym, subst, inl, inr}
-use Rattle.upp_limits.specs.rational.specs.Rational.{ℚ}
-use Rattle.upp_limits.specs.rational.proofs.Laws.{le_of_not_lt}
-use Rattle.upp_limits.specs.upp_curve.specs.Curve.{SpecCurve}
-use Rattle.upp_limits.specs.upp_curve.specs.Normal.{IsNormal}
-use Rattle.upp_limits.specs.upp_curve.proofs.KindsAre.{kinds_are_normal}
+use Rattle.rational.specs.Rational.{ℚ}
+use Rattle.rational.proofs.Laws.{le_of_not_lt}
+use Rattle.upp_curve.specs.Curve.{SpecCurve}
+use Rattle.upp_curve.specs.Normal.{IsNormal}
+use Rattle.upp_curve.proofs.KindsAre.{kinds_are_normal}
 use Rattle.input_texts.specs.declared.curve_script.keyword.NumberPair.{NumberPair}
 use Rattle.input_texts.specs.declared.curve_script.keyword.NumberPair.TheVariants.{Bucket, Latency}
 use Rattle.input_texts.specs.declared.curve_script.keyword.NumberTriple.{NumberTriple}
@@ -14,8 +14,8 @@ use Rattle.input_texts.specs.declared.curve_script.keyword.NumberTriple.TheVaria
 use Rattle.input_texts.specs.declared.curve_script.keyword.CurveOperator.{CurveOperator}
 use Rattle.input_texts.specs.declared.curve_script.keyword.CurveOperator.TheVariants.{Close, RunSup, RunInf}
 use Rattle.input_texts.specs.curve_script.Grammar.{Expression, Named, Nought, OfPair, OfTriple, OnCurve, OnNumber, OnTwo}
-use Rattle.upp_limits.specs.min_plus.specs.Functions.{zero_q}
-use Rattle.upp_limits.specs.upp_curve.specs.Kinds.{bucket}
+use Rattle.min_plus.specs.Functions.{zero_q}
+use Rattle.upp_curve.specs.Kinds.{bucket}
 use Rattle.curve_library.specs.Causes.{OneNegative}
 use Rattle.curve_lang.specs.Meaning.{call_with, call_of_two}
 use Rattle.curve_lang.specs.Finding.{Once, PairFinds, TripleFinds, OneFinds, CurveFinds, MayCall, MayCallWith, zero_curve}

@@ -1,13 +1,13 @@
 -- Want of memory apart, one thing is found at most.
 use Rattle.std.specs.Prelude.{◌≡◌, ◌≢◌, ◌⊎◌, ◌↔◌, IsTrue, ℕ, ◌<◌, ◌≤◌, ◌^◌, List, [], ◌∷◌, ◌++◌, Bool, true, false, Option, Some, None, Result, Ok, Err}
 use Rattle.std.proofs.Common.{arith, refl, sym, ap, subst, ◌∙◌, inl, inr, true≢false}
-use Rattle.upp_limits.specs.rational.specs.Rational.{ℚ, ◌≤ℚ◌}
-use Rattle.upp_limits.specs.rational.specs.Extended.{Ext, ◌≤ₑ◌}
-use Rattle.upp_limits.specs.min_plus.specs.Functions.{zero_q, IsFinite, IsNonnegative}
-use Rattle.upp_limits.specs.min_plus.specs.Deviations.{IsVerticalDeviation}
-use Rattle.upp_limits.specs.min_plus.proofs.Unambiguous.{deviations_are_unique}
-use Rattle.upp_limits.specs.upp_curve.specs.Curve.{SpecCurve, value_at, HasSameValues}
-use Rattle.upp_limits.specs.upp_curve.specs.Kinds.{bucket, rate_latency, stair, gate}
+use Rattle.rational.specs.Rational.{ℚ, ◌≤ℚ◌}
+use Rattle.rational.specs.Extended.{Ext, ◌≤ₑ◌}
+use Rattle.min_plus.specs.Functions.{zero_q, IsFinite, IsNonnegative}
+use Rattle.min_plus.specs.Deviations.{IsVerticalDeviation}
+use Rattle.min_plus.proofs.Unambiguous.{deviations_are_unique}
+use Rattle.upp_curve.specs.Curve.{SpecCurve, value_at, HasSameValues}
+use Rattle.upp_curve.specs.Kinds.{bucket, rate_latency, stair, gate}
 use Rattle.upp_limits.specs.declared.op_kind.OpKind.{OpKind}
 use Rattle.upp_limits.specs.declared.op_kind.OpKind.TheVariants as calls
 use Rattle.upp_limits.specs.declared.op_kind.OpFault.{OpFault}
@@ -16,8 +16,8 @@ use Rattle.upp_limits.specs.declared.own_limits.OverLimit.TheVariants as limits
 use Rattle.upp_limits.specs.Outcome.{IsWithin}
 use Rattle.upp_limits.specs.Gauges.{IsTooMany, IsTooWide}
 use Rattle.upp_limits.specs.OwnLimits.{IsOver, IsWithinOwn}
-use Rattle.plain_operators.specs.curve_call.specs.Answers.{IsMadeBy}
-use Rattle.plain_operators.specs.curve_call.proofs.InTurn.{applies_determined}
+use Rattle.curve_call.specs.Answers.{IsMadeBy}
+use Rattle.curve_call.proofs.InTurn.{applies_determined}
 use Rattle.subadd_closure.specs.Folds.{CloseAnswer}
 use Rattle.subadd_closure.proofs.OneFold.{close_once}
 use Rattle.curve_library.specs.Causes.{OneNegative}

@@ -3,9 +3,9 @@ use Rattle.std.specs.Prelude.{◌≡◌, ℕ, suc, ◌<◌, ◌≤◌, pos, ◌*
 use Rattle.std.proofs.Common.{arith, sym, subst}
 use Rattle.std.proofs.lemmas.Int.{ints}
 use native.Mathlib.Nat.{le_of_dvd}
-use Rattle.upp_limits.specs.rational.specs.Rational.{int, den}
-use Rattle.upp_limits.specs.rational.proofs.Grid.{whole_int, whole_divides}
-use Rattle.upp_limits.specs.rational.specs.Fractions.{frac_self, frac-same_out}
+use Rattle.rational.specs.Rational.{int, den}
+use Rattle.rational.proofs.Grid.{whole_int, whole_divides}
+use Rattle.rational.specs.Fractions.{frac_self, frac-same_out}
 
 pub den_whole : (n : ℕ) → den (int (pos n)) ≡ 1
 den_whole n = let l : den (int (pos n)) ≤ 1 = le_of_dvd (some) (whole_divides 1 (int (pos n)) (whole_int 1 (pos n))) in omega (arith, l)

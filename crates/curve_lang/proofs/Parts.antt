@@ -1,8 +1,8 @@
 -- An operator after its parts.
 use Rattle.std.specs.Prelude.{◌≡◌, ◌<◌, ℕ, Result, Ok, Err}
 use Rattle.std.proofs.Common.{arith, sym, ap, subst}
-use Rattle.upp_limits.specs.rational.specs.Rational.{ℚ}
-use Rattle.upp_limits.specs.upp_curve.specs.Curve.{SpecCurve}
+use Rattle.rational.specs.Rational.{ℚ}
+use Rattle.upp_curve.specs.Curve.{SpecCurve}
 use Rattle.input_texts.specs.declared.curve_script.keyword.CurveOperator.{CurveOperator}
 use Rattle.input_texts.specs.declared.curve_script.keyword.NumberOperator.{NumberOperator}
 use Rattle.input_texts.specs.declared.curve_script.keyword.PairOperator.{PairOperator}

@@ -1,8 +1,8 @@
 -- Statement after statement: what a script finds, from what each statement adds.
 use Rattle.std.specs.Prelude.{◌≡◌, ℕ, ◌≤◌, length, List, [], ◌∷◌, ◌++◌, map, Option, Some, None, Result, Ok, Err, is_some, false}
 use Rattle.std.proofs.Common.{refl, sym, ap, subst, inl, inr, drop, drop_of_length-le}
-use Rattle.upp_limits.specs.rational.specs.Rational.{ℚ}
-use Rattle.upp_limits.specs.upp_curve.specs.Curve.{SpecCurve}
+use Rattle.rational.specs.Rational.{ℚ}
+use Rattle.upp_curve.specs.Curve.{SpecCurve}
 use Rattle.input_texts.specs.declared.curve_script.fault.LangKind.{LangKind}
 use Rattle.input_texts.specs.declared.curve_script.fault.LangKind.TheVariants.{NoMemory}
 use Rattle.input_texts.specs.curve_script.Grammar.{Expression, Statement, Lets}

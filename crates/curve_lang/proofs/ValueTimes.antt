@@ -2,24 +2,24 @@
 use Rattle.std.specs.Prelude.{◌≡◌, ℕ, ◌*◌, ◌<◌, ◌≤◌, ◌^◌, pos, List, ◌∷◌, IsTrue, false, Option, Some, None, IsSome}
 use Rattle.std.proofs.Common.{arith, sym, ap, ◌∙◌, true≢false}
 use native.Mathlib.Nat.{le_of_dvd, mul-le-mul}
-use Rattle.upp_limits.specs.rational.specs.Rational.{ℚ, ◌+ℚ◌, ◌-ℚ◌, ◌≤ℚ◌, ◌<ℚ◌, int, neg_ℚ}
-use Rattle.upp_limits.specs.rational.specs.Grid.{Whole}
-use Rattle.upp_limits.specs.rational.specs.Gauge.{common_den}
-use Rattle.upp_limits.specs.rational.specs.Ratio.{SumFits}
-use Rattle.upp_limits.specs.rational.specs.Extended.{◌+ₑ◌}
-use Rattle.upp_limits.specs.rational.specs.declared.Extended.TheVariants.{Fin}
-use Rattle.upp_limits.specs.rational.proofs.Linear.{with3}
-use Rattle.upp_limits.specs.rational.proofs.Laws.{le_trans, le_of_lt, lt_le_trans, one_mul, sub_add}
-use Rattle.upp_limits.specs.rational.proofs.Grid.{whole_add, whole_sub}
-use Rattle.upp_limits.specs.rational.proofs.MinMax.{max_q_ge_left, max_q_ge_right}
-use Rattle.upp_limits.specs.min_plus.specs.Functions.{zero_q}
-use Rattle.upp_limits.specs.upp_curve.specs.declared.curve.Tail.{Tail}
-use Rattle.upp_limits.specs.upp_curve.specs.declared.curve.Tail.TheVariants.{Periodic, Affine, Infinite}
-use Rattle.upp_limits.specs.upp_curve.specs.declared.affine_segment.line.Piece.{Piece}
-use Rattle.upp_limits.specs.upp_curve.specs.Curve.{SpecCurve, value_at}
-use Rattle.upp_limits.specs.upp_curve.specs.Curves.{IsCurve}
-use Rattle.upp_limits.specs.upp_curve.specs.Steady.{steady, rise_over, IsWholePeriods}
-use Rattle.upp_limits.specs.upp_curve.proofs.Steady.{steady_rule}
+use Rattle.rational.specs.Rational.{ℚ, ◌+ℚ◌, ◌-ℚ◌, ◌≤ℚ◌, ◌<ℚ◌, int, neg_ℚ}
+use Rattle.rational.specs.Grid.{Whole}
+use Rattle.rational.specs.Gauge.{common_den}
+use Rattle.rational.specs.Ratio.{SumFits}
+use Rattle.rational.specs.Extended.{◌+ₑ◌}
+use Rattle.rational.specs.declared.Extended.TheVariants.{Fin}
+use Rattle.rational.proofs.Linear.{with3}
+use Rattle.rational.proofs.Laws.{le_trans, le_of_lt, lt_le_trans, one_mul, sub_add}
+use Rattle.rational.proofs.Grid.{whole_add, whole_sub}
+use Rattle.rational.proofs.MinMax.{max_q_ge_left, max_q_ge_right}
+use Rattle.min_plus.specs.Functions.{zero_q}
+use Rattle.upp_curve.specs.declared.curve.Tail.{Tail}
+use Rattle.upp_curve.specs.declared.curve.Tail.TheVariants.{Periodic, Affine, Infinite}
+use Rattle.upp_curve.specs.declared.affine_segment.line.Piece.{Piece}
+use Rattle.upp_curve.specs.Curve.{SpecCurve, value_at}
+use Rattle.upp_curve.specs.Curves.{IsCurve}
+use Rattle.upp_curve.specs.Steady.{steady, rise_over, IsWholePeriods}
+use Rattle.upp_curve.proofs.Steady.{steady_rule}
 use Rattle.upp_limits.specs.Periods.{own_period}
 use Rattle.upp_limits.specs.declared.op_kind.OpKind.TheVariants as calls
 use Rattle.upp_limits.specs.Limits.{Sizes, Numbers, time_alone, joined, curve_numbers, sizes_of, gauge_of, own_end}
@@ -34,11 +34,11 @@ use Rattle.upp_limits.proofs.NarrowSizes.{narrow_gauge, small_sum}
 use Rattle.upp_normal.specs.Ahead.{IsOverBy, HasWindow, IsTimeIn, GridValue}
 use Rattle.upp_normal.proofs.GaugeRises.{gauge_rises}
 use Rattle.upp_normal.proofs.StretchSizes.{times_fit}
-use Rattle.plain_operators.specs.curve_call.specs.declared.windows.CallWindow.{CallWindow}
-use Rattle.plain_operators.specs.curve_call.specs.CallWindows.{IsWindow}
-use Rattle.upp_limits.specs.upp_curve.proofs.SteadyTimes.{rank_early, steady_nonneg}
-use Rattle.plain_operators.specs.curve_call.proofs.CurveTimes.{steady_whole, own_on}
-use Rattle.plain_operators.specs.curve_call.proofs.CurveRises.{IsRise, rise_is}
+use Rattle.curve_call.specs.declared.windows.CallWindow.{CallWindow}
+use Rattle.curve_call.specs.CallWindows.{IsWindow}
+use Rattle.upp_curve.proofs.SteadyTimes.{rank_early, steady_nonneg}
+use Rattle.curve_call.proofs.CurveTimes.{steady_whole, own_on}
+use Rattle.curve_call.proofs.CurveRises.{IsRise, rise_is}
 use Rattle.curve_lang.specs.Finding.{value_end, value_gauge}
 use Rattle.curve_lang.specs.Times.{IsPastOwn}
 

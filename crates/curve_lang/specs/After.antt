@@ -1,7 +1,7 @@
 -- What an operator finds after its part: where the part found nothing, that. (Own choice.)
 use Rattle.std.specs.Prelude.{◌≡◌, ℕ, Result, Ok, Err}
-use Rattle.upp_limits.specs.rational.specs.Rational.{ℚ}
-use Rattle.upp_limits.specs.upp_curve.specs.Curve.{SpecCurve}
+use Rattle.rational.specs.Rational.{ℚ}
+use Rattle.upp_curve.specs.Curve.{SpecCurve}
 use Rattle.input_texts.specs.declared.curve_script.keyword.CurveOperator.{CurveOperator}
 use Rattle.input_texts.specs.declared.curve_script.keyword.NumberOperator.{NumberOperator}
 use Rattle.input_texts.specs.declared.curve_script.keyword.PairOperator.{PairOperator}

@@ -1,12 +1,12 @@
 -- What the answers of a script mean. (Own choice.)
 use Rattle.std.specs.Prelude.{◌≡◌, ◌↔◌, IsTrue, Bool, List, [], ◌∷◌, ◌++◌}
-use Rattle.upp_limits.specs.rational.specs.Rational.{ℚ, ◌≤ℚ◌}
-use Rattle.upp_limits.specs.rational.specs.Extended.{Ext, ◌≤ₑ◌}
-use Rattle.upp_limits.specs.min_plus.specs.Functions.{zero_q}
-use Rattle.upp_limits.specs.min_plus.specs.Deviations.{IsHorizontalDeviation, IsVerticalDeviation}
-use Rattle.upp_limits.specs.upp_curve.specs.Curve.{SpecCurve, value_at}
-use Rattle.upp_limits.specs.upp_curve.specs.Normal.{IsNormal}
-use Rattle.upp_limits.specs.upp_curve.specs.Steady.{rate}
+use Rattle.rational.specs.Rational.{ℚ, ◌≤ℚ◌}
+use Rattle.rational.specs.Extended.{Ext, ◌≤ₑ◌}
+use Rattle.min_plus.specs.Functions.{zero_q}
+use Rattle.min_plus.specs.Deviations.{IsHorizontalDeviation, IsVerticalDeviation}
+use Rattle.upp_curve.specs.Curve.{SpecCurve, value_at}
+use Rattle.upp_curve.specs.Normal.{IsNormal}
+use Rattle.upp_curve.specs.Steady.{rate}
 use Rattle.input_texts.specs.declared.curve_script.keyword.OneAsked.{OneAsked}
 use Rattle.input_texts.specs.declared.curve_script.keyword.OneAsked.TheVariants.{Rate, Show}
 use Rattle.input_texts.specs.declared.curve_script.keyword.TwoAsked.{TwoAsked}

@@ -3,15 +3,15 @@
 -- call takes any, and what is counted by then tells which operators were made before it: so the limit of an operator that
 -- is counted is never told as want of memory. (Own choice.)
 use Rattle.std.specs.Prelude.{◌≡◌, ◌⊎◌, ℕ, pos, ◌+◌, ◌≤◌, ◌<◌, ◌^◌, Result, Ok, Err}
-use Rattle.upp_limits.specs.rational.specs.Rational.{ℚ, int, ◌≤ℚ◌, ◌<ℚ◌}
-use Rattle.upp_limits.specs.rational.specs.MinMax.{max_q}
-use Rattle.upp_limits.specs.rational.specs.Extended.{Ext}
-use Rattle.upp_limits.specs.min_plus.specs.Functions.{zero_q, IsFinite, IsRising}
-use Rattle.upp_limits.specs.min_plus.specs.Convolution.{IsSubadditiveClosure}
-use Rattle.upp_limits.specs.min_plus.specs.Deviations.{IsVerticalDeviation}
-use Rattle.upp_limits.specs.upp_curve.specs.Curve.{SpecCurve, value_at}
-use Rattle.upp_limits.specs.upp_curve.specs.Curves.{IsCurve}
-use Rattle.upp_limits.specs.upp_curve.specs.Kinds.{bucket, rate_latency, stair, gate}
+use Rattle.rational.specs.Rational.{ℚ, int, ◌≤ℚ◌, ◌<ℚ◌}
+use Rattle.rational.specs.MinMax.{max_q}
+use Rattle.rational.specs.Extended.{Ext}
+use Rattle.min_plus.specs.Functions.{zero_q, IsFinite, IsRising}
+use Rattle.min_plus.specs.Convolution.{IsSubadditiveClosure}
+use Rattle.min_plus.specs.Deviations.{IsVerticalDeviation}
+use Rattle.upp_curve.specs.Curve.{SpecCurve, value_at}
+use Rattle.upp_curve.specs.Curves.{IsCurve}
+use Rattle.upp_curve.specs.Kinds.{bucket, rate_latency, stair, gate}
 use Rattle.upp_limits.specs.declared.op_kind.OpKind.{OpKind}
 use Rattle.upp_limits.specs.declared.op_kind.OpKind.TheVariants as calls
 use Rattle.upp_limits.specs.declared.op_kind.OpFault.TheVariants as call_faults
@@ -20,7 +20,7 @@ use Rattle.upp_limits.specs.Limits.{own_end, time_alone, joined, curve_numbers, 
 use Rattle.upp_limits.specs.Gauges.{IsTooMany, IsTooWide}
 use Rattle.upp_limits.specs.Outcome.{IsWithin}
 use Rattle.upp_limits.specs.OwnLimits.{IsOver, IsWithinOwn}
-use Rattle.plain_operators.specs.curve_call.specs.Answers.{IsMadeBy}
+use Rattle.curve_call.specs.Answers.{IsMadeBy}
 use Rattle.curve_library.specs.Causes.{OneNegative, NoSlot}
 use Rattle.subadd_closure.specs.Folds.{CloseAnswer}
 use Rattle.subadd_closure.specs.FoldMemory.{CloseWants}

@@ -1,7 +1,7 @@
 -- Laws of the calculator. (Own choice.)
 use Rattle.std.specs.Prelude.{◌≡◌, ◌≢◌, ℕ, List, [], Ok, Err}
-use Rattle.upp_limits.specs.rational.specs.Rational.{ℚ}
-use Rattle.upp_limits.specs.upp_curve.specs.Curve.{SpecCurve, value_at}
+use Rattle.rational.specs.Rational.{ℚ}
+use Rattle.upp_curve.specs.Curve.{SpecCurve, value_at}
 use Rattle.input_texts.specs.curve_script.Grammar.{Expression}
 use Rattle.input_texts.specs.curve_script.Scripts.{Numbered, out_of_memory}
 use Rattle.curve_lang.specs.Meaning.{Means}

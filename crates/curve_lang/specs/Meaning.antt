@@ -2,16 +2,16 @@
 -- are kept. (Le Boudec and Thiran, chapter 3, for the operators; the language is own choice.)
 use Rattle.std.specs.Prelude.{◌≡◌, ℕ, List, find, Option, Some, option_map}
 use Rattle.std.specs.Str.{bytes_eq}
-use Rattle.upp_limits.specs.rational.specs.Rational.{ℚ, ◌≤ℚ◌}
-use Rattle.upp_limits.specs.rational.specs.Extended.{Ext}
-use Rattle.upp_limits.specs.rational.specs.declared.Extended.TheVariants.{Fin}
-use Rattle.upp_limits.specs.min_plus.specs.Functions.{zero_q}
-use Rattle.upp_limits.specs.min_plus.specs.Formulas.{bucket_value, stair_value, rate_latency_value, gate_value}
-use Rattle.upp_limits.specs.min_plus.specs.Convolution.{IsSubadditiveClosure}
-use Rattle.upp_limits.specs.min_plus.specs.Running.{IsRunningSupremum, IsRunningInfimum}
+use Rattle.rational.specs.Rational.{ℚ, ◌≤ℚ◌}
+use Rattle.rational.specs.Extended.{Ext}
+use Rattle.rational.specs.declared.Extended.TheVariants.{Fin}
+use Rattle.min_plus.specs.Functions.{zero_q}
+use Rattle.min_plus.specs.Formulas.{bucket_value, stair_value, rate_latency_value, gate_value}
+use Rattle.min_plus.specs.Convolution.{IsSubadditiveClosure}
+use Rattle.min_plus.specs.Running.{IsRunningSupremum, IsRunningInfimum}
 use Rattle.upp_limits.specs.declared.op_kind.OpKind.{OpKind}
 use Rattle.upp_limits.specs.declared.op_kind.OpKind.TheVariants as calls
-use Rattle.plain_operators.specs.curve_call.specs.Answers.{IsAnswer}
+use Rattle.curve_call.specs.Answers.{IsAnswer}
 use Rattle.input_texts.specs.declared.curve_script.keyword.NumberPair.{NumberPair}
 use Rattle.input_texts.specs.declared.curve_script.keyword.NumberPair.TheVariants.{Bucket, Latency}
 use Rattle.input_texts.specs.declared.curve_script.keyword.NumberTriple.{NumberTriple}

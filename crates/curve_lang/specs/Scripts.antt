@@ -1,7 +1,7 @@
 -- How the evaluator goes through a script: what a statement adds to the names and to the answers that there are. (Own
 -- choice.)
 use Rattle.std.specs.Prelude.{◌≡◌, ℕ, List, [], ◌∷◌, ◌++◌, Result, Ok, Err}
-use Rattle.upp_limits.specs.rational.specs.Rational.{ℚ}
+use Rattle.rational.specs.Rational.{ℚ}
 use Rattle.input_texts.specs.declared.curve_script.fault.LangKind.{LangKind}
 use Rattle.input_texts.specs.declared.curve_script.fault.LangKind.TheVariants.{NoMemory}
 use Rattle.input_texts.specs.curve_script.Grammar.{Expression, Statement, Lets}

@@ -1,6 +1,6 @@
 -- What the calculator tells of the answers of the calls that it makes, and their curves once they are kept.
 use Rattle.std.specs.Prelude.{◌≡◌, Result, Ok, Err}
-use Rattle.upp_limits.specs.upp_curve.specs.Curve.{SpecCurve}
+use Rattle.upp_curve.specs.Curve.{SpecCurve}
 use Rattle.upp_limits.specs.declared.op_kind.OpFault.{OpFault}
 use Rattle.upp_limits.specs.declared.op_kind.OpFault.TheVariants as calls
 use Rattle.upp_limits.specs.declared.own_limits.OverLimit.TheVariants as limits

@@ -1,15 +1,15 @@
 -- The lines that answers are written in. (Own choice.)
 use Rattle.std.specs.Prelude.{ℕ, Bool, true, false, List, [], ◌∷◌, ◌++◌, Option, Some, None, codes}
 use Rattle.std.specs.List.{flat_map}
-use Rattle.upp_limits.specs.rational.specs.Rational.{ℚ}
-use Rattle.upp_limits.specs.fraction128.specs.Text.{text_of}
+use Rattle.rational.specs.Rational.{ℚ}
+use Rattle.fraction128.specs.Text.{text_of}
 use Rattle.input_texts.specs.plain_text.Numbers.{number_text}
-use Rattle.upp_limits.specs.upp_curve.specs.declared.affine_segment.line.Line.{Line}
-use Rattle.upp_limits.specs.upp_curve.specs.declared.affine_segment.line.Piece.{Piece}
-use Rattle.upp_limits.specs.upp_curve.specs.affine_segment.Values.{line_value}
-use Rattle.upp_limits.specs.upp_curve.specs.declared.curve.Tail.{Tail}
-use Rattle.upp_limits.specs.upp_curve.specs.declared.curve.Tail.TheVariants.{Periodic, Affine, Infinite}
-use Rattle.upp_limits.specs.upp_curve.specs.Curve.{SpecCurve}
+use Rattle.upp_curve.specs.declared.affine_segment.line.Line.{Line}
+use Rattle.upp_curve.specs.declared.affine_segment.line.Piece.{Piece}
+use Rattle.upp_curve.specs.affine_segment.Values.{line_value}
+use Rattle.upp_curve.specs.declared.curve.Tail.{Tail}
+use Rattle.upp_curve.specs.declared.curve.Tail.TheVariants.{Periodic, Affine, Infinite}
+use Rattle.upp_curve.specs.Curve.{SpecCurve}
 use Rattle.curve_lang.specs.declared.answer.Word.{Word}
 use Rattle.curve_lang.specs.declared.answer.Word.TheVariants.{Value, Rate, Delay, Backlog, Equal, Below}
 use Rattle.curve_lang.specs.Answers.{Answered, NumberIs, TruthIs, CurveIs}

@@ -1,8 +1,8 @@
 -- A time past a curve's own window. (Own choice.)
 use Rattle.std.specs.Prelude.{◌<◌, ◌^◌}
-use Rattle.upp_limits.specs.rational.specs.Rational.{ℚ, ◌≤ℚ◌}
-use Rattle.upp_limits.specs.upp_curve.specs.Curve.{SpecCurve}
-use Rattle.upp_limits.specs.upp_curve.specs.Curves.{IsCurve}
+use Rattle.rational.specs.Rational.{ℚ, ◌≤ℚ◌}
+use Rattle.upp_curve.specs.Curve.{SpecCurve}
+use Rattle.upp_curve.specs.Curves.{IsCurve}
 use Rattle.upp_limits.specs.Limits.{own_end}
 use Rattle.curve_lang.specs.Finding.{value_gauge}
 

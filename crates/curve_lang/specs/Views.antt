@@ -3,7 +3,7 @@ use Rattle.std.specs.Prelude.{Result, Ok, Err, Vec, map}
 use Rattle.std.specs.String.{string_bytes}
 use Rattle.std.specs.declared.rc.Rc.{Rc}
 use Rattle.std.specs.declared.alloc.Global.{Global}
-use Rattle.upp_limits.specs.upp_curve.specs.Curve.{SpecCurve}
+use Rattle.upp_curve.specs.Curve.{SpecCurve}
 use Rattle.input_texts.specs.declared.curve_script.fault.LangKind.{LangKind}
 use Rattle.input_texts.specs.declared.curve_script.fault.LangFault.{LangFault}
 use Rattle.curve_lang.specs.declared.answer.Answer.{Answer}

@@ -1,8 +1,8 @@
 //! Answers of a script.
 
+use fraction128::Ext;
 use std::rc::Rc;
-use upp_limits::fraction128::Ext;
-use upp_limits::upp_curve::Curve;
+use upp_curve::Curve;
 
 /// Which question an answer belongs to.
 #[derive(Debug, Clone, Copy, PartialEq, Eq)]

@@ -9,13 +9,13 @@ ghost use Rattle.curve_lang.specs.Views.{let_view, found};
 use crate::kinds::{pair_found, triple_found, zero_found};
 use crate::naming::{Named, named_curve};
 use crate::operators::{number_made, one_made, two_made};
+use fraction128::Frac;
 use input_texts::curve_script::{CurveOperator, Expr, LangKind, NumberOperator, PairOperator};
 use outcomes::Steps;
 use std::alloc::Global;
 use std::rc::Rc;
 use std::sync::ledger::Ledger;
-use upp_limits::fraction128::Frac;
-use upp_limits::upp_curve::Curve;
+use upp_curve::Curve;
 
 // An operator on the curve of a part; where the part has none, neither has the whole.
 fn one_after<L: Ledger>(

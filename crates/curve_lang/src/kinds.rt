@@ -1,20 +1,20 @@
 //! Curves of the four kinds, from the numbers of a script.
 
 ghost use Rattle.std.specs.Prelude.{◌≡◌, ◌⊎◌, ◌≤◌, ◌^◌, pos, IfNone, IfSome};
-ghost use Rattle.upp_limits.specs.rational.specs.Rational.{int};
-ghost use Rattle.upp_limits.specs.upp_curve.specs.Kinds.{bucket, rate_latency, stair, gate};
-ghost use Rattle.upp_limits.specs.min_plus.specs.Functions.{zero_q};
+ghost use Rattle.rational.specs.Rational.{int};
+ghost use Rattle.upp_curve.specs.Kinds.{bucket, rate_latency, stair, gate};
+ghost use Rattle.min_plus.specs.Functions.{zero_q};
 ghost use Rattle.curve_library.specs.Causes.{OneNegative};
 ghost use Rattle.curve_lang.specs.Finding.{Gives, BucketFinds, KindFinds, PairFinds, TripleFinds, IsPacket, NoStair, NoGate, zero_curve};
 ghost use Rattle.curve_lang.specs.Views.{found};
 
 use crate::sharing::kept_kind;
 use curve_library::{bucket, gate, rate_latency, stair};
+use fraction128::Frac;
 use input_texts::curve_script::{LangKind, NumberPair, NumberTriple};
 use std::alloc::Global;
 use std::rc::Rc;
-use upp_limits::fraction128::Frac;
-use upp_limits::upp_curve::Curve;
+use upp_curve::Curve;
 
 /// The most bits of a stair's packet, 2^24.
 const MOST_BITS: i128 = 16777216;

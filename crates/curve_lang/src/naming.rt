@@ -7,7 +7,7 @@ ghost use Rattle.curve_lang.specs.Views.{let_view, found};
 use input_texts::curve_script::LangKind;
 use std::alloc::{AllocError, Global};
 use std::rc::Rc;
-use upp_limits::upp_curve::Curve;
+use upp_curve::Curve;
 
 /// A name that was given, with its curve.
 #[derive(Drop)]

@@ -1,35 +1,35 @@
 //! Operators on curves, each with its conditions.
 
 ghost use Rattle.std.specs.Prelude.{◌≡◌, IsTrue, ◌↔◌};
-ghost use Rattle.upp_limits.specs.rational.specs.Rational.{◌≤ℚ◌};
-ghost use Rattle.upp_limits.specs.min_plus.specs.Functions.{zero_q, IsFinite, IsNonnegative};
-ghost use Rattle.upp_limits.specs.upp_curve.specs.Curve.{value_at};
+ghost use Rattle.rational.specs.Rational.{◌≤ℚ◌};
+ghost use Rattle.min_plus.specs.Functions.{zero_q, IsFinite, IsNonnegative};
+ghost use Rattle.upp_curve.specs.Curve.{value_at};
 ghost use Rattle.input_texts.specs.declared.curve_script.keyword.PairOperator.TheVariants as twos;
 ghost use Rattle.input_texts.specs.declared.curve_script.keyword.NumberOperator.TheVariants as numbers;
 ghost use Rattle.input_texts.specs.declared.curve_script.keyword.CurveOperator.TheVariants as ones;
-ghost use Rattle.upp_limits.specs.rational.specs.Extended.{◌<ₑ◌};
-ghost use Rattle.upp_limits.specs.rational.specs.declared.Extended.TheVariants.{Fin};
+ghost use Rattle.rational.specs.Extended.{◌<ₑ◌};
+ghost use Rattle.rational.specs.declared.Extended.TheVariants.{Fin};
 ghost use Rattle.curve_lang.specs.Finding.{Once, OneFinds, TestFinds, zero_curve};
 ghost use Rattle.curve_lang.specs.Found.{TestedBy, OneMade, NumberMade, TwoMade};
 ghost use Rattle.curve_lang.specs.Views.{found};
 
 use crate::kinds::zero_found;
 use crate::sharing::{kept_call, told_call};
+use curve_call::intact;
 use curve_conv::convolve;
 use curve_deconv::deconvolve;
 use curve_deviation::vertical;
+use fraction128::{Ext, Frac, is_less};
 use input_texts::curve_script::{CurveOperator, LangKind, NumberOperator, PairOperator};
 use outcomes::Steps;
-use plain_operators::curve_call::intact;
 use plain_operators::pointwise::{max, min, pos_diff, pos_minus, scale, shift, sum};
 use plain_operators::running::{run_inf, run_sup};
+use rational::Extended;
 use std::alloc::Global;
 use std::rc::Rc;
 use std::sync::ledger::Ledger;
 use subadd_closure::close;
-use upp_limits::fraction128::{Ext, Frac, is_less};
-use upp_limits::rational::Extended;
-use upp_limits::upp_curve::Curve;
+use upp_curve::Curve;
 
 fn sum_made<L: Ledger>(
     alloc: Global,

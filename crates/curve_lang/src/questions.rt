@@ -11,14 +11,14 @@ use crate::answer::{Answer, Word};
 use crate::sharing::told_call;
 use crate::values::value_found;
 use curve_deviation::{horizontal, vertical};
+use fraction128::{Frac, is_less};
 use input_texts::curve_script::{LangKind, OneAsked, TwoAsked};
 use outcomes::Steps;
 use plain_operators::pointwise::min;
 use std::alloc::Global;
 use std::rc::Rc;
 use std::sync::ledger::Ledger;
-use upp_limits::fraction128::{Frac, is_less};
-use upp_limits::upp_curve::{Curve, equal};
+use upp_curve::{Curve, equal};
 
 /// The answer of a question about the value at a time.
 pub(crate) fn value_told(f: &Curve, t: Frac) -> Result<Answer, LangKind>

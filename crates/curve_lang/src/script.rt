@@ -13,13 +13,13 @@ use crate::answer::Answer;
 use crate::expressions::curve_of;
 use crate::naming::{Named, give_name, is_given};
 use crate::questions::{one_told, two_told, value_told};
+use fraction128::Frac;
 use input_texts::curve_script::{Expr, LangFault, LangKind, OneAsked, Script, Stat, TwoAsked};
 use outcomes::Steps;
 use std::alloc::Global;
 use std::rc::Rc;
 use std::sync::ledger::Ledger;
-use upp_limits::fraction128::Frac;
-use upp_limits::upp_curve::Curve;
+use upp_curve::Curve;
 
 // Gives a new name to the curve of an expression.
 fn give<L: Ledger>(

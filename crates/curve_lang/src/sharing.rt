@@ -9,8 +9,8 @@ use curve_library::{CurveFault, OverLimit};
 use input_texts::curve_script::LangKind;
 use std::alloc::Global;
 use std::rc::Rc;
+use upp_curve::Curve;
 use upp_limits::OpFault;
-use upp_limits::upp_curve::Curve;
 
 /// The curve, to be shared from now on.
 pub(crate) fn shared(alloc: Global, curve: Curve) -> Result<Rc<Curve>, LangKind>

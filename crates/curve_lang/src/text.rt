@@ -2,20 +2,20 @@
 
 ghost use Rattle.std.specs.Prelude.{◌≡◌, ◌++◌, map, OnOk, IfOk, Some};
 ghost use Rattle.std.specs.List.{flat_map};
-ghost use Rattle.upp_limits.specs.upp_curve.specs.affine_segment.Pieces.{Each};
+ghost use Rattle.upp_curve.specs.affine_segment.Pieces.{Each};
 ghost use Rattle.curve_lang.specs.Answers.{NumberIs, TruthIs};
-ghost use Rattle.upp_limits.specs.upp_curve.specs.affine_segment.Fits.{LineFitsAt};
-ghost use Rattle.upp_limits.specs.fraction128.specs.Text.{text_of};
+ghost use Rattle.upp_curve.specs.affine_segment.Fits.{LineFitsAt};
+ghost use Rattle.fraction128.specs.Text.{text_of};
 ghost use Rattle.input_texts.specs.plain_text.Numbers.{number_text};
 ghost use Rattle.curve_lang.specs.Texts.{word_text, truth_text, after_text, piece_text, tail_text, ranked_text, step_text, repeated_text, curve_text, answer_text, answers_text};
 ghost use Rattle.curve_lang.specs.Views.{answer_view};
 
 use crate::answer::{Answer, Word};
+use fraction128::{Ext, Frac};
+use rational::Extended;
 use std::alloc::{AllocError, Global};
-use upp_limits::fraction128::{Ext, Frac};
-use upp_limits::rational::Extended;
-use upp_limits::upp_curve::affine_segment::{Line, Piece, line_value};
-use upp_limits::upp_curve::{Curve, Tail};
+use upp_curve::affine_segment::{Line, Piece, line_value};
+use upp_curve::{Curve, Tail};
 
 fn word_text(word: Word) -> &'static str
     ensures { result.now ≡ word_text word }

@@ -1,20 +1,20 @@
 //! The value of a curve at a time, with its limit.
 
 ghost use Rattle.std.specs.Prelude.{◌≡◌, ◌<◌, ◌≤◌, ◌^◌, IsTrue, ◌↔◌};
-ghost use Rattle.upp_limits.specs.rational.specs.Rational.{◌≤ℚ◌};
-ghost use Rattle.upp_limits.specs.min_plus.specs.Functions.{zero_q};
-ghost use Rattle.upp_limits.specs.upp_curve.specs.Curve.{value_at};
-ghost use Rattle.upp_limits.specs.upp_curve.specs.Curves.{IsCurve};
+ghost use Rattle.rational.specs.Rational.{◌≤ℚ◌};
+ghost use Rattle.min_plus.specs.Functions.{zero_q};
+ghost use Rattle.upp_curve.specs.Curve.{value_at};
+ghost use Rattle.upp_curve.specs.Curves.{IsCurve};
 ghost use Rattle.upp_limits.specs.Limits.{own_end};
 ghost use Rattle.upp_limits.specs.Periods.{own_period};
 ghost use Rattle.curve_lang.specs.Finding.{ValueFinds, value_end, value_gauge};
 ghost use Rattle.curve_lang.specs.Times.{IsPastOwn};
 
+use curve_call::{call_window, rise_over};
+use fraction128::{Ext, Frac, difference, greater, is_less, sum};
 use input_texts::curve_script::LangKind;
-use plain_operators::curve_call::{call_window, rise_over};
-use upp_limits::fraction128::{Ext, Frac, difference, greater, is_less, sum};
-use upp_limits::rational::Extended;
-use upp_limits::upp_curve::Curve;
+use rational::Extended;
+use upp_curve::Curve;
 use upp_limits::{OpKind, call_numbers};
 use upp_normal::stretch_at;
 

@@ -1,7 +1,7 @@
 -- From what each answer says to which answer comes when.
 use Rattle.std.specs.Prelude.{◌≢◌, ◌≤◌, ◌^◌, Result, Ok, Err, IfOk}
 use Rattle.std.proofs.Common.{arith, sym, ap, refl, subst}
-use Rattle.upp_limits.specs.upp_curve.specs.Curve.{SpecCurve}
+use Rattle.upp_curve.specs.Curve.{SpecCurve}
 use Rattle.upp_limits.specs.Limits.{own_tally}
 use Rattle.upp_limits.specs.declared.own_limits.OverLimit.{OverLimit}
 use Rattle.upp_limits.specs.declared.own_limits.OverLimit.TheVariants.{TooMany, TooWide}

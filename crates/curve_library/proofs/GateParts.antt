@@ -1,21 +1,21 @@
 -- A gate: what its gauge says of its numbers, and that it has few pieces.
 use Rattle.std.specs.Prelude.{◌≡◌, ◌<◌, ◌≤◌, ◌^◌, [], ◌∷◌}
 use Rattle.std.proofs.Common.{arith, sym, refl, subst, inl, inr}
-use Rattle.upp_limits.specs.rational.specs.Rational.{ℚ, ◌+ℚ◌, ◌-ℚ◌, ◌*ℚ◌, ◌≤ℚ◌, ◌<ℚ◌, neg_ℚ}
-use Rattle.upp_limits.specs.rational.specs.Ratio.{IsSmall, SumFits}
-use Rattle.upp_limits.specs.rational.specs.Grid.{Whole}
-use Rattle.upp_limits.specs.rational.proofs.Grid.{whole_sub}
-use Rattle.upp_limits.specs.rational.proofs.Linear.{with2}
-use Rattle.upp_limits.specs.rational.proofs.Laws.{antisym, le_of_lt, le_or_lt, lt_irrefl, lt_le_trans}
-use Rattle.upp_limits.specs.rational.proofs.MinMax.{le_q_not}
-use Rattle.upp_limits.specs.rational.proofs.Over.{le_q_out}
-use Rattle.upp_limits.specs.min_plus.specs.Functions.{zero_q}
-use Rattle.upp_limits.specs.upp_curve.specs.Kinds.{flat, piece, bucket, gated, gate}
+use Rattle.rational.specs.Rational.{ℚ, ◌+ℚ◌, ◌-ℚ◌, ◌*ℚ◌, ◌≤ℚ◌, ◌<ℚ◌, neg_ℚ}
+use Rattle.rational.specs.Ratio.{IsSmall, SumFits}
+use Rattle.rational.specs.Grid.{Whole}
+use Rattle.rational.proofs.Grid.{whole_sub}
+use Rattle.rational.proofs.Linear.{with2}
+use Rattle.rational.proofs.Laws.{antisym, le_of_lt, le_or_lt, lt_irrefl, lt_le_trans}
+use Rattle.rational.proofs.MinMax.{le_q_not}
+use Rattle.rational.proofs.Over.{le_q_out}
+use Rattle.min_plus.specs.Functions.{zero_q}
+use Rattle.upp_curve.specs.Kinds.{flat, piece, bucket, gated, gate}
 use Rattle.upp_limits.specs.Spans.{spans}
 use Rattle.upp_limits.specs.Limits.{own_gauge, own_sizes, own_tally, own_end}
 use Rattle.upp_limits.specs.Sized.{IsSlope, IsValue}
 use Rattle.upp_limits.proofs.CurveStands.{starts_below_own_end}
-use Rattle.upp_limits.specs.upp_curve.proofs.KindForms.{gated_normal}
+use Rattle.upp_curve.proofs.KindForms.{gated_normal}
 use Rattle.curve_library.specs.Causes.{NoSlot}
 use Rattle.curve_library.proofs.LateParts.{line_few}
 use Rattle.curve_library.proofs.OwnParts.{Held, held, too_wide, run_small, value_small, gap_fits}

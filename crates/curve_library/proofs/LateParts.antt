@@ -1,20 +1,20 @@
 -- A rate after a latency: what its gauge says of their product, and that it has few pieces.
 use Rattle.std.specs.Prelude.{◌≡◌, ◌≤◌, ◌^◌, [], ◌∷◌}
 use Rattle.std.proofs.Common.{arith, refl, subst, inl, inr}
-use Rattle.upp_limits.specs.rational.specs.Rational.{ℚ, ◌*ℚ◌, ◌≤ℚ◌, ◌<ℚ◌, neg_ℚ}
-use Rattle.upp_limits.specs.rational.specs.Ratio.{IsSmall}
-use Rattle.upp_limits.specs.rational.proofs.Laws.{le_of_lt, le_or_lt}
-use Rattle.upp_limits.specs.rational.proofs.MinMax.{le_q_not}
-use Rattle.upp_limits.specs.rational.proofs.Over.{le_q_out}
-use Rattle.upp_limits.specs.min_plus.specs.Functions.{zero_q}
-use Rattle.upp_limits.specs.upp_curve.specs.Kinds.{flat, piece, bucket, after_latency, rate_latency}
+use Rattle.rational.specs.Rational.{ℚ, ◌*ℚ◌, ◌≤ℚ◌, ◌<ℚ◌, neg_ℚ}
+use Rattle.rational.specs.Ratio.{IsSmall}
+use Rattle.rational.proofs.Laws.{le_of_lt, le_or_lt}
+use Rattle.rational.proofs.MinMax.{le_q_not}
+use Rattle.rational.proofs.Over.{le_q_out}
+use Rattle.min_plus.specs.Functions.{zero_q}
+use Rattle.upp_curve.specs.Kinds.{flat, piece, bucket, after_latency, rate_latency}
 use Rattle.upp_limits.specs.Spans.{spans}
 use Rattle.upp_limits.specs.Limits.{own_gauge, own_sizes, own_tally}
 use Rattle.upp_limits.specs.Sized.{IsSlope}
-use Rattle.upp_limits.specs.rational.specs.Grid.{Whole}
+use Rattle.rational.specs.Grid.{Whole}
 use Rattle.upp_limits.proofs.CurveStands.{starts_below_own_end}
-use Rattle.upp_limits.specs.upp_curve.proofs.ByTail.{bucket_normal}
-use Rattle.upp_limits.specs.upp_curve.proofs.KindForms.{late_normal}
+use Rattle.upp_curve.proofs.ByTail.{bucket_normal}
+use Rattle.upp_curve.proofs.KindForms.{late_normal}
 use Rattle.curve_library.proofs.OwnParts.{Held, held, too_wide, run_small}
 use Rattle.upp_limits.proofs.FewCopies.{affine_few}
 

@@ -3,16 +3,16 @@ use Rattle.std.specs.Prelude.{◌≡◌, ℕ, zero, suc, ◌+◌, ◌-◌, ◌<�
 use Rattle.std.specs.List.{AllByRecursion}
 use Rattle.std.proofs.Common.{arith, get_or, sym, ap, ◌∙◌, refl, subst, inl, inr}
 use Rattle.std.proofs.lemmas.List.Sums.{sum_by-cons}
-use Rattle.upp_limits.specs.rational.specs.Rational.{ℚ, ◌+ℚ◌, ◌-ℚ◌, ◌/ℚ◌, ◌≤ℚ◌, ◌<ℚ◌, int}
-use Rattle.upp_limits.specs.rational.proofs.Linear.{with3}
-use Rattle.upp_limits.specs.rational.proofs.Laws.{one_mul, le_or_lt}
-use Rattle.upp_limits.specs.rational.proofs.Quotients.{div_le}
-use Rattle.upp_limits.specs.rational.proofs.Over.{lt_q_out}
-use Rattle.upp_limits.specs.rational.proofs.MinMax.{lt_q_not}
-use Rattle.upp_limits.specs.upp_curve.specs.declared.affine_segment.line.Piece.{Piece}
-use Rattle.upp_limits.specs.upp_curve.specs.affine_segment.Pieces.{Each, StartsAtZero, start_after}
-use Rattle.upp_limits.specs.upp_curve.specs.declared.curve.Tail.TheVariants.{Affine}
-use Rattle.upp_limits.specs.upp_curve.specs.Unrolled.{copies_below}
+use Rattle.rational.specs.Rational.{ℚ, ◌+ℚ◌, ◌-ℚ◌, ◌/ℚ◌, ◌≤ℚ◌, ◌<ℚ◌, int}
+use Rattle.rational.proofs.Linear.{with3}
+use Rattle.rational.proofs.Laws.{one_mul, le_or_lt}
+use Rattle.rational.proofs.Quotients.{div_le}
+use Rattle.rational.proofs.Over.{lt_q_out}
+use Rattle.rational.proofs.MinMax.{lt_q_not}
+use Rattle.upp_curve.specs.declared.affine_segment.line.Piece.{Piece}
+use Rattle.upp_curve.specs.affine_segment.Pieces.{Each, StartsAtZero, start_after}
+use Rattle.upp_curve.specs.declared.curve.Tail.TheVariants.{Affine}
+use Rattle.upp_curve.specs.Unrolled.{copies_below}
 use Rattle.upp_limits.specs.ClosedForm.{span_numbers, once_numbers, copies_numbers, closed_span, closed_numbers}
 use Rattle.upp_limits.specs.Limits.{no_numbers, sizes_of, curve_numbers, gauge_of, own_end, own_tally, own_gauge}
 use Rattle.upp_limits.specs.OwnWindow.{EndFits, EndsAt, end_from}

@@ -2,34 +2,34 @@
 use Rattle.std.specs.Prelude.{◌≡◌, ◌<◌, ◌≤◌, ◌^◌, ◌*◌, pos, List, [], ◌∷◌, length, Option, Some, None, Result, Ok, Err, MatchResult}
 use Rattle.std.specs.List.{AllByRecursion}
 use Rattle.std.proofs.Common.{arith, get_or, sym, ap, ◌∙◌, refl, subst, inl, inr}
-use Rattle.upp_limits.specs.rational.specs.Rational.{ℚ, ◌+ℚ◌, ◌-ℚ◌, ◌*ℚ◌, ◌≤ℚ◌, ◌<ℚ◌, int, neg_ℚ}
-use Rattle.upp_limits.specs.rational.specs.Ratio.{IsSmall}
-use Rattle.upp_limits.specs.rational.specs.Grid.{Whole, Within}
-use Rattle.upp_limits.specs.rational.specs.Extended.{Ext, ◌≤ₑ◌}
-use Rattle.upp_limits.specs.rational.proofs.Grid.{whole_neg, within_neg, whole_add, within_add}
-use Rattle.upp_limits.specs.rational.proofs.Linear.{with2}
-use Rattle.upp_limits.specs.rational.proofs.Laws.{le_refl, le_of_lt, le_trans, one_mul, sub_add}
-use Rattle.upp_limits.specs.upp_curve.specs.declared.affine_segment.line.Piece.{Piece}
-use Rattle.upp_limits.specs.upp_curve.specs.affine_segment.Values.{line_value}
-use Rattle.upp_limits.specs.upp_curve.specs.declared.curve.Tail.{Tail}
-use Rattle.upp_limits.specs.upp_curve.specs.declared.curve.Tail.TheVariants.{Periodic, Affine, Infinite}
+use Rattle.rational.specs.Rational.{ℚ, ◌+ℚ◌, ◌-ℚ◌, ◌*ℚ◌, ◌≤ℚ◌, ◌<ℚ◌, int, neg_ℚ}
+use Rattle.rational.specs.Ratio.{IsSmall}
+use Rattle.rational.specs.Grid.{Whole, Within}
+use Rattle.rational.specs.Extended.{Ext, ◌≤ₑ◌}
+use Rattle.rational.proofs.Grid.{whole_neg, within_neg, whole_add, within_add}
+use Rattle.rational.proofs.Linear.{with2}
+use Rattle.rational.proofs.Laws.{le_refl, le_of_lt, le_trans, one_mul, sub_add}
+use Rattle.upp_curve.specs.declared.affine_segment.line.Piece.{Piece}
+use Rattle.upp_curve.specs.affine_segment.Values.{line_value}
+use Rattle.upp_curve.specs.declared.curve.Tail.{Tail}
+use Rattle.upp_curve.specs.declared.curve.Tail.TheVariants.{Periodic, Affine, Infinite}
 use Rattle.upp_limits.specs.declared.own_limits.OverLimit.{OverLimit}
 use Rattle.upp_limits.specs.declared.own_limits.OverLimit.TheVariants.{TooMany, TooWide}
-use Rattle.upp_limits.specs.upp_curve.specs.affine_segment.Reading.{read}
-use Rattle.upp_limits.specs.upp_curve.specs.Curve.{SpecCurve, value_at, HasSameValues}
-use Rattle.upp_limits.specs.min_plus.specs.Continuity.{AreNear, IsContinuous}
-use Rattle.upp_limits.specs.min_plus.specs.Functions.{zero_q, IsRising}
-use Rattle.upp_limits.specs.upp_curve.specs.affine_segment.Pieces.{Each, RisesFrom}
-use Rattle.upp_limits.specs.upp_curve.specs.Normal.{IsRaw, IsNormal}
+use Rattle.upp_curve.specs.affine_segment.Reading.{read}
+use Rattle.upp_curve.specs.Curve.{SpecCurve, value_at, HasSameValues}
+use Rattle.min_plus.specs.Continuity.{AreNear, IsContinuous}
+use Rattle.min_plus.specs.Functions.{zero_q, IsRising}
+use Rattle.upp_curve.specs.affine_segment.Pieces.{Each, RisesFrom}
+use Rattle.upp_curve.specs.Normal.{IsRaw, IsNormal}
 use Rattle.upp_limits.specs.Limits.{own_gauge, own_sizes, own_end}
 use Rattle.upp_limits.specs.OwnLimits.{IsOver, IsWithinOwn}
 use Rattle.upp_limits.specs.Sized.{SpanStands, ValueStands, LineStands, IsValue}
 use Rattle.upp_limits.specs.Spans.{spans, line_read}
 use Rattle.upp_limits.proofs.CurveStands.{starts_below_own_end}
-use Rattle.upp_limits.specs.upp_curve.proofs.FirstStretch.{read_in, at_start}
+use Rattle.upp_curve.proofs.FirstStretch.{read_in, at_start}
 use Rattle.upp_limits.proofs.NarrowSizes.{small_number, small_sum, value_whole, value_within, run_whole, run_within}
-use Rattle.upp_limits.specs.upp_curve.proofs.OneForm.{infinite_value}
-use Rattle.upp_limits.specs.upp_curve.proofs.Repeats.{repeated_first}
+use Rattle.upp_curve.proofs.OneForm.{infinite_value}
+use Rattle.upp_curve.proofs.Repeats.{repeated_first}
 use Rattle.curve_library.specs.declared.texts.PieceText.{PieceText}
 use Rattle.curve_library.specs.declared.texts.TailText.{TailText}
 use Rattle.curve_library.specs.declared.texts.UseAs.{UseAs}
@@ -40,7 +40,7 @@ use Rattle.curve_library.specs.Listed.{text_line, text_piece, text_pieces, text_
 use Rattle.curve_library.proofs.Answering.{over_within}
 use Rattle.curve_library.proofs.OwnParts.{Held, held, run_small}
 use Rattle.upp_limits.proofs.KnownNumbers.{two_ones}
-use Rattle.upp_limits.specs.upp_curve.proofs.affine_segment.PieceIn.{read_is}
+use Rattle.upp_curve.proofs.affine_segment.PieceIn.{read_is}
 use Rattle.upp_limits.proofs.OneLimit.{one_limit}
 
 -- ---- a well-formed list is a curve in some form

@@ -1,16 +1,16 @@
 -- What fits of the numbers of a curve whose own gauge is below 2 ^ 120.
 use Rattle.std.specs.Prelude.{◌≡◌, ◌+◌, ◌*◌, ◌<◌, ◌≤◌, ◌^◌, pos}
 use Rattle.std.proofs.Common.{arith, sym, ap, ◌∙◌, subst}
-use Rattle.upp_limits.specs.rational.specs.Rational.{ℚ, ◌+ℚ◌, ◌*ℚ◌, ◌≤ℚ◌, int, neg_ℚ}
-use Rattle.upp_limits.specs.rational.specs.Ratio.{IsSmall, SumFits}
-use Rattle.upp_limits.specs.rational.specs.Grid.{Whole, Within}
-use Rattle.upp_limits.specs.rational.proofs.Grid.{within_nonneg}
-use Rattle.upp_limits.specs.rational.proofs.Sizes.{largest_part, difference_on_grid}
-use Rattle.upp_limits.specs.rational.proofs.Integers.{int_mul, int_add, nat_le}
-use Rattle.upp_limits.specs.rational.proofs.Laws.{le_trans, one_mul}
-use Rattle.upp_limits.specs.upp_curve.specs.Curve.{SpecCurve}
-use Rattle.upp_limits.specs.min_plus.specs.Functions.{zero_q}
-use Rattle.upp_limits.specs.upp_curve.specs.Normal.{IsRaw}
+use Rattle.rational.specs.Rational.{ℚ, ◌+ℚ◌, ◌*ℚ◌, ◌≤ℚ◌, int, neg_ℚ}
+use Rattle.rational.specs.Ratio.{IsSmall, SumFits}
+use Rattle.rational.specs.Grid.{Whole, Within}
+use Rattle.rational.proofs.Grid.{within_nonneg}
+use Rattle.rational.proofs.Sizes.{largest_part, difference_on_grid}
+use Rattle.rational.proofs.Integers.{int_mul, int_add, nat_le}
+use Rattle.rational.proofs.Laws.{le_trans, one_mul}
+use Rattle.upp_curve.specs.Curve.{SpecCurve}
+use Rattle.min_plus.specs.Functions.{zero_q}
+use Rattle.upp_curve.specs.Normal.{IsRaw}
 use Rattle.upp_limits.specs.Limits.{own_end, own_sizes, own_gauge}
 use Rattle.upp_limits.specs.Sized.{IsValue, IsSlope, AreSizes, CurveStands}
 use Rattle.upp_limits.proofs.NarrowSizes.{IsNarrow, narrow_gauge, grids_narrow, small_number, value_whole, value_within, run_whole, run_within}

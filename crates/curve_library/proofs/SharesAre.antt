@@ -3,19 +3,19 @@ use Rattle.std.specs.Prelude.{◌≡◌, ◌≢◌, ℕ, zero, suc, ◌+◌, ◌
 use Rattle.std.proofs.Common.{arith, sym, ap, ap₂, ◌∙◌, refl, subst}
 use Prim.Native.Nat.{◌∣◌}
 use Rattle.std.proofs.Math.Nat.{div-mul_cancel, div-add-mod, mod-lt}
-use Rattle.upp_limits.specs.rational.specs.Rational.{ℚ, den, int, ◌+ℚ◌, ◌-ℚ◌, ◌*ℚ◌, ◌/ℚ◌, ◌≤ℚ◌, ◌<ℚ◌}
-use Rattle.upp_limits.specs.rational.specs.Fractions.{frac_self}
-use Rattle.upp_limits.specs.rational.specs.Ratio.{ratio}
-use Rattle.upp_limits.specs.rational.specs.Gauge.{lcm}
-use Rattle.upp_limits.specs.rational.specs.Whole.{whole_part}
-use Rattle.upp_limits.specs.rational.proofs.Linear.{with3}
-use Rattle.upp_limits.specs.rational.proofs.Laws.{num_nonneg, mul_pos, mul_assoc, div_mul, not_zero, mul_cancel, le_of_mul, lt_of_mul, le_of_lt, sub_mul, add_mul, nonneg_int}
-use Rattle.upp_limits.specs.rational.proofs.Integers.{int_mul, int_add, nat_le, nat_lt, nat_lt_out}
-use Rattle.upp_limits.specs.rational.proofs.Quotients.{frac_is_div}
-use Rattle.upp_limits.specs.rational.proofs.Multiples.{lcm_left, lcm_right, lcm_pos}
-use Rattle.upp_limits.specs.rational.proofs.Gauges.{den_pos}
-use Rattle.upp_limits.specs.min_plus.specs.Functions.{zero_q}
-use Rattle.upp_limits.specs.upp_curve.proofs.StairValues.{whole_ratio}
+use Rattle.rational.specs.Rational.{ℚ, den, int, ◌+ℚ◌, ◌-ℚ◌, ◌*ℚ◌, ◌/ℚ◌, ◌≤ℚ◌, ◌<ℚ◌}
+use Rattle.rational.specs.Fractions.{frac_self}
+use Rattle.rational.specs.Ratio.{ratio}
+use Rattle.rational.specs.Gauge.{lcm}
+use Rattle.rational.specs.Whole.{whole_part}
+use Rattle.rational.proofs.Linear.{with3}
+use Rattle.rational.proofs.Laws.{num_nonneg, mul_pos, mul_assoc, div_mul, not_zero, mul_cancel, le_of_mul, lt_of_mul, le_of_lt, sub_mul, add_mul, nonneg_int}
+use Rattle.rational.proofs.Integers.{int_mul, int_add, nat_le, nat_lt, nat_lt_out}
+use Rattle.rational.proofs.Quotients.{frac_is_div}
+use Rattle.rational.proofs.Multiples.{lcm_left, lcm_right, lcm_pos}
+use Rattle.rational.proofs.Gauges.{den_pos}
+use Rattle.min_plus.specs.Functions.{zero_q}
+use Rattle.upp_curve.proofs.StairValues.{whole_ratio}
 use Rattle.curve_library.specs.Shares.{IsQuotient, SharesFit, AreShares}
 
 nat_some : (n : ℕ) → 0 < n → zero_q <ℚ int (pos n)

@@ -1,11 +1,11 @@
 -- What the tests of a sign say.
 use Rattle.std.specs.Prelude.{◌≡◌, Bool, true, false, not, IsTrue, ◌↔◌}
 use Rattle.std.proofs.Common.{arith, sym, refl, true≢false, inl, inr}
-use Rattle.upp_limits.specs.rational.specs.Rational.{ℚ, ◌≤ℚ◌, ◌<ℚ◌, neg_ℚ}
-use Rattle.upp_limits.specs.rational.proofs.Linear.{with2}
-use Rattle.upp_limits.specs.rational.proofs.Laws.{lt_irrefl, lt_le_trans}
-use Rattle.upp_limits.specs.min_plus.specs.Functions.{zero_q}
-use Rattle.upp_limits.specs.rational.proofs.Compared.{not_less_out}
+use Rattle.rational.specs.Rational.{ℚ, ◌≤ℚ◌, ◌<ℚ◌, neg_ℚ}
+use Rattle.rational.proofs.Linear.{with2}
+use Rattle.rational.proofs.Laws.{lt_irrefl, lt_le_trans}
+use Rattle.min_plus.specs.Functions.{zero_q}
+use Rattle.rational.proofs.Compared.{not_less_out}
 use Rattle.curve_library.specs.Causes.{OneNegative}
 
 -- a test that is false leaves 0 or more

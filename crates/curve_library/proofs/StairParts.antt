@@ -2,36 +2,36 @@
 use Rattle.std.specs.Prelude.{◌≡◌, ℕ, zero, suc, ◌*◌, ◌/◌, ◌<◌, ◌≤◌, ◌^◌, pos, nat_abs, [], ◌∷◌}
 use Rattle.std.proofs.Common.{arith, sym, ap, ◌∙◌, refl, subst, inl, inr}
 use native.Mathlib.Nat.{le_of_dvd, mul-le-mul_left, mul-le-mul_right}
-use Rattle.upp_limits.specs.rational.specs.Rational.{ℚ, den, int, ◌+ℚ◌, ◌-ℚ◌, ◌*ℚ◌, ◌/ℚ◌, ◌≤ℚ◌, ◌<ℚ◌}
-use Rattle.upp_limits.specs.rational.specs.Gauge.{lcm}
-use Rattle.upp_limits.specs.rational.specs.Grid.{Whole}
-use Rattle.upp_limits.specs.rational.specs.Whole.{whole_part}
-use Rattle.upp_limits.specs.rational.proofs.Grid.{whole_add, whole_sub, whole_int, whole_times, whole_divides}
-use Rattle.upp_limits.specs.rational.proofs.Linear.{with1, with2}
-use Rattle.upp_limits.specs.rational.proofs.Laws.{antisym, le_of_lt, le_or_lt, le_refl, le_trans, mul_le_mul, mul_le_mul_right}
-use Rattle.upp_limits.specs.rational.proofs.Integers.{int_mul, nat_le, nat_le_out, nat_lt, nat_nonneg}
-use Rattle.upp_limits.specs.rational.proofs.MinMax.{le_q_not}
-use Rattle.upp_limits.specs.rational.proofs.Over.{le_q_out}
-use Rattle.upp_limits.specs.rational.proofs.Multiples.{lcm_right, lcm_least}
-use Rattle.upp_limits.specs.rational.proofs.Gauges.{den_pos}
-use Rattle.upp_limits.specs.upp_curve.specs.declared.curve.Tail.TheVariants.{Periodic}
-use Rattle.upp_limits.specs.upp_curve.specs.Curve.{SpecCurve}
-use Rattle.upp_limits.specs.min_plus.specs.Functions.{zero_q}
-use Rattle.upp_limits.specs.upp_curve.specs.Normal.{IsNormal, IsRaw}
-use Rattle.upp_limits.specs.upp_curve.specs.Kinds.{flat, bucket, steps, stair}
+use Rattle.rational.specs.Rational.{ℚ, den, int, ◌+ℚ◌, ◌-ℚ◌, ◌*ℚ◌, ◌/ℚ◌, ◌≤ℚ◌, ◌<ℚ◌}
+use Rattle.rational.specs.Gauge.{lcm}
+use Rattle.rational.specs.Grid.{Whole}
+use Rattle.rational.specs.Whole.{whole_part}
+use Rattle.rational.proofs.Grid.{whole_add, whole_sub, whole_int, whole_times, whole_divides}
+use Rattle.rational.proofs.Linear.{with1, with2}
+use Rattle.rational.proofs.Laws.{antisym, le_of_lt, le_or_lt, le_refl, le_trans, mul_le_mul, mul_le_mul_right}
+use Rattle.rational.proofs.Integers.{int_mul, nat_le, nat_le_out, nat_lt, nat_nonneg}
+use Rattle.rational.proofs.MinMax.{le_q_not}
+use Rattle.rational.proofs.Over.{le_q_out}
+use Rattle.rational.proofs.Multiples.{lcm_right, lcm_least}
+use Rattle.rational.proofs.Gauges.{den_pos}
+use Rattle.upp_curve.specs.declared.curve.Tail.TheVariants.{Periodic}
+use Rattle.upp_curve.specs.Curve.{SpecCurve}
+use Rattle.min_plus.specs.Functions.{zero_q}
+use Rattle.upp_curve.specs.Normal.{IsNormal, IsRaw}
+use Rattle.upp_curve.specs.Kinds.{flat, bucket, steps, stair}
 use Rattle.upp_limits.specs.Spans.{spans}
 use Rattle.upp_limits.specs.Limits.{own_gauge, own_sizes, own_tally, own_end}
 use Rattle.upp_limits.specs.Sized.{IsValue}
 use Rattle.upp_limits.proofs.NarrowSizes.{grids_narrow, small_sum, value_whole, value_within}
 use Rattle.upp_limits.proofs.OwnGauge.{end_within}
-use Rattle.upp_limits.specs.upp_curve.proofs.StairValues.{ratio_low}
-use Rattle.upp_limits.specs.upp_curve.proofs.KindForms.{stair_normal}
+use Rattle.upp_curve.proofs.StairValues.{ratio_low}
+use Rattle.upp_curve.proofs.KindForms.{stair_normal}
 use Rattle.curve_library.specs.Parts.{SecondFits}
 use Rattle.curve_library.specs.Shares.{SharesFit}
 use Rattle.curve_library.proofs.LateParts.{line_few}
 use Rattle.curve_library.proofs.OwnParts.{Held, held, too_wide, gap_fits}
 use Rattle.curve_library.proofs.SharesAre.{steps_on}
-use Rattle.upp_limits.specs.upp_curve.proofs.affine_segment.Convolved.{back as taken_back}
+use Rattle.upp_curve.proofs.affine_segment.Convolved.{back as taken_back}
 use Rattle.upp_limits.proofs.FewCopies.{end_is, periodic_few}
 
 put_together : (x y : ℚ) → y +ℚ (x -ℚ y) ≡ x

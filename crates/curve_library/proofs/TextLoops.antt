@@ -2,11 +2,11 @@
 use Rattle.std.specs.Prelude.{◌≡◌, ◌↔◌, ℕ, zero, suc, ◌+◌, ◌-◌, ◌<◌, ◌≤◌, List, [], ◌∷◌, length, slice_get, Option, Some, None}
 use Rattle.std.specs.List.{AllByRecursion}
 use Rattle.std.proofs.Common.{arith, get_or, drop, drop_of_length-le, sym, ap, refl, subst}
-use Rattle.upp_limits.specs.rational.specs.Rational.{ℚ, ◌<ℚ◌}
-use Rattle.upp_limits.specs.upp_curve.specs.affine_segment.Pieces.{RisesFrom}
+use Rattle.rational.specs.Rational.{ℚ, ◌<ℚ◌}
+use Rattle.upp_curve.specs.affine_segment.Pieces.{RisesFrom}
 use Rattle.curve_library.specs.declared.texts.PieceText.{PieceText}
 use Rattle.curve_library.specs.Listed.{text_pieces, last_from, last_start}
-use Rattle.upp_limits.specs.upp_curve.proofs.affine_segment.NextPiece.{next_piece}
+use Rattle.upp_curve.proofs.affine_segment.NextPiece.{next_piece}
 
 -- ---- a test of each
 pub all_on : {A : Type 0} (P : A → Type 0) (xs : List A) (j : ℕ) (x : A) → (AllByRecursion P xs ↔ AllByRecursion P (drop j xs)) → j < length xs → x ≡ get_or xs j x → P x

@@ -1,7 +1,7 @@
 -- The numbers that a curve of a kind is made of.
 use Rattle.std.specs.Prelude.{◌≡◌}
-use Rattle.upp_limits.specs.rational.specs.Rational.{ℚ, ◌-ℚ◌, ◌*ℚ◌, neg_ℚ}
-use Rattle.upp_limits.specs.rational.specs.Ratio.{SumFits}
+use Rattle.rational.specs.Rational.{ℚ, ◌-ℚ◌, ◌*ℚ◌, neg_ℚ}
+use Rattle.rational.specs.Ratio.{SumFits}
 use Rattle.curve_library.specs.declared.gates.GateNumbers.{GateNumbers}
 
 -- of a gate: the time that it is closed, the rate times that time, and the rate times the slot

@@ -1,8 +1,8 @@
 -- A time as a whole number of periods and a rest.
 use Rattle.std.specs.Prelude.{◌≡◌, ℕ, ◌+◌, ◌*◌, ◌/◌, ◌<◌, ◌^◌, pos, nat_abs}
-use Rattle.upp_limits.specs.rational.specs.Rational.{ℚ, den, int, ◌-ℚ◌, ◌*ℚ◌, ◌/ℚ◌}
-use Rattle.upp_limits.specs.rational.specs.Gauge.{lcm}
-use Rattle.upp_limits.specs.rational.specs.Whole.{whole_part}
+use Rattle.rational.specs.Rational.{ℚ, den, int, ◌-ℚ◌, ◌*ℚ◌, ◌/ℚ◌}
+use Rattle.rational.specs.Gauge.{lcm}
+use Rattle.rational.specs.Whole.{whole_part}
 use Rattle.curve_library.specs.declared.shares.Share.{Share}
 
 -- n is so many times the divisor, and a rest below it; the count is at most 2 ^ 127 - 1

@@ -1,19 +1,19 @@
 //! Token buckets.
 
 ghost use Rattle.std.specs.Prelude.{◌≡◌, ◌⊎◌, ◌↔◌, IfOk, IfErr, Err};
-ghost use Rattle.upp_limits.specs.rational.specs.Rational.{ℚ, ◌≤ℚ◌};
-ghost use Rattle.upp_limits.specs.upp_curve.specs.Curve.{value_at};
-ghost use Rattle.upp_limits.specs.min_plus.specs.Functions.{zero_q};
-ghost use Rattle.upp_limits.specs.upp_curve.specs.Kinds.{bucket};
-ghost use Rattle.upp_limits.specs.min_plus.specs.Formulas.{bucket_value};
+ghost use Rattle.rational.specs.Rational.{ℚ, ◌≤ℚ◌};
+ghost use Rattle.upp_curve.specs.Curve.{value_at};
+ghost use Rattle.min_plus.specs.Functions.{zero_q};
+ghost use Rattle.upp_curve.specs.Kinds.{bucket};
+ghost use Rattle.min_plus.specs.Formulas.{bucket_value};
 ghost use Rattle.curve_library.specs.Causes.{OneNegative};
 
 use crate::fault::CurveFault;
 use crate::formed::piece;
 use crate::signs::is_negative;
+use fraction128::Frac;
 use std::alloc::Global;
-use upp_limits::fraction128::Frac;
-use upp_limits::upp_curve::{Curve, Tail};
+use upp_curve::{Curve, Tail};
 
 // A bucket whose numbers may have any sign.
 fn any_bucket(alloc: Global, burst: Frac, rate: Frac) -> Result<Curve, CurveFault>

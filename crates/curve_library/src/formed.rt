@@ -1,21 +1,21 @@
 //! Curves whose fields are known to be a normal form.
 
 ghost use Rattle.std.specs.Prelude.{◌≡◌, MatchResult};
-ghost use Rattle.upp_limits.specs.upp_curve.specs.Curve.{SpecCurve};
-ghost use Rattle.upp_limits.specs.min_plus.specs.Functions.{zero_q};
-ghost use Rattle.upp_limits.specs.upp_curve.specs.Kinds.{piece, flat, bucket};
-ghost use Rattle.upp_limits.specs.upp_curve.specs.Normal.{IsNormal};
+ghost use Rattle.upp_curve.specs.Curve.{SpecCurve};
+ghost use Rattle.min_plus.specs.Functions.{zero_q};
+ghost use Rattle.upp_curve.specs.Kinds.{piece, flat, bucket};
+ghost use Rattle.upp_curve.specs.Normal.{IsNormal};
 ghost use Rattle.upp_normal.specs.Normalising.{raw_curve};
 ghost use Rattle.upp_limits.specs.OwnLimits.{IsWithinOwn};
 ghost use Rattle.curve_library.specs.Causes.{KeepsOwnLimits};
 
 use crate::fault::CurveFault;
+use fraction128::Frac;
+use rational::Extended;
 use std::alloc::Global;
-use upp_limits::fraction128::Frac;
+use upp_curve::affine_segment::{Line, Piece};
+use upp_curve::{Curve, Tail};
 use upp_limits::over_own_limit;
-use upp_limits::rational::Extended;
-use upp_limits::upp_curve::affine_segment::{Line, Piece};
-use upp_limits::upp_curve::{Curve, Tail};
 use upp_normal::{RawCurve, normalise};
 
 /// A piece at x with a value and the line after it, by its value at 0 and its slope.

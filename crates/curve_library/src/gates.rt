@@ -1,11 +1,11 @@
 //! Gates.
 
 ghost use Rattle.std.specs.Prelude.{◌≡◌, ◌≢◌, ◌≤◌, ◌^◌, IfOk, Err, MatchOption};
-ghost use Rattle.upp_limits.specs.rational.specs.Rational.{ℚ, ◌≤ℚ◌, ◌<ℚ◌};
-ghost use Rattle.upp_limits.specs.upp_curve.specs.Curve.{value_at};
-ghost use Rattle.upp_limits.specs.min_plus.specs.Functions.{zero_q};
-ghost use Rattle.upp_limits.specs.upp_curve.specs.Kinds.{gated, gate};
-ghost use Rattle.upp_limits.specs.min_plus.specs.Formulas.{gate_value};
+ghost use Rattle.rational.specs.Rational.{ℚ, ◌≤ℚ◌, ◌<ℚ◌};
+ghost use Rattle.upp_curve.specs.Curve.{value_at};
+ghost use Rattle.min_plus.specs.Functions.{zero_q};
+ghost use Rattle.upp_curve.specs.Kinds.{gated, gate};
+ghost use Rattle.min_plus.specs.Formulas.{gate_value};
 ghost use Rattle.upp_limits.specs.Limits.{own_gauge};
 ghost use Rattle.upp_limits.specs.declared.own_limits.OverLimit.TheVariants.{TooMany};
 ghost use Rattle.curve_library.specs.Causes.{OneNegative, NoSlot, KeepsOwnLimits, KeepsCauses, AnswersFirst};
@@ -14,10 +14,10 @@ ghost use Rattle.curve_library.specs.Parts.{AreGateNumbers};
 use crate::fault::CurveFault;
 use crate::formed::{flat, of_normal, piece, straight};
 use crate::signs::{is_negative, is_positive};
+use fraction128::{Frac, is_less};
 use std::alloc::Global;
+use upp_curve::{Curve, Tail};
 use upp_limits::OverLimit;
-use upp_limits::fraction128::{Frac, is_less};
-use upp_limits::upp_curve::{Curve, Tail};
 
 /// How long a gate is closed in each cycle, what its rate would make in that time, and what it makes in a slot.
 #[derive(Clone, Copy)]

@@ -1,21 +1,21 @@
 //! A rate after a latency.
 
 ghost use Rattle.std.specs.Prelude.{◌≡◌, ◌≢◌, IfOk, Err};
-ghost use Rattle.upp_limits.specs.rational.specs.Rational.{ℚ, ◌≤ℚ◌, ◌<ℚ◌};
-ghost use Rattle.upp_limits.specs.upp_curve.specs.Curve.{value_at};
-ghost use Rattle.upp_limits.specs.min_plus.specs.Functions.{zero_q};
-ghost use Rattle.upp_limits.specs.upp_curve.specs.Kinds.{after_latency, rate_latency};
-ghost use Rattle.upp_limits.specs.min_plus.specs.Formulas.{rate_latency_value};
+ghost use Rattle.rational.specs.Rational.{ℚ, ◌≤ℚ◌, ◌<ℚ◌};
+ghost use Rattle.upp_curve.specs.Curve.{value_at};
+ghost use Rattle.min_plus.specs.Functions.{zero_q};
+ghost use Rattle.upp_curve.specs.Kinds.{after_latency, rate_latency};
+ghost use Rattle.min_plus.specs.Formulas.{rate_latency_value};
 ghost use Rattle.upp_limits.specs.declared.own_limits.OverLimit.TheVariants.{TooMany};
 ghost use Rattle.curve_library.specs.Causes.{OneNegative, KeepsOwnLimits, KeepsCauses, AnswersFirst};
 
 use crate::fault::CurveFault;
 use crate::formed::{flat, of_normal, piece, straight};
 use crate::signs::{is_negative, is_positive};
+use fraction128::Frac;
 use std::alloc::Global;
+use upp_curve::{Curve, Tail};
 use upp_limits::OverLimit;
-use upp_limits::fraction128::Frac;
-use upp_limits::upp_curve::{Curve, Tail};
 
 // A rate above 0 after a latency above 0. Where their product does not fit, the gauge is past its limit.
 fn after_latency(alloc: Global, rate: Frac, latency: Frac) -> Result<Curve, CurveFault>

@@ -1,9 +1,9 @@
 //! A curve that is listed piece by piece.
 
 ghost use Rattle.std.specs.Prelude.{◌≡◌, ◌↔◌, IsTrue, Err};
-ghost use Rattle.upp_limits.specs.upp_curve.specs.Curve.{SpecCurve, value_at};
-ghost use Rattle.upp_limits.specs.min_plus.specs.Functions.{zero_q, IsRising};
-ghost use Rattle.upp_limits.specs.upp_curve.specs.Normal.{IsRaw};
+ghost use Rattle.upp_curve.specs.Curve.{SpecCurve, value_at};
+ghost use Rattle.min_plus.specs.Functions.{zero_q, IsRising};
+ghost use Rattle.upp_curve.specs.Normal.{IsRaw};
 ghost use Rattle.curve_library.specs.Listed.{listed_curve, IsWellFormed, KeepsMade, KeepsShape, KeepsBoth, KeepsListed, ListsFirst};
 ghost use Rattle.curve_library.specs.declared.texts.UseAs.{UseAs};
 ghost use Rattle.curve_library.specs.declared.texts.UseAs.TheVariants.{Service};
@@ -14,11 +14,11 @@ use crate::text_pieces::{pieces_of, tail_of};
 use crate::texts::{
     PieceText, TailText, UseAs, are_nonneg, has_length, is_nonneg_tail, starts_below, starts_rise,
 };
+use fraction128::{Ext, Frac};
+use rational::Extended;
 use std::alloc::Global;
-use upp_limits::fraction128::{Ext, Frac};
-use upp_limits::rational::Extended;
-use upp_limits::upp_curve::affine_segment::Piece;
-use upp_limits::upp_curve::{Curve, Tail, is_continuous};
+use upp_curve::affine_segment::Piece;
+use upp_curve::{Curve, Tail, is_continuous};
 use upp_limits::{OpFault, OverLimit};
 use upp_normal::{RawCurve, normalise};
 

@@ -2,11 +2,11 @@
 //! fit.
 
 ghost use Rattle.std.specs.Prelude.{◌≡◌, ◌+◌, ◌*◌, ◌/◌, ◌-◌, ◌<◌, ◌≤◌, ◌^◌, pos, nat_abs, MatchOption};
-ghost use Rattle.upp_limits.specs.rational.specs.Rational.{int, den, ◌*ℚ◌, ◌≤ℚ◌, ◌<ℚ◌};
-ghost use Rattle.upp_limits.specs.min_plus.specs.Functions.{zero_q};
+ghost use Rattle.rational.specs.Rational.{int, den, ◌*ℚ◌, ◌≤ℚ◌, ◌<ℚ◌};
+ghost use Rattle.min_plus.specs.Functions.{zero_q};
 ghost use Rattle.curve_library.specs.Shares.{IsQuotient, SharesFit, AreShares};
 
-use upp_limits::fraction128::{Frac, least_common_multiple};
+use fraction128::{Frac, least_common_multiple};
 
 /// 2^127.
 pub(crate) const PAST_LARGEST: u128 = 1 << 127;

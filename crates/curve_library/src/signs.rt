@@ -1,10 +1,10 @@
 //! On which side of 0 a number lies.
 
 ghost use Rattle.std.specs.Prelude.{◌↔◌, IsTrue};
-ghost use Rattle.upp_limits.specs.rational.specs.Rational.{◌<ℚ◌};
-ghost use Rattle.upp_limits.specs.min_plus.specs.Functions.{zero_q};
+ghost use Rattle.rational.specs.Rational.{◌<ℚ◌};
+ghost use Rattle.min_plus.specs.Functions.{zero_q};
 
-use upp_limits::fraction128::{Frac, is_less};
+use fraction128::{Frac, is_less};
 
 /// Whether it is below 0.
 pub(crate) fn is_negative(x: Frac) -> bool

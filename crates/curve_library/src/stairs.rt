@@ -1,12 +1,12 @@
 //! Stairs of packets.
 
 ghost use Rattle.std.specs.Prelude.{◌≡◌, ◌≢◌, suc, ◌+◌, ◌*◌, ◌<◌, ◌≤◌, ◌^◌, pos, IfOk, Err, MatchOption};
-ghost use Rattle.upp_limits.specs.rational.specs.Rational.{ℚ, int, ◌+ℚ◌, ◌-ℚ◌, ◌*ℚ◌, ◌≤ℚ◌, ◌<ℚ◌};
-ghost use Rattle.upp_limits.specs.upp_curve.specs.Curve.{value_at};
-ghost use Rattle.upp_limits.specs.min_plus.specs.Functions.{zero_q};
-ghost use Rattle.upp_limits.specs.upp_curve.specs.Kinds.{flat, steps, stair};
-ghost use Rattle.upp_limits.specs.min_plus.specs.Formulas.{stair_value};
-ghost use Rattle.upp_limits.specs.upp_curve.specs.Normal.{IsNormal};
+ghost use Rattle.rational.specs.Rational.{ℚ, int, ◌+ℚ◌, ◌-ℚ◌, ◌*ℚ◌, ◌≤ℚ◌, ◌<ℚ◌};
+ghost use Rattle.upp_curve.specs.Curve.{value_at};
+ghost use Rattle.min_plus.specs.Functions.{zero_q};
+ghost use Rattle.upp_curve.specs.Kinds.{flat, steps, stair};
+ghost use Rattle.min_plus.specs.Formulas.{stair_value};
+ghost use Rattle.upp_curve.specs.Normal.{IsNormal};
 ghost use Rattle.upp_limits.specs.declared.own_limits.OverLimit.TheVariants.{TooMany};
 ghost use Rattle.curve_library.specs.Causes.{KeepsOwnLimits, KeepsCauses, AnswersFirst};
 ghost use Rattle.curve_library.specs.Parts.{SecondFits};
@@ -15,11 +15,11 @@ use crate::fault::CurveFault;
 use crate::formed::{flat, of_normal, straight};
 use crate::shares::{PAST_LARGEST, whole, whole_periods};
 use crate::signs::{is_negative, is_positive};
+use fraction128::Frac;
 use std::alloc::Global;
+use upp_curve::affine_segment::Piece;
+use upp_curve::{Curve, Tail};
 use upp_limits::OverLimit;
-use upp_limits::fraction128::Frac;
-use upp_limits::upp_curve::affine_segment::Piece;
-use upp_limits::upp_curve::{Curve, Tail};
 
 /// The first packet and so many more that come early; None where that is 2^127 or more.
 fn packets(packet: u32, early: u128) -> Option<Frac>

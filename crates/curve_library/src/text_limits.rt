@@ -2,8 +2,8 @@
 
 ghost use Rattle.std.specs.Prelude.{◌≡◌, ◌↔◌, ◌+◌, ◌<◌, ◌^◌, List, [], ◌∷◌, drop, length, IfSome, IsSome, IsTrue, MatchOption};
 ghost use Rattle.std.specs.List.{AllByRecursion};
-ghost use Rattle.upp_limits.specs.rational.specs.Rational.{◌<ℚ◌};
-ghost use Rattle.upp_limits.specs.upp_curve.specs.affine_segment.Pieces.{Each, start_after};
+ghost use Rattle.rational.specs.Rational.{◌<ℚ◌};
+ghost use Rattle.upp_curve.specs.affine_segment.Pieces.{Each, start_after};
 ghost use Rattle.upp_limits.specs.ClosedForm.{closed_spans, span_numbers, tail_numbers};
 ghost use Rattle.upp_limits.specs.Gathered.{Gathers};
 ghost use Rattle.upp_limits.specs.Limits.{Numbers, joined, time_alone, sizes_of, gauge_of, own_end, own_gauge};
@@ -16,11 +16,11 @@ ghost use Rattle.curve_library.specs.Listed.{text_piece, text_pieces, text_tail,
 
 use crate::text_pieces::{last_start_of, piece_of};
 use crate::texts::{PieceText, TailText};
-use upp_limits::fraction128::Frac;
+use fraction128::Frac;
+use upp_curve::Tail;
+use upp_curve::affine_segment::Piece;
 use upp_limits::gathered::Gathered;
 use upp_limits::gauges::{product, reach};
-use upp_limits::upp_curve::Tail;
-use upp_limits::upp_curve::affine_segment::Piece;
 use upp_limits::{OverLimit, keeps_line, later_unless};
 
 // ---- the window

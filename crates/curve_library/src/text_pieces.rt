@@ -5,11 +5,11 @@ ghost use Rattle.curve_library.specs.Listed.{text_line, text_piece, text_pieces,
 
 use crate::formed;
 use crate::texts::{PieceText, TailText};
+use fraction128::Frac;
+use rational::Extended;
 use std::alloc::Global;
-use upp_limits::fraction128::Frac;
-use upp_limits::rational::Extended;
-use upp_limits::upp_curve::Tail;
-use upp_limits::upp_curve::affine_segment::{Line, Piece};
+use upp_curve::Tail;
+use upp_curve::affine_segment::{Line, Piece};
 
 // The line of a piece; None where a step to it does not fit.
 fn line_of(p: &PieceText) -> Option<Line>

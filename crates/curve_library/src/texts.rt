@@ -2,13 +2,13 @@
 
 ghost use Rattle.std.specs.Prelude.{◌≡◌, ◌↔◌, IsTrue};
 ghost use Rattle.std.specs.List.{AllByRecursion};
-ghost use Rattle.upp_limits.specs.rational.specs.Rational.{◌+ℚ◌, ◌≤ℚ◌, ◌<ℚ◌};
-ghost use Rattle.upp_limits.specs.min_plus.specs.Functions.{zero_q};
-ghost use Rattle.upp_limits.specs.upp_curve.specs.affine_segment.Pieces.{RisesFrom, StartsAtZero};
+ghost use Rattle.rational.specs.Rational.{◌+ℚ◌, ◌≤ℚ◌, ◌<ℚ◌};
+ghost use Rattle.min_plus.specs.Functions.{zero_q};
+ghost use Rattle.upp_curve.specs.affine_segment.Pieces.{RisesFrom, StartsAtZero};
 ghost use Rattle.curve_library.specs.Listed.{IsNonnegText, IsNonnegTail, HasLength, StartsBelow, text_pieces};
 
 use crate::signs::{is_negative, is_positive};
-use upp_limits::fraction128::{Frac, is_less};
+use fraction128::{Frac, is_less};
 use upp_limits::is_after;
 
 /// A piece: its start, the value at it, the value just after it, and the slope from there to the next start.

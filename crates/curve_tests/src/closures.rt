@@ -4,15 +4,15 @@ ghost use Rattle.std.specs.Prelude.{◌≡◌, ◌<◌};
 
 use crate::services::late;
 use crate::shapes::{bucket, repeating};
+use fraction128::Frac;
 use outcomes::Steps;
 use std::alloc::Global;
 use std::marker::Brand;
 use std::sync::ledger::{Blank, Ledger};
 use std::test::Fail;
 use subadd_closure::is_subadditive;
+use upp_curve::Curve;
 use upp_limits::OpFault;
-use upp_limits::fraction128::Frac;
-use upp_limits::upp_curve::Curve;
 
 fn told<L: Ledger>(alloc: Global, blank: Blank, f: &Curve) -> Result<bool, OpFault>
     requires name { blank.name ≡ L.name }

@@ -5,13 +5,13 @@ ghost use Rattle.std.specs.Prelude.{◌≡◌, ◌<◌};
 use crate::shapes::{curve, piece, ratio, repeating, repeats, value, whole};
 use curve_conv::convolve;
 use outcomes::Steps;
+use rational::Extended;
 use std::alloc::Global;
 use std::marker::Brand;
 use std::sync::ledger::{Blank, Ledger};
 use std::test::Fail;
+use upp_curve::{Curve, Tail, equal};
 use upp_limits::OpFault;
-use upp_limits::rational::Extended;
-use upp_limits::upp_curve::{Curve, Tail, equal};
 
 // One value at a time, and none elsewhere.
 fn point(alloc: Global, x: i128, v: i128) -> Result<Curve, OpFault> {

@@ -4,15 +4,15 @@ ghost use Rattle.std.specs.Prelude.{◌≡◌, ◌<◌};
 
 use crate::shapes::{bucket, curve, piece, value, whole};
 use curve_deconv::deconvolve;
+use fraction128::Frac;
 use outcomes::Steps;
+use rational::Extended;
 use std::alloc::Global;
 use std::marker::Brand;
 use std::sync::ledger::{Blank, Ledger};
 use std::test::Fail;
+use upp_curve::{Curve, Tail};
 use upp_limits::OpFault;
-use upp_limits::fraction128::Frac;
-use upp_limits::rational::Extended;
-use upp_limits::upp_curve::{Curve, Tail};
 
 fn deconvolved<L: Ledger>(
     alloc: Global,

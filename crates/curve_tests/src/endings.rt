@@ -7,16 +7,16 @@
 ghost use Rattle.std.specs.Prelude.{◌≡◌, ◌<◌};
 
 use crate::shapes::{curve, piece, repeating, value, whole};
+use fraction128::Frac;
 use outcomes::Steps;
 use plain_operators::pointwise::{max, min, pos_diff, scale, shift, sum};
+use rational::Extended;
 use std::alloc::Global;
 use std::marker::Brand;
 use std::sync::ledger::{Blank, Ledger};
 use std::test::Fail;
+use upp_curve::{Curve, Tail};
 use upp_limits::OpFault;
-use upp_limits::fraction128::Frac;
-use upp_limits::rational::Extended;
-use upp_limits::upp_curve::{Curve, Tail};
 
 fn ramp(alloc: Global) -> Result<Curve, OpFault> {
     let first = piece(0, Extended::Fin(Frac::one()), Some((1, 1)));

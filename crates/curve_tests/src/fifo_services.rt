@@ -1,25 +1,25 @@
 //! Services worked out by hand, by the wait that the horizontal deviation of the two curves is.
 
 ghost use Rattle.std.specs.Prelude.{◌≡◌, ◌<◌, pos, IsTrue};
-ghost use Rattle.upp_limits.specs.rational.specs.Rational.{int};
-ghost use Rattle.upp_limits.specs.rational.specs.Extended.{◌≤ₑ◌};
-ghost use Rattle.upp_limits.specs.rational.specs.declared.Extended.TheVariants.{Fin};
-ghost use Rattle.upp_limits.specs.upp_curve.specs.Curve.{value_at};
+ghost use Rattle.rational.specs.Rational.{int};
+ghost use Rattle.rational.specs.Extended.{◌≤ₑ◌};
+ghost use Rattle.rational.specs.declared.Extended.TheVariants.{Fin};
+ghost use Rattle.upp_curve.specs.Curve.{value_at};
 
 use crate::services::late;
 use crate::shapes::{bucket, ratio, repeating, value, whole};
 use curve_deviation::horizontal;
+use fraction128::{Ext, Frac};
 use outcomes::Steps;
+use rational::Extended;
 use residuals::fifo::fifo_service;
 use std::alloc::Global;
 use std::cmp::Ordering;
 use std::marker::Brand;
 use std::sync::ledger::{Blank, Ledger};
 use std::test::Fail;
+use upp_curve::{Curve, equal};
 use upp_limits::OpFault;
-use upp_limits::fraction128::{Ext, Frac};
-use upp_limits::rational::Extended;
-use upp_limits::upp_curve::{Curve, equal};
 
 // Whether that is a number from 0 on.
 fn is_high(v: Ext) -> bool

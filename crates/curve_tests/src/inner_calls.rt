@@ -1,27 +1,23 @@
 //! Public calls that whole commands reach only from inside others, each for one row worked out by hand.
 
 ghost use Rattle.std.specs.Prelude.{◌≡◌, IsTrue, pos};
-ghost use Rattle.plain_operators.specs.curve_call.specs.Worked.{level_pieces, ramp_pieces};
-ghost use Rattle.upp_limits.specs.rational.specs.Rational.{◌≤ℚ◌, int};
-ghost use Rattle.upp_limits.specs.upp_curve.specs.affine_segment.Elements.{IsProper};
-ghost use Rattle.upp_limits.specs.upp_curve.specs.Curves.{IsCurve};
-ghost use Rattle.upp_limits.specs.upp_curve.specs.Steady.{IsWholePeriods, steady};
+ghost use Rattle.curve_call.specs.Worked.{level_pieces, ramp_pieces};
+ghost use Rattle.rational.specs.Rational.{◌≤ℚ◌, int};
+ghost use Rattle.upp_curve.specs.affine_segment.Elements.{IsProper};
+ghost use Rattle.upp_curve.specs.Curves.{IsCurve};
+ghost use Rattle.upp_curve.specs.Steady.{IsWholePeriods, steady};
 
 use crate::shapes::{bucket, line, line_piece, piece, ratio, repeating, value, whole};
+use curve_call::{Both, least_periods, overlay, window_excess, window_max, window_min, window_sum};
 use curve_library::stair;
 use element_envelope::{cut, joined_window};
-use plain_operators::curve_call::{
-    Both, least_periods, overlay, window_excess, window_max, window_min, window_sum,
-};
+use fraction128::{Frac, is_less};
+use rational::Extended;
 use std::alloc::{AllocError, Global};
 use std::test::Fail;
 use subadd_closure::{point_closure, segment_closure};
-use upp_limits::fraction128::{Frac, is_less};
-use upp_limits::rational::Extended;
-use upp_limits::upp_curve::affine_segment::{
-    Element, Joined, Line, Piece, element_conv, is_before,
-};
-use upp_limits::upp_curve::{Curve, Tail, equal};
+use upp_curve::affine_segment::{Element, Joined, Line, Piece, element_conv, is_before};
+use upp_curve::{Curve, Tail, equal};
 use upp_limits::{OpFault, OpKind, gauge};
 use upp_normal::{RawCurve, Stretch, normalise, pieces_to, steady_time, stretch_at};
 

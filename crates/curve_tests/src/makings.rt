@@ -1,12 +1,12 @@
 //! The trait of calls can be met.
 
-ghost use Rattle.plain_operators.specs.curve_call.specs.Again.{IsAgain, again_determined};
+ghost use Rattle.curve_call.specs.Again.{IsAgain, again_determined};
 
 use crate::shapes::bucket;
-use plain_operators::curve_call::{Making, calls_in_turn, intact};
+use curve_call::{Making, calls_in_turn, intact};
 use std::test::Fail;
+use upp_curve::{Curve, equal};
 use upp_limits::OpFault;
-use upp_limits::upp_curve::{Curve, equal};
 
 // The curve again.
 #[derive(Drop)]

@@ -4,6 +4,7 @@ ghost use Rattle.std.specs.Prelude.{◌≡◌, ◌<◌};
 
 use crate::shapes::{bucket, ratio, whole};
 use curve_library::rate_latency;
+use fraction128::Frac;
 use outcomes::Steps;
 use residuals::drr::drr_service;
 use residuals::packetiser::packetised;
@@ -12,9 +13,8 @@ use std::alloc::Global;
 use std::marker::Brand;
 use std::sync::ledger::{Blank, Ledger};
 use std::test::Fail;
+use upp_curve::{Curve, equal};
 use upp_limits::OpFault;
-use upp_limits::fraction128::Frac;
-use upp_limits::upp_curve::{Curve, equal};
 
 /// A rate after a latency. Refused with TooMany where there is none.
 pub(crate) fn late(alloc: Global, rate: Frac, latency: Frac) -> Result<Curve, OpFault> {

@@ -1,18 +1,18 @@
 //! Numbers, pieces and curves for the tests of the crates above: short to write, and read by hand.
 
 ghost use Rattle.std.specs.Prelude.{◌≡◌, ◌≢◌, pos, IfOk, IfSome};
-ghost use Rattle.upp_limits.specs.rational.specs.Rational.{int};
-ghost use Rattle.upp_limits.specs.rational.specs.Ratio.{IsSmall, ratio};
-ghost use Rattle.upp_limits.specs.rational.specs.declared.Extended.TheVariants.{Fin};
-ghost use Rattle.upp_limits.specs.upp_curve.specs.Curve.{HasSameValues, value_at};
-ghost use Rattle.upp_limits.specs.upp_curve.specs.declared.curve.Tail.TheVariants.{Periodic};
+ghost use Rattle.rational.specs.Rational.{int};
+ghost use Rattle.rational.specs.Ratio.{IsSmall, ratio};
+ghost use Rattle.rational.specs.declared.Extended.TheVariants.{Fin};
+ghost use Rattle.upp_curve.specs.Curve.{HasSameValues, value_at};
+ghost use Rattle.upp_curve.specs.declared.curve.Tail.TheVariants.{Periodic};
 
+use fraction128::{Ext, Frac, is_less};
+use rational::Extended;
 use std::alloc::Global;
+use upp_curve::affine_segment::{Line, Piece};
+use upp_curve::{Curve, Tail};
 use upp_limits::OpFault;
-use upp_limits::fraction128::{Ext, Frac, is_less};
-use upp_limits::rational::Extended;
-use upp_limits::upp_curve::affine_segment::{Line, Piece};
-use upp_limits::upp_curve::{Curve, Tail};
 use upp_normal::{RawCurve, normalise};
 
 /// num / den, and 0 where that is no `Frac`.

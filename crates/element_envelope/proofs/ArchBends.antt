@@ -2,40 +2,40 @@
 use Rattle.std.specs.Prelude.{◌≡◌, ℕ, suc, ◌<◌, ◌*◌, pos, false, List, [], ◌∷◌, Option, Some, None, ◌⊎◌}
 use Rattle.std.proofs.Common.{arith, sym, ap, ap₂, ◌∙◌, refl, subst, inl, inr}
 use Rattle.std.proofs.lemmas.Int.{ints}
-use Rattle.upp_limits.specs.rational.specs.Rational.{ℚ, ◌+ℚ◌, ◌-ℚ◌, ◌*ℚ◌, ◌/ℚ◌, ◌≤ℚ◌, ◌<ℚ◌, int}
-use Rattle.upp_limits.specs.rational.specs.Grid.{Whole}
-use Rattle.upp_limits.specs.rational.specs.Whole.{whole_part, periods}
-use Rattle.upp_limits.specs.rational.specs.Extended.{Ext, ◌≤ₑ◌, ◌+ₑ◌}
-use Rattle.upp_limits.specs.rational.specs.declared.Extended.TheVariants.{Fin, Inf}
-use Rattle.upp_limits.specs.rational.proofs.Linear.{with1, with2, with3, with4, with5, with7}
-use Rattle.upp_limits.specs.rational.proofs.Laws.{le_or_lt, lt_cases, le_refl, le_trans, le_of_lt, between, half, half_is, half_pos, mul_add, mul_sub, div_mul, mul_nonneg, mul_lt_mul_right, le_of_mul, lt_of_mul, not_zero, lt_trans}
-use Rattle.upp_limits.specs.rational.proofs.Integers.{nat_nonneg, nat_lt, int_lt_out}
-use Rattle.upp_limits.specs.rational.proofs.Whole.{whole_le, whole_gt}
-use Rattle.upp_limits.specs.upp_curve.specs.declared.affine_segment.line.Line.{Line}
-use Rattle.upp_limits.specs.upp_curve.specs.declared.affine_segment.line.Piece.{Piece}
-use Rattle.upp_limits.specs.upp_curve.specs.affine_segment.Values.{line_at, line_value}
-use Rattle.upp_limits.specs.upp_curve.specs.affine_segment.Reading.{read}
-use Rattle.upp_limits.specs.upp_curve.specs.affine_segment.Pieces.{Each, RisesFrom}
-use Rattle.upp_limits.specs.upp_curve.specs.Normal.{Continues, NoneContinues, FitsPeriod}
+use Rattle.rational.specs.Rational.{ℚ, ◌+ℚ◌, ◌-ℚ◌, ◌*ℚ◌, ◌/ℚ◌, ◌≤ℚ◌, ◌<ℚ◌, int}
+use Rattle.rational.specs.Grid.{Whole}
+use Rattle.rational.specs.Whole.{whole_part, periods}
+use Rattle.rational.specs.Extended.{Ext, ◌≤ₑ◌, ◌+ₑ◌}
+use Rattle.rational.specs.declared.Extended.TheVariants.{Fin, Inf}
+use Rattle.rational.proofs.Linear.{with1, with2, with3, with4, with5, with7}
+use Rattle.rational.proofs.Laws.{le_or_lt, lt_cases, le_refl, le_trans, le_of_lt, between, half, half_is, half_pos, mul_add, mul_sub, div_mul, mul_nonneg, mul_lt_mul_right, le_of_mul, lt_of_mul, not_zero, lt_trans}
+use Rattle.rational.proofs.Integers.{nat_nonneg, nat_lt, int_lt_out}
+use Rattle.rational.proofs.Whole.{whole_le, whole_gt}
+use Rattle.upp_curve.specs.declared.affine_segment.line.Line.{Line}
+use Rattle.upp_curve.specs.declared.affine_segment.line.Piece.{Piece}
+use Rattle.upp_curve.specs.affine_segment.Values.{line_at, line_value}
+use Rattle.upp_curve.specs.affine_segment.Reading.{read}
+use Rattle.upp_curve.specs.affine_segment.Pieces.{Each, RisesFrom}
+use Rattle.upp_curve.specs.Normal.{Continues, NoneContinues, FitsPeriod}
 use Rattle.element_envelope.specs.Arches.{IsBare, IsAround, Arches}
 use Rattle.std.proofs.lemmas.Nat.Gcd.{dvd_refl}
 use native.Mathlib.Nat.{dvd-mul_left}
-use Rattle.upp_limits.specs.rational.proofs.Grid.{whole_int, whole_weaken}
-use Rattle.upp_limits.specs.upp_curve.specs.Curve.{repeated}
-use Rattle.upp_limits.specs.upp_curve.specs.Steady.{Repeats}
+use Rattle.rational.proofs.Grid.{whole_int, whole_weaken}
+use Rattle.upp_curve.specs.Curve.{repeated}
+use Rattle.upp_curve.specs.Steady.{Repeats}
 use Rattle.upp_limits.specs.Limits.{Sizes}
 use Rattle.upp_limits.specs.Sized.{grid_of}
-use Rattle.curve_call.specs.upp_normal.specs.Operand.{AreLimited}
-use Rattle.curve_call.specs.upp_normal.specs.Bends.{ValueOn, LineOn, SlopeTurns, BendAfter, OnlyBend}
-use Rattle.curve_call.specs.upp_normal.specs.Normalising.{IsMerged, OnGridsUnlessLine}
-use Rattle.curve_call.specs.upp_normal.proofs.Bends.{bends_on}
-use Rattle.upp_limits.specs.upp_curve.proofs.affine_segment.PieceIn.{value_past, value_at_start, read_first, read_stop, read_go, read_one}
-use Rattle.curve_call.specs.upp_normal.proofs.NormaliseForm.{each_part}
-use Rattle.curve_call.specs.upp_normal.proofs.NormaliseGrids.{merge_of}
-use Rattle.upp_limits.specs.upp_curve.proofs.affine_segment.PieceOrder.{each_map}
+use Rattle.upp_normal.specs.Operand.{AreLimited}
+use Rattle.upp_normal.specs.Bends.{ValueOn, LineOn, SlopeTurns, BendAfter, OnlyBend}
+use Rattle.upp_normal.specs.Normalising.{IsMerged, OnGridsUnlessLine}
+use Rattle.upp_normal.proofs.Bends.{bends_on}
+use Rattle.upp_curve.proofs.affine_segment.PieceIn.{value_past, value_at_start, read_first, read_stop, read_go, read_one}
+use Rattle.upp_normal.proofs.NormaliseForm.{each_part}
+use Rattle.upp_normal.proofs.NormaliseGrids.{merge_of}
+use Rattle.upp_curve.proofs.affine_segment.PieceOrder.{each_map}
 use Rattle.curve_call.proofs.TailGrids.{TailOf, grids_nest}
 use Rattle.element_envelope.specs.SumWindows.{SumValueAt, SumLineAt, SumPiece, SumWindow}
-use Rattle.upp_limits.specs.upp_curve.proofs.affine_segment.LineValues.{value_moved}
+use Rattle.upp_curve.proofs.affine_segment.LineValues.{value_moved}
 
 -- ---- where a time lies in a grid
 -- the stretch of a bare grid round a time

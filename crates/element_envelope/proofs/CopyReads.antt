@@ -1,31 +1,31 @@
 -- A copy of an operand's window as pieces: what is read of it, where its pieces stand, and that its steps fit.
 use Rattle.std.specs.Prelude.{◌≡◌, ◌*◌, pos, List, [], ◌∷◌, ◌++◌, Option, Some, None}
 use Rattle.std.proofs.Common.{arith, sym, ap, ◌∙◌, refl, subst, inl, inr}
-use Rattle.upp_limits.specs.rational.specs.Rational.{ℚ, ◌+ℚ◌, ◌-ℚ◌, ◌*ℚ◌, ◌≤ℚ◌, ◌<ℚ◌, int}
-use Rattle.upp_limits.specs.rational.specs.Ratio.{SumFits}
-use Rattle.upp_limits.specs.rational.specs.Extended.{Ext, ◌+ₑ◌}
-use Rattle.upp_limits.specs.rational.specs.declared.Extended.TheVariants.{Fin, Inf}
-use Rattle.upp_limits.specs.rational.proofs.Grid.{whole_add, whole_sub}
-use Rattle.upp_limits.specs.rational.proofs.Linear.{with2, with3}
-use Rattle.upp_limits.specs.rational.proofs.Laws.{le_or_lt, lt_irrefl, lt_le_trans}
-use Rattle.upp_limits.specs.upp_curve.specs.declared.affine_segment.line.Line.{Line}
-use Rattle.upp_limits.specs.upp_curve.specs.declared.affine_segment.line.Piece.{Piece}
-use Rattle.upp_limits.specs.upp_curve.specs.affine_segment.Pieces.{Each, RisesFrom, StartsAtZero}
-use Rattle.upp_limits.specs.upp_curve.specs.affine_segment.Reading.{read, nothing_at}
-use Rattle.upp_limits.specs.upp_curve.proofs.affine_segment.PieceOrder.{each_append, each_map}
-use Rattle.upp_limits.specs.upp_curve.specs.Fitting.{LaterFits}
-use Rattle.upp_limits.specs.upp_curve.specs.Unrolled.{line_later, later, each_later, upto}
-use Rattle.upp_limits.specs.upp_curve.proofs.Unique.{upto_some}
+use Rattle.rational.specs.Rational.{ℚ, ◌+ℚ◌, ◌-ℚ◌, ◌*ℚ◌, ◌≤ℚ◌, ◌<ℚ◌, int}
+use Rattle.rational.specs.Ratio.{SumFits}
+use Rattle.rational.specs.Extended.{Ext, ◌+ₑ◌}
+use Rattle.rational.specs.declared.Extended.TheVariants.{Fin, Inf}
+use Rattle.rational.proofs.Grid.{whole_add, whole_sub}
+use Rattle.rational.proofs.Linear.{with2, with3}
+use Rattle.rational.proofs.Laws.{le_or_lt, lt_irrefl, lt_le_trans}
+use Rattle.upp_curve.specs.declared.affine_segment.line.Line.{Line}
+use Rattle.upp_curve.specs.declared.affine_segment.line.Piece.{Piece}
+use Rattle.upp_curve.specs.affine_segment.Pieces.{Each, RisesFrom, StartsAtZero}
+use Rattle.upp_curve.specs.affine_segment.Reading.{read, nothing_at}
+use Rattle.upp_curve.proofs.affine_segment.PieceOrder.{each_append, each_map}
+use Rattle.upp_curve.specs.Fitting.{LaterFits}
+use Rattle.upp_curve.specs.Unrolled.{line_later, later, each_later, upto}
+use Rattle.upp_curve.proofs.Unique.{upto_some}
 use Rattle.upp_limits.specs.Limits.{Sizes}
 use Rattle.upp_limits.specs.Sized.{grid_of}
-use Rattle.curve_call.specs.upp_normal.specs.Ahead.{GridValue, IsGridValue}
-use Rattle.curve_call.specs.upp_normal.specs.Operand.{AreLimited, OperandLineAt, answer_room}
-use Rattle.curve_call.specs.upp_normal.specs.Room.{PieceHasRoom}
-use Rattle.curve_call.specs.upp_normal.proofs.AnswerRoom.{answer_is_room, operand_line_room, operand_value_room, room_at_start, value_in_room}
-use Rattle.curve_call.specs.upp_normal.proofs.NormaliseLists.{rises_moved}
-use Rattle.curve_call.specs.upp_normal.proofs.NormaliseLoops.{later_none, later_some}
-use Rattle.curve_call.specs.upp_normal.proofs.NormaliseRoom.{later_fits}
-use Rattle.curve_call.specs.upp_normal.proofs.UnrolledValues.{read_later}
+use Rattle.upp_normal.specs.Ahead.{GridValue, IsGridValue}
+use Rattle.upp_normal.specs.Operand.{AreLimited, OperandLineAt, answer_room}
+use Rattle.upp_normal.specs.Room.{PieceHasRoom}
+use Rattle.upp_normal.proofs.AnswerRoom.{answer_is_room, operand_line_room, operand_value_room, room_at_start, value_in_room}
+use Rattle.upp_normal.proofs.NormaliseLists.{rises_moved}
+use Rattle.upp_normal.proofs.NormaliseLoops.{later_none, later_some}
+use Rattle.upp_normal.proofs.NormaliseRoom.{later_fits}
+use Rattle.upp_normal.proofs.UnrolledValues.{read_later}
 use Rattle.element_envelope.specs.ElementRoom.{WindowTime}
 use Rattle.element_envelope.specs.ConvolutionWindows.{WindowPiece}
 use Rattle.element_envelope.specs.CopyPieces.{copy_start}

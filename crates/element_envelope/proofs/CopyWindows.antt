@@ -1,29 +1,29 @@
 -- The window of the least of copies: of one start, and from those of two halves of the starts; and the convolution of it.
 use Rattle.std.specs.Prelude.{◌≡◌, ◌⊎◌, ◌≤◌, ℕ, drop, pos, List, [], ◌∷◌, ◌++◌, Option, None, Result, Ok, Err, IfOk, Vec}
 use Rattle.std.proofs.Common.{arith, sym, ap, ◌∙◌, refl, subst, inl, inr, length, get_or, Global}
-use Rattle.upp_limits.specs.rational.specs.Rational.{ℚ, ◌+ℚ◌, ◌-ℚ◌, ◌≤ℚ◌, ◌<ℚ◌, int, neg_ℚ}
-use Rattle.upp_limits.specs.rational.specs.Ratio.{SumFits}
-use Rattle.upp_limits.specs.rational.specs.Extended.{◌+ₑ◌, min_ext}
-use Rattle.upp_limits.specs.rational.specs.declared.Extended.TheVariants.{Fin, Inf}
-use Rattle.upp_limits.specs.rational.proofs.Grid.{whole_int}
-use Rattle.upp_limits.specs.rational.proofs.Laws.{le_or_lt, le_of_lt, le_refl}
-use Rattle.upp_limits.specs.rational.proofs.Linear.{with3, with4}
-use Rattle.upp_limits.specs.rational.proofs.ExtendedOrder.{add_ext_comm}
-use Rattle.upp_limits.specs.upp_curve.specs.declared.affine_segment.line.Line.{Line}
-use Rattle.upp_limits.specs.upp_curve.specs.declared.affine_segment.line.Piece.{Piece}
-use Rattle.upp_limits.specs.upp_curve.specs.affine_segment.Pieces.{Each, StartsAtZero}
-use Rattle.upp_limits.specs.upp_curve.specs.affine_segment.Reading.{read, nothing_at}
-use Rattle.upp_limits.specs.upp_curve.proofs.affine_segment.PieceIn.{read_one, nothing_read}
-use Rattle.upp_limits.specs.upp_curve.proofs.affine_segment.PieceOrder.{each_left}
-use Rattle.upp_limits.specs.min_plus.specs.Convolution.{IsConvolution}
-use Rattle.upp_limits.specs.upp_curve.specs.Fitting.{LaterFits}
-use Rattle.upp_limits.specs.upp_curve.specs.Unrolled.{each_later, upto}
+use Rattle.rational.specs.Rational.{ℚ, ◌+ℚ◌, ◌-ℚ◌, ◌≤ℚ◌, ◌<ℚ◌, int, neg_ℚ}
+use Rattle.rational.specs.Ratio.{SumFits}
+use Rattle.rational.specs.Extended.{◌+ₑ◌, min_ext}
+use Rattle.rational.specs.declared.Extended.TheVariants.{Fin, Inf}
+use Rattle.rational.proofs.Grid.{whole_int}
+use Rattle.rational.proofs.Laws.{le_or_lt, le_of_lt, le_refl}
+use Rattle.rational.proofs.Linear.{with3, with4}
+use Rattle.rational.proofs.ExtendedOrder.{add_ext_comm}
+use Rattle.upp_curve.specs.declared.affine_segment.line.Line.{Line}
+use Rattle.upp_curve.specs.declared.affine_segment.line.Piece.{Piece}
+use Rattle.upp_curve.specs.affine_segment.Pieces.{Each, StartsAtZero}
+use Rattle.upp_curve.specs.affine_segment.Reading.{read, nothing_at}
+use Rattle.upp_curve.proofs.affine_segment.PieceIn.{read_one, nothing_read}
+use Rattle.upp_curve.proofs.affine_segment.PieceOrder.{each_left}
+use Rattle.min_plus.specs.Convolution.{IsConvolution}
+use Rattle.upp_curve.specs.Fitting.{LaterFits}
+use Rattle.upp_curve.specs.Unrolled.{each_later, upto}
 use Rattle.upp_limits.proofs.PieceCounts.{upto_early}
-use Rattle.curve_call.specs.upp_normal.specs.Ahead.{GridValue, IsGridValue}
-use Rattle.curve_call.specs.upp_normal.proofs.Below.{plain_upto}
-use Rattle.curve_call.specs.upp_normal.proofs.NormaliseCuts.{zero_upto, each_right}
-use Rattle.curve_call.specs.upp_normal.proofs.NormaliseLists.{each_upto}
-use Rattle.curve_call.specs.upp_normal.proofs.UnrolledPieces.{each_with}
+use Rattle.upp_normal.specs.Ahead.{GridValue, IsGridValue}
+use Rattle.upp_normal.proofs.Below.{plain_upto}
+use Rattle.upp_normal.proofs.NormaliseCuts.{zero_upto, each_right}
+use Rattle.upp_normal.proofs.NormaliseLists.{each_upto}
+use Rattle.upp_normal.proofs.UnrolledPieces.{each_with}
 use Rattle.curve_call.specs.Lower.{IsLowerOf}
 use Rattle.element_envelope.specs.ConvolutionWindows.{OperandWindows, IsConvolutionWindow, WindowPiece, WindowsFrom, IsConvolutionFrom}
 use Rattle.element_envelope.specs.Copies.{IsLeastCopy, LowAtStarts}

@@ -1,25 +1,25 @@
 -- The elements of pieces: where each is, what it reads, and that a time with a finite value is a time of exactly one.
 use Rattle.std.specs.Prelude.{◌≡◌, ◌⊎◌, pos, List, [], ◌∷◌, ◌++◌, Option, Some, None}
 use Rattle.std.proofs.Common.{sym, ap, ◌∙◌, refl, subst, inl, inr}
-use Rattle.upp_limits.specs.rational.specs.Rational.{ℚ, ◌≤ℚ◌, ◌<ℚ◌, int}
-use Rattle.upp_limits.specs.rational.specs.Extended.{Ext, ◌<ₑ◌}
-use Rattle.upp_limits.specs.rational.specs.declared.Extended.TheVariants.{Fin, Inf}
-use Rattle.upp_limits.specs.rational.proofs.Laws.{le_or_lt, le_of_lt, le_refl, le_trans, lt_irrefl, le_lt_trans, antisym}
-use Rattle.upp_limits.specs.rational.proofs.ExtendedOrder.{fin_same, lt_ext_trans}
-use Rattle.upp_limits.specs.upp_curve.specs.declared.affine_segment.line.Line.{Line}
-use Rattle.upp_limits.specs.upp_curve.specs.declared.affine_segment.line.Piece.{Piece}
-use Rattle.upp_limits.specs.upp_curve.specs.declared.affine_segment.element.Element.{Element}
-use Rattle.upp_limits.specs.upp_curve.specs.declared.affine_segment.element.Element.TheVariants.{Point, Open}
-use Rattle.upp_limits.specs.upp_curve.specs.affine_segment.Values.{line_value}
-use Rattle.upp_limits.specs.upp_curve.specs.affine_segment.Elements.{IsProper, Covers, level}
-use Rattle.upp_limits.specs.upp_curve.specs.affine_segment.Reading.{piece_value, read}
-use Rattle.upp_limits.specs.upp_curve.specs.affine_segment.Pieces.{RisesFrom, StartsAtZero}
-use Rattle.upp_limits.specs.upp_curve.proofs.affine_segment.PieceIn.{value_past, read_go, read_one, read_stop, value_by}
+use Rattle.rational.specs.Rational.{ℚ, ◌≤ℚ◌, ◌<ℚ◌, int}
+use Rattle.rational.specs.Extended.{Ext, ◌<ₑ◌}
+use Rattle.rational.specs.declared.Extended.TheVariants.{Fin, Inf}
+use Rattle.rational.proofs.Laws.{le_or_lt, le_of_lt, le_refl, le_trans, lt_irrefl, le_lt_trans, antisym}
+use Rattle.rational.proofs.ExtendedOrder.{fin_same, lt_ext_trans}
+use Rattle.upp_curve.specs.declared.affine_segment.line.Line.{Line}
+use Rattle.upp_curve.specs.declared.affine_segment.line.Piece.{Piece}
+use Rattle.upp_curve.specs.declared.affine_segment.element.Element.{Element}
+use Rattle.upp_curve.specs.declared.affine_segment.element.Element.TheVariants.{Point, Open}
+use Rattle.upp_curve.specs.affine_segment.Values.{line_value}
+use Rattle.upp_curve.specs.affine_segment.Elements.{IsProper, Covers, level}
+use Rattle.upp_curve.specs.affine_segment.Reading.{piece_value, read}
+use Rattle.upp_curve.specs.affine_segment.Pieces.{RisesFrom, StartsAtZero}
+use Rattle.upp_curve.proofs.affine_segment.PieceIn.{value_past, read_go, read_one, read_stop, value_by}
 use Rattle.element_envelope.specs.PieceElements.{point_of, segment_of, elements_of, StartBefore, Among, ElementAt}
 use Rattle.element_envelope.specs.ConvolutionLaws.{ElementsCover}
 use Rattle.element_envelope.proofs.Members.{among_left, among_right, among_cases}
-use Rattle.curve_call.specs.upp_normal.proofs.NormaliseGrids.{some_same}
-use Rattle.upp_limits.specs.upp_curve.proofs.affine_segment.LineValues.{line_found}
+use Rattle.upp_normal.proofs.NormaliseGrids.{some_same}
+use Rattle.upp_curve.proofs.affine_segment.LineValues.{line_found}
 
 -- ---- one piece
 abbrev pub head : ℚ → Ext → Option Line → Ext → List Element

@@ -1,34 +1,34 @@
 -- No step of the convolution of two elements of operands is too wide, and what they make stands on the call's grids.
 use Rattle.std.specs.Prelude.{◌≡◌, ℕ, ◌+◌, ◌*◌, ◌≤◌, pos, [], ◌∷◌, Some}
 use Rattle.std.proofs.Common.{arith, mul-le-mul_right, sym, ap, ◌∙◌, subst, inl, inr}
-use Rattle.upp_limits.specs.rational.specs.Rational.{ℚ, ◌+ℚ◌, ◌-ℚ◌, ◌*ℚ◌, neg_ℚ, ◌≤ℚ◌, int}
-use Rattle.upp_limits.specs.rational.specs.Ratio.{SumFits}
-use Rattle.upp_limits.specs.rational.specs.Extended.{Ext, ◌+ₑ◌}
-use Rattle.upp_limits.specs.rational.specs.declared.Extended.TheVariants.{Fin, Inf}
-use Rattle.upp_limits.specs.rational.specs.Grid.{Whole, Within}
-use Rattle.upp_limits.specs.rational.proofs.Grid.{whole_add, whole_sub, whole_neg, within_add, within_sub, within_neg, within_weaken, within_nonneg, within_mul}
-use Rattle.upp_limits.specs.rational.proofs.Sizes.{sum_on_grid}
-use Rattle.upp_limits.specs.rational.proofs.Integers.{nat_nonneg, nat_le, int_mul, int_add}
-use Rattle.upp_limits.specs.rational.proofs.Laws.{le_refl, le_trans, mul_le_mul, add_comm, mul_add, mul_assoc, mul_one, mul_comm}
-use Rattle.upp_limits.specs.rational.proofs.Linear.{with1, with2, with3, with_atoms}
-use Rattle.upp_limits.specs.fraction128.specs.declared.fault.Wide.{Wide}
-use Rattle.upp_limits.specs.upp_curve.specs.declared.affine_segment.line.Line.{Line}
-use Rattle.upp_limits.specs.upp_curve.specs.declared.affine_segment.element.Element.{Element}
-use Rattle.upp_limits.specs.upp_curve.specs.declared.affine_segment.element.Element.TheVariants.{Point, Open}
-use Rattle.upp_limits.specs.upp_curve.specs.declared.affine_segment.element.Joined.{Joined}
-use Rattle.upp_limits.specs.upp_curve.specs.affine_segment.Values.{line_at}
-use Rattle.upp_limits.specs.upp_curve.specs.affine_segment.Segments.{Segment, IsThrough}
-use Rattle.upp_limits.specs.upp_curve.specs.affine_segment.Steps.{IsWideSum, IsWideValue}
-use Rattle.upp_limits.specs.upp_curve.specs.affine_segment.MadeParts.{alone_part, IsFrom, MovedPart, OnePart, TwoParts, BentParts, AreParts}
-use Rattle.upp_limits.specs.upp_curve.specs.affine_segment.WideConvolution.{IsWideThrough, IsWideEnd, IsWideEnds, IsWideCorner, IsWideMoved, IsWideStraight, IsWideSecond, IsWideBent, IsWideConvolution}
+use Rattle.rational.specs.Rational.{ℚ, ◌+ℚ◌, ◌-ℚ◌, ◌*ℚ◌, neg_ℚ, ◌≤ℚ◌, int}
+use Rattle.rational.specs.Ratio.{SumFits}
+use Rattle.rational.specs.Extended.{Ext, ◌+ₑ◌}
+use Rattle.rational.specs.declared.Extended.TheVariants.{Fin, Inf}
+use Rattle.rational.specs.Grid.{Whole, Within}
+use Rattle.rational.proofs.Grid.{whole_add, whole_sub, whole_neg, within_add, within_sub, within_neg, within_weaken, within_nonneg, within_mul}
+use Rattle.rational.proofs.Sizes.{sum_on_grid}
+use Rattle.rational.proofs.Integers.{nat_nonneg, nat_le, int_mul, int_add}
+use Rattle.rational.proofs.Laws.{le_refl, le_trans, mul_le_mul, add_comm, mul_add, mul_assoc, mul_one, mul_comm}
+use Rattle.rational.proofs.Linear.{with1, with2, with3, with_atoms}
+use Rattle.fraction128.specs.declared.fault.Wide.{Wide}
+use Rattle.upp_curve.specs.declared.affine_segment.line.Line.{Line}
+use Rattle.upp_curve.specs.declared.affine_segment.element.Element.{Element}
+use Rattle.upp_curve.specs.declared.affine_segment.element.Element.TheVariants.{Point, Open}
+use Rattle.upp_curve.specs.declared.affine_segment.element.Joined.{Joined}
+use Rattle.upp_curve.specs.affine_segment.Values.{line_at}
+use Rattle.upp_curve.specs.affine_segment.Segments.{Segment, IsThrough}
+use Rattle.upp_curve.specs.affine_segment.Steps.{IsWideSum, IsWideValue}
+use Rattle.upp_curve.specs.affine_segment.MadeParts.{alone_part, IsFrom, MovedPart, OnePart, TwoParts, BentParts, AreParts}
+use Rattle.upp_curve.specs.affine_segment.WideConvolution.{IsWideThrough, IsWideEnd, IsWideEnds, IsWideCorner, IsWideMoved, IsWideStraight, IsWideSecond, IsWideBent, IsWideConvolution}
 use Rattle.upp_limits.specs.Limits.{Sizes}
 use Rattle.upp_limits.specs.Sized.{IsSlope, grid_of, times_largest}
-use Rattle.curve_call.specs.upp_normal.specs.Ahead.{IsGridValue}
-use Rattle.curve_call.specs.upp_normal.specs.Operand.{AreLimited, OperandLine}
-use Rattle.curve_call.specs.upp_normal.proofs.AnswerRoom.{operand_line_value, values_fit, value_sum_stands, more_largest, many_more, wide_narrow}
+use Rattle.upp_normal.specs.Ahead.{IsGridValue}
+use Rattle.upp_normal.specs.Operand.{AreLimited, OperandLine}
+use Rattle.upp_normal.proofs.AnswerRoom.{operand_line_value, values_fit, value_sum_stands, more_largest, many_more, wide_narrow}
 use Rattle.upp_limits.proofs.NarrowSizes.{small_number, small_sum, run_whole, run_within}
 use Rattle.element_envelope.specs.ElementRoom.{WindowTime, WindowEnd, OperandPoint, OperandSegment, OperandElement, SumTime, SumEnd, SumValue, SumLine, SumElement, SumJoined}
-use Rattle.curve_call.specs.upp_normal.proofs.StretchSizes.{end_at_most}
+use Rattle.upp_normal.proofs.StretchSizes.{end_at_most}
 
 -- ---- the sizes
 

@@ -1,22 +1,22 @@
 -- The least of all pairs from that of two halves of a list.
 use Rattle.std.specs.Prelude.{◌≡◌, ◌↔◌, Bool, true, false, not, IsTrue, pos, suc, List, [], ◌∷◌, ◌++◌, Result, Ok, Err, IfOk, Vec, All}
 use Rattle.std.proofs.Common.{arith, sym, ap, ap₂, ◌∙◌, true≢false, refl, subst, inl, inr, length, get_or, ◌≤◌, Global}
-use Rattle.upp_limits.specs.rational.specs.Rational.{ℚ, int, ◌+ℚ◌, ◌≤ℚ◌, ◌<ℚ◌}
-use Rattle.upp_limits.specs.rational.specs.Extended.{min_ext}
-use Rattle.upp_limits.specs.rational.specs.declared.Extended.TheVariants.{Inf}
-use Rattle.upp_limits.specs.rational.proofs.Grid.{whole_int}
-use Rattle.upp_limits.specs.rational.proofs.Compared.{not_less_out}
-use Rattle.upp_limits.specs.rational.proofs.Laws.{le_refl}
-use Rattle.upp_limits.specs.upp_curve.specs.declared.affine_segment.line.Piece.{Piece}
-use Rattle.upp_limits.specs.upp_curve.specs.declared.affine_segment.element.Element.{Element}
-use Rattle.upp_limits.specs.upp_curve.specs.affine_segment.Elements.{start_of}
-use Rattle.upp_limits.specs.upp_curve.specs.affine_segment.Fits.{LineFitsAt}
-use Rattle.upp_limits.specs.upp_curve.specs.affine_segment.Reading.{read, nothing_at}
-use Rattle.upp_limits.specs.upp_curve.proofs.affine_segment.PieceOrder.{each_map}
+use Rattle.rational.specs.Rational.{ℚ, int, ◌+ℚ◌, ◌≤ℚ◌, ◌<ℚ◌}
+use Rattle.rational.specs.Extended.{min_ext}
+use Rattle.rational.specs.declared.Extended.TheVariants.{Inf}
+use Rattle.rational.proofs.Grid.{whole_int}
+use Rattle.rational.proofs.Compared.{not_less_out}
+use Rattle.rational.proofs.Laws.{le_refl}
+use Rattle.upp_curve.specs.declared.affine_segment.line.Piece.{Piece}
+use Rattle.upp_curve.specs.declared.affine_segment.element.Element.{Element}
+use Rattle.upp_curve.specs.affine_segment.Elements.{start_of}
+use Rattle.upp_curve.specs.affine_segment.Fits.{LineFitsAt}
+use Rattle.upp_curve.specs.affine_segment.Reading.{read, nothing_at}
+use Rattle.upp_curve.proofs.affine_segment.PieceOrder.{each_map}
 use Rattle.upp_limits.specs.Limits.{Sizes}
-use Rattle.curve_call.specs.upp_normal.specs.Operand.{AreLimited}
-use Rattle.curve_call.specs.upp_normal.specs.Normalising.{IsPart, IsMerged}
-use Rattle.curve_call.specs.upp_normal.proofs.NormaliseForm.{each_part}
+use Rattle.upp_normal.specs.Operand.{AreLimited}
+use Rattle.upp_normal.specs.Normalising.{IsPart, IsMerged}
+use Rattle.upp_normal.proofs.NormaliseForm.{each_part}
 use Rattle.curve_call.specs.Stretches.{CutsFit}
 use Rattle.curve_call.specs.Lower.{LowerFits, IsLowerPiece, IsLowerOf}
 use Rattle.element_envelope.specs.PieceElements.{Among}
@@ -28,7 +28,7 @@ use Rattle.element_envelope.proofs.Envelopes.{envelope_rules}
 use Rattle.element_envelope.proofs.Arching.{same_arches, lesser_arches, nothing_arches}
 use Rattle.element_envelope.proofs.SumSteps.{line_fits_at, sum_cuts_fit}
 use Rattle.element_envelope.proofs.SumLower.{sum_lower_fits, sum_lower}
-use Rattle.upp_limits.specs.upp_curve.proofs.affine_segment.PieceIn.{read_one, nothing_read}
+use Rattle.upp_curve.proofs.affine_segment.PieceIn.{read_one, nothing_read}
 
 -- ---- no pair
 nothing_is : (end : ℚ) (xs ys : List Element) → ((t : ℚ) → t <ℚ end → IsEnvelope xs ys t Inf) → IsEnvelopeWindow end xs ys (nothing_at (int (pos 0)) ∷ [])

@@ -1,18 +1,18 @@
 -- The least of all pairs: of none, of one, of lists in two parts, and of pairs that start late.
 use Rattle.std.specs.Prelude.{◌≡◌, ◌⊎◌, List, [], ◌∷◌, ◌++◌}
 use Rattle.std.proofs.Common.{arith, sym, refl, subst, inl, inr}
-use Rattle.upp_limits.specs.rational.specs.Rational.{ℚ, ◌+ℚ◌, ◌≤ℚ◌, ◌<ℚ◌}
-use Rattle.upp_limits.specs.rational.specs.Extended.{Ext, ◌≤ₑ◌, min_ext}
-use Rattle.upp_limits.specs.rational.specs.Families.{either}
-use Rattle.upp_limits.specs.rational.specs.declared.Extended.TheVariants.{Inf}
-use Rattle.upp_limits.specs.rational.proofs.Linear.{with_atoms}
-use Rattle.upp_limits.specs.rational.proofs.Laws.{le_of_lt, le_refl}
-use Rattle.upp_limits.specs.rational.proofs.ExtendedOrder.{le_ext_refl}
-use Rattle.upp_limits.specs.rational.proofs.Bounds.{all_infinite, same_infimum, infimum_union}
-use Rattle.upp_limits.specs.upp_curve.specs.declared.affine_segment.element.Element.{Element}
-use Rattle.upp_limits.specs.upp_curve.specs.declared.affine_segment.element.Element.TheVariants.{Point, Open}
-use Rattle.upp_limits.specs.upp_curve.specs.declared.affine_segment.element.Joined.{Joined}
-use Rattle.upp_limits.specs.upp_curve.specs.affine_segment.Elements.{Covers, PairSplit, pair_sum, start_of, joined_value, IsConvolved}
+use Rattle.rational.specs.Rational.{ℚ, ◌+ℚ◌, ◌≤ℚ◌, ◌<ℚ◌}
+use Rattle.rational.specs.Extended.{Ext, ◌≤ₑ◌, min_ext}
+use Rattle.rational.specs.Families.{either}
+use Rattle.rational.specs.declared.Extended.TheVariants.{Inf}
+use Rattle.rational.proofs.Linear.{with_atoms}
+use Rattle.rational.proofs.Laws.{le_of_lt, le_refl}
+use Rattle.rational.proofs.ExtendedOrder.{le_ext_refl}
+use Rattle.rational.proofs.Bounds.{all_infinite, same_infimum, infimum_union}
+use Rattle.upp_curve.specs.declared.affine_segment.element.Element.{Element}
+use Rattle.upp_curve.specs.declared.affine_segment.element.Element.TheVariants.{Point, Open}
+use Rattle.upp_curve.specs.declared.affine_segment.element.Joined.{Joined}
+use Rattle.upp_curve.specs.affine_segment.Elements.{Covers, PairSplit, pair_sum, start_of, joined_value, IsConvolved}
 use Rattle.element_envelope.specs.PieceElements.{Among}
 use Rattle.element_envelope.specs.Envelopes.{ListSplit, list_sum, IsEnvelope, StartLate}
 use Rattle.element_envelope.specs.ConvolutionLaws.{EnvelopeRules}

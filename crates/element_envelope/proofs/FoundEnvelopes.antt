@@ -1,12 +1,12 @@
 -- The least of all pairs of two lists of elements, one element after another, and the convolution of two windows from it.
 use Rattle.std.specs.Prelude.{pos, List, [], ◌∷◌}
 use Rattle.std.proofs.Common.{refl, inl}
-use Rattle.upp_limits.specs.rational.specs.Rational.{ℚ, int}
-use Rattle.upp_limits.specs.rational.specs.declared.Extended.TheVariants.{Inf}
-use Rattle.upp_limits.specs.upp_curve.specs.declared.affine_segment.line.Piece.{Piece}
-use Rattle.upp_limits.specs.upp_curve.specs.declared.affine_segment.element.Element.{Element}
-use Rattle.upp_limits.specs.upp_curve.specs.affine_segment.Reading.{nothing_at}
-use Rattle.upp_limits.specs.upp_curve.specs.Unrolled.{upto}
+use Rattle.rational.specs.Rational.{ℚ, int}
+use Rattle.rational.specs.declared.Extended.TheVariants.{Inf}
+use Rattle.upp_curve.specs.declared.affine_segment.line.Piece.{Piece}
+use Rattle.upp_curve.specs.declared.affine_segment.element.Element.{Element}
+use Rattle.upp_curve.specs.affine_segment.Reading.{nothing_at}
+use Rattle.upp_curve.specs.Unrolled.{upto}
 use Rattle.curve_call.proofs.Existing.{lower_window}
 use Rattle.element_envelope.specs.ConvolutionWindows.{OperandWindows, IsConvolutionWindow, WindowsFrom, IsConvolutionFrom}
 use Rattle.element_envelope.specs.EnvelopeWindows.{EnvelopeRoom, IsEnvelopeWindow}

@@ -1,20 +1,20 @@
 -- What two elements make: points, a segment moved by a point, two segments of one slope, and of different slopes.
 use Rattle.std.specs.Prelude.{◌≡◌, Some}
 use Rattle.std.proofs.Common.{refl, inl, inr}
-use Rattle.upp_limits.specs.rational.specs.Rational.{ℚ, ◌+ℚ◌, ◌-ℚ◌, ◌*ℚ◌, ◌<ℚ◌}
-use Rattle.upp_limits.specs.rational.specs.Extended.{Ext, ◌<ₑ◌, ◌+ₑ◌}
-use Rattle.upp_limits.specs.rational.specs.declared.Extended.TheVariants.{Fin, Inf}
-use Rattle.upp_limits.specs.rational.proofs.Laws.{lt_cases}
-use Rattle.upp_limits.specs.upp_curve.specs.declared.affine_segment.line.Line.{Line}
-use Rattle.upp_limits.specs.upp_curve.specs.declared.affine_segment.element.Element.{Element}
-use Rattle.upp_limits.specs.upp_curve.specs.declared.affine_segment.element.Element.TheVariants.{Point, Open}
-use Rattle.upp_limits.specs.upp_curve.specs.declared.affine_segment.element.Joined.{Joined}
-use Rattle.upp_limits.specs.upp_curve.specs.affine_segment.Values.{line_at}
-use Rattle.upp_limits.specs.upp_curve.specs.affine_segment.Segments.{Segment, open_of, IsProperSegment, IsThrough}
-use Rattle.upp_limits.specs.upp_curve.specs.affine_segment.MadeParts.{alone_part, OnePart, BentParts, AreParts}
-use Rattle.upp_limits.specs.upp_curve.specs.affine_segment.Elements.{IsProper, IsConvolved}
-use Rattle.upp_limits.specs.upp_curve.proofs.affine_segment.Through.{through}
-use Rattle.upp_limits.specs.upp_curve.proofs.affine_segment.Convolved.{points_convolved, moved_convolved, straight_convolved, endless_convolved, bent_convolved, turned_convolved}
+use Rattle.rational.specs.Rational.{ℚ, ◌+ℚ◌, ◌-ℚ◌, ◌*ℚ◌, ◌<ℚ◌}
+use Rattle.rational.specs.Extended.{Ext, ◌<ₑ◌, ◌+ₑ◌}
+use Rattle.rational.specs.declared.Extended.TheVariants.{Fin, Inf}
+use Rattle.rational.proofs.Laws.{lt_cases}
+use Rattle.upp_curve.specs.declared.affine_segment.line.Line.{Line}
+use Rattle.upp_curve.specs.declared.affine_segment.element.Element.{Element}
+use Rattle.upp_curve.specs.declared.affine_segment.element.Element.TheVariants.{Point, Open}
+use Rattle.upp_curve.specs.declared.affine_segment.element.Joined.{Joined}
+use Rattle.upp_curve.specs.affine_segment.Values.{line_at}
+use Rattle.upp_curve.specs.affine_segment.Segments.{Segment, open_of, IsProperSegment, IsThrough}
+use Rattle.upp_curve.specs.affine_segment.MadeParts.{alone_part, OnePart, BentParts, AreParts}
+use Rattle.upp_curve.specs.affine_segment.Elements.{IsProper, IsConvolved}
+use Rattle.upp_curve.proofs.affine_segment.Through.{through}
+use Rattle.upp_curve.proofs.affine_segment.Convolved.{points_convolved, moved_convolved, straight_convolved, endless_convolved, bent_convolved, turned_convolved}
 
 -- the line of a slope that has a value at a time
 through_line : (r x v : ℚ) → Line

@@ -1,23 +1,23 @@
 -- The window of what two elements make reads as its parts.
 use Rattle.std.specs.Prelude.{◌≡◌, ◌⊎◌, pos, cond, List, [], ◌∷◌, ◌++◌, Option, Some, None}
 use Rattle.std.proofs.Common.{sym, ap, ◌∙◌, refl, subst, inl, inr}
-use Rattle.upp_limits.specs.rational.specs.Rational.{ℚ, ◌≤ℚ◌, ◌<ℚ◌, int}
-use Rattle.upp_limits.specs.rational.specs.Extended.{Ext, ◌<ₑ◌}
-use Rattle.upp_limits.specs.rational.specs.declared.Extended.TheVariants.{Fin, Inf}
-use Rattle.upp_limits.specs.rational.proofs.Laws.{le_or_lt, le_of_lt, le_trans, lt_irrefl, lt_trans, antisym, not_le_of_lt}
-use Rattle.upp_limits.specs.rational.proofs.MinMax.{le_q_not}
-use Rattle.upp_limits.specs.rational.proofs.Over.{le_q_out}
-use Rattle.upp_limits.specs.upp_curve.specs.declared.affine_segment.line.Line.{Line}
-use Rattle.upp_limits.specs.upp_curve.specs.declared.affine_segment.line.Piece.{Piece}
-use Rattle.upp_limits.specs.upp_curve.specs.declared.affine_segment.element.Element.{Element}
-use Rattle.upp_limits.specs.upp_curve.specs.declared.affine_segment.element.Element.TheVariants.{Point, Open}
-use Rattle.upp_limits.specs.upp_curve.specs.declared.affine_segment.element.Joined.{Joined}
-use Rattle.upp_limits.specs.upp_curve.specs.affine_segment.Values.{line_at}
-use Rattle.upp_limits.specs.upp_curve.specs.affine_segment.Elements.{start_of, joined_value, AreAdjoined}
-use Rattle.upp_limits.specs.upp_curve.proofs.affine_segment.ElementReading.{joined_read}
-use Rattle.upp_limits.specs.upp_curve.specs.affine_segment.Reading.{piece_value, read, nothing_at}
-use Rattle.upp_limits.specs.upp_curve.specs.affine_segment.Pieces.{RisesFrom, StartsAtZero}
-use Rattle.upp_limits.specs.upp_curve.proofs.affine_segment.PieceIn.{value_past, read_go, read_one, read_stop, value_by, nothing_read}
+use Rattle.rational.specs.Rational.{ℚ, ◌≤ℚ◌, ◌<ℚ◌, int}
+use Rattle.rational.specs.Extended.{Ext, ◌<ₑ◌}
+use Rattle.rational.specs.declared.Extended.TheVariants.{Fin, Inf}
+use Rattle.rational.proofs.Laws.{le_or_lt, le_of_lt, le_trans, lt_irrefl, lt_trans, antisym, not_le_of_lt}
+use Rattle.rational.proofs.MinMax.{le_q_not}
+use Rattle.rational.proofs.Over.{le_q_out}
+use Rattle.upp_curve.specs.declared.affine_segment.line.Line.{Line}
+use Rattle.upp_curve.specs.declared.affine_segment.line.Piece.{Piece}
+use Rattle.upp_curve.specs.declared.affine_segment.element.Element.{Element}
+use Rattle.upp_curve.specs.declared.affine_segment.element.Element.TheVariants.{Point, Open}
+use Rattle.upp_curve.specs.declared.affine_segment.element.Joined.{Joined}
+use Rattle.upp_curve.specs.affine_segment.Values.{line_at}
+use Rattle.upp_curve.specs.affine_segment.Elements.{start_of, joined_value, AreAdjoined}
+use Rattle.upp_curve.proofs.affine_segment.ElementReading.{joined_read}
+use Rattle.upp_curve.specs.affine_segment.Reading.{piece_value, read, nothing_at}
+use Rattle.upp_curve.specs.affine_segment.Pieces.{RisesFrom, StartsAtZero}
+use Rattle.upp_curve.proofs.affine_segment.PieceIn.{value_past, read_go, read_one, read_stop, value_by, nothing_read}
 use Rattle.element_envelope.specs.JoinedWindows.{after_end, part_pieces, joined_list, lead_of, window_of, IsWindowOf}
 
 -- ---- pieces that end

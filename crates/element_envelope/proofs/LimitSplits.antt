@@ -1,29 +1,29 @@
 -- A convolution by starts, with the limits beside them in place of the values there.
 use Rattle.std.specs.Prelude.{◌≡◌, ◌⊎◌, pos, List, [], ◌∷◌, Option, None}
 use Rattle.std.proofs.Common.{arith, sym, ap, ap₂, ◌∙◌, refl, subst, inl, inr}
-use Rattle.upp_limits.specs.rational.specs.Rational.{ℚ, ◌+ℚ◌, ◌-ℚ◌, ◌*ℚ◌, ◌≤ℚ◌, ◌<ℚ◌, int}
-use Rattle.upp_limits.specs.rational.specs.Extended.{Ext, ◌≤ₑ◌, ◌<ₑ◌, ◌+ₑ◌, min_ext}
-use Rattle.upp_limits.specs.rational.specs.Families.{either}
-use Rattle.upp_limits.specs.rational.specs.Bounds.{IsInfimum}
-use Rattle.upp_limits.specs.rational.specs.Line.{line_at as at_line}
-use Rattle.upp_limits.specs.rational.specs.MinMax.{min_q}
-use Rattle.upp_limits.specs.rational.specs.Stretch.{Between}
-use Rattle.upp_limits.specs.rational.specs.declared.Extended.TheVariants.{Fin, Inf}
-use Rattle.upp_limits.specs.rational.proofs.Linear.{sub_nonneg, sub_pos, with2, with3, with4}
-use Rattle.upp_limits.specs.rational.proofs.Laws.{le_or_lt, le_of_lt, le_refl, le_trans, lt_le_trans, le_lt_trans, antisym, add_comm, half, half_is, half_pos, mul_zero, add_zero, sub_add, sub_mul}
-use Rattle.upp_limits.specs.rational.proofs.MinMax.{min_q_le_left}
-use Rattle.upp_limits.specs.rational.proofs.Stretch.{line_infimum}
-use Rattle.upp_limits.specs.rational.proofs.ExtendedOrder.{same_le_ext, le_ext_trans, le_lt_ext, fin_same, finite_sum, add_le_ext, add_ext_comm}
-use Rattle.upp_limits.specs.rational.proofs.Bounds.{infimum_union}
-use Rattle.upp_limits.specs.upp_curve.specs.declared.affine_segment.line.Line.{Line}
-use Rattle.upp_limits.specs.upp_curve.specs.declared.affine_segment.line.Piece.{Piece}
-use Rattle.upp_limits.specs.upp_curve.specs.affine_segment.Values.{line_at, line_value}
-use Rattle.upp_limits.specs.upp_curve.specs.affine_segment.Pieces.{RisesFrom, StartsAtZero}
-use Rattle.upp_limits.specs.upp_curve.specs.affine_segment.Reading.{piece_value, read}
-use Rattle.upp_limits.specs.upp_curve.proofs.affine_segment.PieceIn.{value_past, value_by, read_first, read_stop, read_go, read_one}
-use Rattle.upp_limits.specs.upp_curve.proofs.affine_segment.LineValues.{line_found}
-use Rattle.upp_limits.specs.min_plus.specs.Convolution.{Split}
-use Rattle.upp_limits.specs.min_plus.proofs.best_splits.LineSplits.{least_at_ends}
+use Rattle.rational.specs.Rational.{ℚ, ◌+ℚ◌, ◌-ℚ◌, ◌*ℚ◌, ◌≤ℚ◌, ◌<ℚ◌, int}
+use Rattle.rational.specs.Extended.{Ext, ◌≤ₑ◌, ◌<ₑ◌, ◌+ₑ◌, min_ext}
+use Rattle.rational.specs.Families.{either}
+use Rattle.rational.specs.Bounds.{IsInfimum}
+use Rattle.rational.specs.Line.{line_at as at_line}
+use Rattle.rational.specs.MinMax.{min_q}
+use Rattle.rational.specs.Stretch.{Between}
+use Rattle.rational.specs.declared.Extended.TheVariants.{Fin, Inf}
+use Rattle.rational.proofs.Linear.{sub_nonneg, sub_pos, with2, with3, with4}
+use Rattle.rational.proofs.Laws.{le_or_lt, le_of_lt, le_refl, le_trans, lt_le_trans, le_lt_trans, antisym, add_comm, half, half_is, half_pos, mul_zero, add_zero, sub_add, sub_mul}
+use Rattle.rational.proofs.MinMax.{min_q_le_left}
+use Rattle.rational.proofs.Stretch.{line_infimum}
+use Rattle.rational.proofs.ExtendedOrder.{same_le_ext, le_ext_trans, le_lt_ext, fin_same, finite_sum, add_le_ext, add_ext_comm}
+use Rattle.rational.proofs.Bounds.{infimum_union}
+use Rattle.upp_curve.specs.declared.affine_segment.line.Line.{Line}
+use Rattle.upp_curve.specs.declared.affine_segment.line.Piece.{Piece}
+use Rattle.upp_curve.specs.affine_segment.Values.{line_at, line_value}
+use Rattle.upp_curve.specs.affine_segment.Pieces.{RisesFrom, StartsAtZero}
+use Rattle.upp_curve.specs.affine_segment.Reading.{piece_value, read}
+use Rattle.upp_curve.proofs.affine_segment.PieceIn.{value_past, value_by, read_first, read_stop, read_go, read_one}
+use Rattle.upp_curve.proofs.affine_segment.LineValues.{line_found}
+use Rattle.min_plus.specs.Convolution.{Split}
+use Rattle.min_plus.proofs.best_splits.LineSplits.{least_at_ends}
 use Rattle.element_envelope.specs.Copies.{IsPieceOf, StartSplit, start_sum}
 use Rattle.element_envelope.specs.LimitCopies.{afters, befores_from, befores, LimitsSuffice}
 use Rattle.element_envelope.proofs.Members.{at_most_finite, number_below}

@@ -1,12 +1,12 @@
 -- What is among elements, and families whose finite members are those of another.
 use Rattle.std.specs.Prelude.{◌≡◌, ◌⊎◌, List, [], ◌∷◌, ◌++◌}
 use Rattle.std.proofs.Common.{refl, subst, inl, inr}
-use Rattle.upp_limits.specs.rational.specs.Rational.{ℚ}
-use Rattle.upp_limits.specs.rational.specs.Extended.{Ext, ◌≤ₑ◌, ◌<ₑ◌}
-use Rattle.upp_limits.specs.rational.specs.declared.Extended.TheVariants.{Fin, Inf}
-use Rattle.upp_limits.specs.rational.specs.Bounds.{IsInfimum}
-use Rattle.upp_limits.specs.rational.proofs.ExtendedOrder.{le_inf, le_ext_trans, le_lt_ext}
-use Rattle.upp_limits.specs.upp_curve.specs.declared.affine_segment.element.Element.{Element}
+use Rattle.rational.specs.Rational.{ℚ}
+use Rattle.rational.specs.Extended.{Ext, ◌≤ₑ◌, ◌<ₑ◌}
+use Rattle.rational.specs.declared.Extended.TheVariants.{Fin, Inf}
+use Rattle.rational.specs.Bounds.{IsInfimum}
+use Rattle.rational.proofs.ExtendedOrder.{le_inf, le_ext_trans, le_lt_ext}
+use Rattle.upp_curve.specs.declared.affine_segment.element.Element.{Element}
 use Rattle.element_envelope.specs.PieceElements.{Among}
 
 -- ---- lists

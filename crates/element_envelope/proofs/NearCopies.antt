@@ -1,15 +1,15 @@
 -- Starts that are far from the first one need no copy.
 use Rattle.std.specs.Prelude.{◌≡◌, ◌⊎◌, pos, List, [], ◌∷◌, ◌++◌, Result, Ok, Err, IfOk, Vec}
 use Rattle.std.proofs.Common.{append_assoc, append-nil, arith, get_or, length, refl, sym, ap, ap₂, ◌∙◌, subst, inl, inr, Global}
-use Rattle.upp_limits.specs.rational.specs.Rational.{ℚ, ◌+ℚ◌, ◌-ℚ◌, ◌*ℚ◌, ◌≤ℚ◌, int}
-use Rattle.upp_limits.specs.rational.specs.Extended.{Ext, ◌≤ₑ◌, ◌+ₑ◌}
-use Rattle.upp_limits.specs.rational.specs.declared.Extended.TheVariants.{Fin}
-use Rattle.upp_limits.specs.rational.proofs.Linear.{with2, with3, with5}
-use Rattle.upp_limits.specs.rational.proofs.Laws.{le_of_lt, le_trans, lt_irrefl}
-use Rattle.upp_limits.specs.rational.proofs.ExtendedOrder.{le_ext_trans}
-use Rattle.upp_limits.specs.upp_curve.specs.declared.affine_segment.line.Piece.{Piece}
-use Rattle.upp_limits.specs.upp_curve.specs.affine_segment.Pieces.{Each}
-use Rattle.upp_limits.specs.upp_curve.specs.affine_segment.Reading.{read}
+use Rattle.rational.specs.Rational.{ℚ, ◌+ℚ◌, ◌-ℚ◌, ◌*ℚ◌, ◌≤ℚ◌, int}
+use Rattle.rational.specs.Extended.{Ext, ◌≤ₑ◌, ◌+ₑ◌}
+use Rattle.rational.specs.declared.Extended.TheVariants.{Fin}
+use Rattle.rational.proofs.Linear.{with2, with3, with5}
+use Rattle.rational.proofs.Laws.{le_of_lt, le_trans, lt_irrefl}
+use Rattle.rational.proofs.ExtendedOrder.{le_ext_trans}
+use Rattle.upp_curve.specs.declared.affine_segment.line.Piece.{Piece}
+use Rattle.upp_curve.specs.affine_segment.Pieces.{Each}
+use Rattle.upp_curve.specs.affine_segment.Reading.{read}
 use Rattle.element_envelope.specs.ConvolutionWindows.{WindowPiece}
 use Rattle.element_envelope.specs.Copies.{IsPieceOf, IsLeastCopy}
 use Rattle.element_envelope.specs.CopyWindows.{CopyRoom, IsCopyWindow, HaveWindowRoom}

@@ -1,17 +1,17 @@
 -- The elements of an operand's pieces, and of a window's, stand where the pieces do.
 use Rattle.std.specs.Prelude.{List, [], ◌∷◌}
 use Rattle.std.proofs.Common.{sym, subst, inl, inr}
-use Rattle.upp_limits.specs.rational.specs.Rational.{ℚ}
-use Rattle.upp_limits.specs.rational.specs.Extended.{Ext}
-use Rattle.upp_limits.specs.rational.proofs.Laws.{le_of_lt}
-use Rattle.upp_limits.specs.upp_curve.specs.declared.affine_segment.line.Piece.{Piece}
-use Rattle.upp_limits.specs.upp_curve.specs.declared.affine_segment.element.Element.{Element}
+use Rattle.rational.specs.Rational.{ℚ}
+use Rattle.rational.specs.Extended.{Ext}
+use Rattle.rational.proofs.Laws.{le_of_lt}
+use Rattle.upp_curve.specs.declared.affine_segment.line.Piece.{Piece}
+use Rattle.upp_curve.specs.declared.affine_segment.element.Element.{Element}
 use Rattle.upp_limits.specs.Limits.{Sizes}
-use Rattle.upp_limits.specs.upp_curve.specs.affine_segment.Pieces.{Each}
-use Rattle.upp_limits.specs.upp_curve.proofs.affine_segment.PieceOrder.{each_map}
-use Rattle.curve_call.specs.upp_normal.specs.Ahead.{GridValue}
-use Rattle.curve_call.specs.upp_normal.proofs.AnswerRoom.{stands_operand_value}
-use Rattle.curve_call.specs.upp_normal.specs.Operand.{OperandPiece, OperandPieces, OperandLineAt}
+use Rattle.upp_curve.specs.affine_segment.Pieces.{Each}
+use Rattle.upp_curve.proofs.affine_segment.PieceOrder.{each_map}
+use Rattle.upp_normal.specs.Ahead.{GridValue}
+use Rattle.upp_normal.proofs.AnswerRoom.{stands_operand_value}
+use Rattle.upp_normal.specs.Operand.{OperandPiece, OperandPieces, OperandLineAt}
 use Rattle.element_envelope.specs.ConvolutionWindows.{WindowPiece, WindowPieces}
 use Rattle.element_envelope.specs.PieceElements.{next_start, elements_of, Among}
 use Rattle.element_envelope.specs.ElementRoom.{WindowTime, WindowEnd, OperandElement}

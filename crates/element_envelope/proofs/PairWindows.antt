@@ -2,29 +2,29 @@
 use Rattle.std.specs.Prelude.{◌*◌, pos, Bool, true, false, cond, List, [], ◌∷◌, Option, Some, None}
 use native.Mathlib.Nat.{mul-dvd-mul_right}
 use Rattle.std.proofs.Common.{arith, sym, ◌∙◌, refl, subst, inl}
-use Rattle.upp_limits.specs.rational.specs.Rational.{ℚ, ◌+ℚ◌, ◌≤ℚ◌, ◌<ℚ◌, int, le_q}
-use Rattle.upp_limits.specs.rational.specs.Extended.{Ext}
-use Rattle.upp_limits.specs.rational.specs.declared.Extended.TheVariants.{Fin, Inf}
-use Rattle.upp_limits.specs.rational.specs.Grid.{Whole}
-use Rattle.upp_limits.specs.rational.proofs.Grid.{whole_int, whole_weaken, within_weaken}
-use Rattle.upp_limits.specs.rational.proofs.Laws.{le_refl}
-use Rattle.upp_limits.specs.rational.proofs.Linear.{with2}
-use Rattle.upp_limits.specs.upp_curve.specs.declared.affine_segment.line.Piece.{Piece}
-use Rattle.upp_limits.specs.upp_curve.specs.declared.affine_segment.element.Element.{Element}
-use Rattle.upp_limits.specs.upp_curve.specs.declared.affine_segment.element.Element.TheVariants.{Point, Open}
-use Rattle.upp_limits.specs.upp_curve.specs.declared.affine_segment.element.Joined.{Joined}
-use Rattle.upp_limits.specs.upp_curve.specs.affine_segment.Elements.{start_of, joined_value, IsConvolved}
-use Rattle.upp_limits.specs.upp_curve.specs.affine_segment.MadeParts.{AreParts}
-use Rattle.upp_limits.specs.upp_curve.specs.affine_segment.Pieces.{Each}
-use Rattle.upp_limits.specs.upp_curve.specs.affine_segment.Reading.{read, nothing_at}
+use Rattle.rational.specs.Rational.{ℚ, ◌+ℚ◌, ◌≤ℚ◌, ◌<ℚ◌, int, le_q}
+use Rattle.rational.specs.Extended.{Ext}
+use Rattle.rational.specs.declared.Extended.TheVariants.{Fin, Inf}
+use Rattle.rational.specs.Grid.{Whole}
+use Rattle.rational.proofs.Grid.{whole_int, whole_weaken, within_weaken}
+use Rattle.rational.proofs.Laws.{le_refl}
+use Rattle.rational.proofs.Linear.{with2}
+use Rattle.upp_curve.specs.declared.affine_segment.line.Piece.{Piece}
+use Rattle.upp_curve.specs.declared.affine_segment.element.Element.{Element}
+use Rattle.upp_curve.specs.declared.affine_segment.element.Element.TheVariants.{Point, Open}
+use Rattle.upp_curve.specs.declared.affine_segment.element.Joined.{Joined}
+use Rattle.upp_curve.specs.affine_segment.Elements.{start_of, joined_value, IsConvolved}
+use Rattle.upp_curve.specs.affine_segment.MadeParts.{AreParts}
+use Rattle.upp_curve.specs.affine_segment.Pieces.{Each}
+use Rattle.upp_curve.specs.affine_segment.Reading.{read, nothing_at}
 use Rattle.upp_limits.specs.Limits.{Sizes}
 use Rattle.upp_limits.specs.Sized.{times_largest}
-use Rattle.curve_call.specs.upp_normal.proofs.AnswerRoom.{more_largest}
-use Rattle.upp_limits.specs.upp_curve.specs.Unrolled.{upto}
-use Rattle.curve_call.specs.upp_normal.proofs.Below.{plain_upto}
-use Rattle.curve_call.specs.upp_normal.proofs.NormaliseCuts.{zero_upto}
-use Rattle.curve_call.specs.upp_normal.proofs.NormaliseLists.{each_upto}
-use Rattle.curve_call.specs.upp_normal.proofs.UnrolledPieces.{each_with}
+use Rattle.upp_normal.proofs.AnswerRoom.{more_largest}
+use Rattle.upp_curve.specs.Unrolled.{upto}
+use Rattle.upp_normal.proofs.Below.{plain_upto}
+use Rattle.upp_normal.proofs.NormaliseCuts.{zero_upto}
+use Rattle.upp_normal.proofs.NormaliseLists.{each_upto}
+use Rattle.upp_normal.proofs.UnrolledPieces.{each_with}
 use Rattle.element_envelope.specs.ElementRoom.{OperandElement, SumTime, SumEnd, SumValue, SumElement, SumPart, SumJoined, HaveRoom}
 use Rattle.element_envelope.specs.JoinedWindows.{after_end, part_pieces, first_pieces, turn_pieces, joined_list, lead_of, window_of, IsWindowOf}
 use Rattle.element_envelope.specs.SumWindows.{SumValueOn, SumValueAt, SumLineAt, SumPiece}
@@ -33,7 +33,7 @@ use Rattle.element_envelope.specs.EnvelopeWindows.{EnvelopeRoom, IsEnvelopeWindo
 use Rattle.element_envelope.proofs.ElementSizes.{parts_stand}
 use Rattle.element_envelope.proofs.Envelopes.{envelope_rules}
 use Rattle.element_envelope.proofs.Arching.{same_arches, joined_arches}
-use Rattle.upp_limits.specs.upp_curve.proofs.affine_segment.PieceOrder.{each_append}
+use Rattle.upp_curve.proofs.affine_segment.PieceOrder.{each_append}
 use Rattle.upp_limits.proofs.PieceCounts.{upto_early}
 
 -- ---- pieces that may start past the end

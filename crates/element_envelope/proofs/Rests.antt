@@ -1,14 +1,14 @@
 -- What is left of pieces when those that are over before a time are skipped: it reads alike from where it starts on.
 use Rattle.std.specs.Prelude.{◌≡◌, ◌⊎◌, ℕ, zero, suc, ◌≤◌, ◌<◌, pos, List, [], ◌∷◌, drop, length}
 use Rattle.std.proofs.Common.{arith, sym, ap, ◌∙◌, refl, subst, inl, inr}
-use Rattle.upp_limits.specs.rational.specs.Rational.{ℚ, ◌≤ℚ◌, ◌<ℚ◌, int}
-use Rattle.upp_limits.specs.rational.proofs.Laws.{le_or_lt, le_of_lt, le_refl, le_trans}
-use Rattle.upp_limits.specs.upp_curve.specs.declared.affine_segment.line.Piece.{Piece}
-use Rattle.upp_limits.specs.upp_curve.specs.affine_segment.Pieces.{Each, RisesFrom, StartsAtZero}
-use Rattle.upp_limits.specs.upp_curve.specs.affine_segment.Reading.{read}
-use Rattle.upp_limits.specs.upp_curve.proofs.affine_segment.PieceIn.{read_go}
-use Rattle.upp_limits.specs.upp_curve.specs.Unrolled.{upto}
-use Rattle.upp_limits.specs.upp_curve.proofs.Unique.{upto_none, upto_some, upto_end}
+use Rattle.rational.specs.Rational.{ℚ, ◌≤ℚ◌, ◌<ℚ◌, int}
+use Rattle.rational.proofs.Laws.{le_or_lt, le_of_lt, le_refl, le_trans}
+use Rattle.upp_curve.specs.declared.affine_segment.line.Piece.{Piece}
+use Rattle.upp_curve.specs.affine_segment.Pieces.{Each, RisesFrom, StartsAtZero}
+use Rattle.upp_curve.specs.affine_segment.Reading.{read}
+use Rattle.upp_curve.proofs.affine_segment.PieceIn.{read_go}
+use Rattle.upp_curve.specs.Unrolled.{upto}
+use Rattle.upp_curve.proofs.Unique.{upto_none, upto_some, upto_end}
 use Rattle.element_envelope.specs.CopyPieces.{skipped}
 
 -- pieces from p on read as g from there on

@@ -1,24 +1,24 @@
 -- Of a convolution of pieces whose values at starts are at most the limits beside them, the sums count of which one time is a start.
 use Rattle.std.specs.Prelude.{◌≡◌, ◌⊎◌, pos, List, [], ◌∷◌, Option, Some, None}
 use Rattle.std.proofs.Common.{arith, sym, ap, ap₂, ◌∙◌, refl, subst, inl, inr}
-use Rattle.upp_limits.specs.rational.specs.Rational.{ℚ, ◌+ℚ◌, ◌-ℚ◌, ◌≤ℚ◌, ◌<ℚ◌, int}
-use Rattle.upp_limits.specs.rational.specs.Extended.{Ext, ◌≤ₑ◌, ◌<ₑ◌, ◌+ₑ◌, min_ext}
-use Rattle.upp_limits.specs.rational.specs.Families.{either}
-use Rattle.upp_limits.specs.rational.specs.declared.Extended.TheVariants.{Fin, Inf}
-use Rattle.upp_limits.specs.rational.proofs.Linear.{with2, with3}
-use Rattle.upp_limits.specs.rational.proofs.Laws.{le_or_lt, le_of_lt, le_refl, le_trans, antisym, add_comm}
-use Rattle.upp_limits.specs.rational.proofs.ExtendedOrder.{same_le_ext, le_ext_trans, le_of_lt_ext, fin_same, finite_sum, add_le_ext, add_ext_comm}
-use Rattle.upp_limits.specs.rational.proofs.Bounds.{infimum_union}
-use Rattle.upp_limits.specs.upp_curve.specs.declared.affine_segment.line.Line.{Line}
-use Rattle.upp_limits.specs.upp_curve.specs.declared.affine_segment.line.Piece.{Piece}
-use Rattle.upp_limits.specs.upp_curve.specs.affine_segment.Values.{line_at, line_value}
-use Rattle.upp_limits.specs.upp_curve.specs.affine_segment.Pieces.{RisesFrom, StartsAtZero}
-use Rattle.upp_limits.specs.upp_curve.specs.affine_segment.Reading.{read}
-use Rattle.upp_limits.specs.upp_curve.proofs.affine_segment.Convolved.{back}
-use Rattle.upp_limits.specs.upp_curve.proofs.affine_segment.PieceIn.{value_past, value_by, value_at_start, read_first, read_stop, read_go, read_one}
-use Rattle.upp_limits.specs.upp_curve.proofs.affine_segment.LineValues.{line_found}
-use Rattle.upp_limits.specs.min_plus.specs.Convolution.{Split}
-use Rattle.upp_limits.specs.min_plus.proofs.best_splits.LineSplits.{least_at_ends}
+use Rattle.rational.specs.Rational.{ℚ, ◌+ℚ◌, ◌-ℚ◌, ◌≤ℚ◌, ◌<ℚ◌, int}
+use Rattle.rational.specs.Extended.{Ext, ◌≤ₑ◌, ◌<ₑ◌, ◌+ₑ◌, min_ext}
+use Rattle.rational.specs.Families.{either}
+use Rattle.rational.specs.declared.Extended.TheVariants.{Fin, Inf}
+use Rattle.rational.proofs.Linear.{with2, with3}
+use Rattle.rational.proofs.Laws.{le_or_lt, le_of_lt, le_refl, le_trans, antisym, add_comm}
+use Rattle.rational.proofs.ExtendedOrder.{same_le_ext, le_ext_trans, le_of_lt_ext, fin_same, finite_sum, add_le_ext, add_ext_comm}
+use Rattle.rational.proofs.Bounds.{infimum_union}
+use Rattle.upp_curve.specs.declared.affine_segment.line.Line.{Line}
+use Rattle.upp_curve.specs.declared.affine_segment.line.Piece.{Piece}
+use Rattle.upp_curve.specs.affine_segment.Values.{line_at, line_value}
+use Rattle.upp_curve.specs.affine_segment.Pieces.{RisesFrom, StartsAtZero}
+use Rattle.upp_curve.specs.affine_segment.Reading.{read}
+use Rattle.upp_curve.proofs.affine_segment.Convolved.{back}
+use Rattle.upp_curve.proofs.affine_segment.PieceIn.{value_past, value_by, value_at_start, read_first, read_stop, read_go, read_one}
+use Rattle.upp_curve.proofs.affine_segment.LineValues.{line_found}
+use Rattle.min_plus.specs.Convolution.{Split}
+use Rattle.min_plus.proofs.best_splits.LineSplits.{least_at_ends}
 use Rattle.element_envelope.specs.Copies.{IsPieceOf, StartSplit, start_sum, LowAfter, LowAtStarts, StartsSuffice}
 use Rattle.element_envelope.proofs.Members.{Matched, matched_out}
 

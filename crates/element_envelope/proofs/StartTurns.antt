@@ -1,22 +1,22 @@
 -- Of the sums of which one time is a start, those count of which that start bends not downwards.
 use Rattle.std.specs.Prelude.{◌≡◌, ◌⊎◌, pos, List, [], ◌∷◌, Option, Some, None}
 use Rattle.std.proofs.Common.{arith, sym, ap, ap₂, ◌∙◌, refl, subst, inl, inr}
-use Rattle.upp_limits.specs.rational.specs.Rational.{ℚ, ◌+ℚ◌, ◌-ℚ◌, ◌*ℚ◌, ◌≤ℚ◌, ◌<ℚ◌, int}
-use Rattle.upp_limits.specs.rational.specs.Extended.{Ext, ◌≤ₑ◌, ◌<ₑ◌, ◌+ₑ◌, min_ext}
-use Rattle.upp_limits.specs.rational.specs.Families.{either}
-use Rattle.upp_limits.specs.rational.specs.declared.Extended.TheVariants.{Fin, Inf}
-use Rattle.upp_limits.specs.rational.proofs.Linear.{sub_pos, with2, with3, with4}
-use Rattle.upp_limits.specs.rational.proofs.Laws.{le_or_lt, le_of_lt, le_refl, le_trans, lt_le_trans, le_lt_trans, lt_irrefl, add_comm, half, half_is, half_pos, mul_add, mul_sub, mul_lt_mul_right}
-use Rattle.upp_limits.specs.rational.proofs.ExtendedOrder.{same_le_ext, le_ext_trans, le_ext_total, le_ext_refl, le_of_lt_ext, fin_same, finite_sum, finite_below, add_le_ext, add_ext_comm}
-use Rattle.upp_limits.specs.rational.proofs.Bounds.{infimum_union}
-use Rattle.upp_limits.specs.upp_curve.specs.declared.affine_segment.line.Line.{Line}
-use Rattle.upp_limits.specs.upp_curve.specs.declared.affine_segment.line.Piece.{Piece}
-use Rattle.upp_limits.specs.upp_curve.specs.affine_segment.Values.{line_at, line_value}
-use Rattle.upp_limits.specs.upp_curve.specs.affine_segment.Pieces.{RisesFrom, StartsAtZero}
-use Rattle.upp_limits.specs.upp_curve.specs.affine_segment.Reading.{read}
-use Rattle.upp_limits.specs.upp_curve.proofs.affine_segment.Convolved.{back}
-use Rattle.upp_limits.specs.upp_curve.proofs.affine_segment.PieceIn.{value_past, read_stop, read_go, read_one}
-use Rattle.upp_limits.specs.min_plus.specs.Convolution.{Split}
+use Rattle.rational.specs.Rational.{ℚ, ◌+ℚ◌, ◌-ℚ◌, ◌*ℚ◌, ◌≤ℚ◌, ◌<ℚ◌, int}
+use Rattle.rational.specs.Extended.{Ext, ◌≤ₑ◌, ◌<ₑ◌, ◌+ₑ◌, min_ext}
+use Rattle.rational.specs.Families.{either}
+use Rattle.rational.specs.declared.Extended.TheVariants.{Fin, Inf}
+use Rattle.rational.proofs.Linear.{sub_pos, with2, with3, with4}
+use Rattle.rational.proofs.Laws.{le_or_lt, le_of_lt, le_refl, le_trans, lt_le_trans, le_lt_trans, lt_irrefl, add_comm, half, half_is, half_pos, mul_add, mul_sub, mul_lt_mul_right}
+use Rattle.rational.proofs.ExtendedOrder.{same_le_ext, le_ext_trans, le_ext_total, le_ext_refl, le_of_lt_ext, fin_same, finite_sum, finite_below, add_le_ext, add_ext_comm}
+use Rattle.rational.proofs.Bounds.{infimum_union}
+use Rattle.upp_curve.specs.declared.affine_segment.line.Line.{Line}
+use Rattle.upp_curve.specs.declared.affine_segment.line.Piece.{Piece}
+use Rattle.upp_curve.specs.affine_segment.Values.{line_at, line_value}
+use Rattle.upp_curve.specs.affine_segment.Pieces.{RisesFrom, StartsAtZero}
+use Rattle.upp_curve.specs.affine_segment.Reading.{read}
+use Rattle.upp_curve.proofs.affine_segment.Convolved.{back}
+use Rattle.upp_curve.proofs.affine_segment.PieceIn.{value_past, read_stop, read_go, read_one}
+use Rattle.min_plus.specs.Convolution.{Split}
 use Rattle.element_envelope.specs.Copies.{IsPieceOf, StartSplit, start_sum, LowAtStarts}
 use Rattle.element_envelope.specs.Turnings.{BendsDown, IsThinned, TurnsSuffice}
 use Rattle.element_envelope.proofs.ArchBends.{smaller}

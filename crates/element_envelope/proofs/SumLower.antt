@@ -2,32 +2,32 @@
 use Rattle.std.specs.Prelude.{◌≡◌, ◌≢◌, ◌+◌, ◌*◌, ◌≤◌, pos, Bool, true, false, List, Option, Some, None}
 use Rattle.std.proofs.Common.{arith, mul-le-mul_right, sym, ap, ◌∙◌, subst, inl, inr}
 use native.Mathlib.Nat.{dvd-mul_left, mul-pos}
-use Rattle.upp_limits.specs.rational.specs.Rational.{ℚ, ◌+ℚ◌, ◌-ℚ◌, ◌*ℚ◌, ◌/ℚ◌, neg_ℚ, ◌≤ℚ◌, ◌<ℚ◌, int}
-use Rattle.upp_limits.specs.rational.specs.Ratio.{IsSmall, SumFits}
-use Rattle.upp_limits.specs.rational.specs.Extended.{Ext, min_ext}
-use Rattle.upp_limits.specs.rational.specs.declared.Extended.TheVariants.{Fin, Inf}
-use Rattle.upp_limits.specs.rational.specs.Grid.{Whole, Within}
-use Rattle.upp_limits.specs.rational.proofs.Grid.{whole_int, whole_neg, whole_sub, whole_weaken, within_neg, within_nonneg, within_weaken}
-use Rattle.upp_limits.specs.rational.proofs.Sizes.{sum_on_grid, quotient_on_grid}
-use Rattle.upp_limits.specs.rational.proofs.Integers.{nat_nonneg, nat_le, int_mul, int_add}
-use Rattle.upp_limits.specs.rational.proofs.Laws.{le_refl, le_trans, le_of_lt, mul_zero}
-use Rattle.upp_limits.specs.rational.proofs.MinMax.{min_q_one}
-use Rattle.upp_limits.specs.rational.proofs.Linear.{with2}
-use Rattle.upp_limits.specs.fraction128.specs.declared.fault.Wide.{Wide}
-use Rattle.upp_limits.specs.upp_curve.specs.declared.affine_segment.line.Line.{Line}
-use Rattle.upp_limits.specs.upp_curve.specs.declared.affine_segment.line.Piece.{Piece}
-use Rattle.upp_limits.specs.upp_curve.specs.affine_segment.Steps.{IsWideCross}
-use Rattle.upp_limits.specs.upp_curve.specs.affine_segment.Reading.{read}
+use Rattle.rational.specs.Rational.{ℚ, ◌+ℚ◌, ◌-ℚ◌, ◌*ℚ◌, ◌/ℚ◌, neg_ℚ, ◌≤ℚ◌, ◌<ℚ◌, int}
+use Rattle.rational.specs.Ratio.{IsSmall, SumFits}
+use Rattle.rational.specs.Extended.{Ext, min_ext}
+use Rattle.rational.specs.declared.Extended.TheVariants.{Fin, Inf}
+use Rattle.rational.specs.Grid.{Whole, Within}
+use Rattle.rational.proofs.Grid.{whole_int, whole_neg, whole_sub, whole_weaken, within_neg, within_nonneg, within_weaken}
+use Rattle.rational.proofs.Sizes.{sum_on_grid, quotient_on_grid}
+use Rattle.rational.proofs.Integers.{nat_nonneg, nat_le, int_mul, int_add}
+use Rattle.rational.proofs.Laws.{le_refl, le_trans, le_of_lt, mul_zero}
+use Rattle.rational.proofs.MinMax.{min_q_one}
+use Rattle.rational.proofs.Linear.{with2}
+use Rattle.fraction128.specs.declared.fault.Wide.{Wide}
+use Rattle.upp_curve.specs.declared.affine_segment.line.Line.{Line}
+use Rattle.upp_curve.specs.declared.affine_segment.line.Piece.{Piece}
+use Rattle.upp_curve.specs.affine_segment.Steps.{IsWideCross}
+use Rattle.upp_curve.specs.affine_segment.Reading.{read}
 use Rattle.upp_limits.specs.Limits.{Sizes}
 use Rattle.upp_limits.specs.Sized.{IsSlope, grid_of, times_largest}
-use Rattle.curve_call.specs.upp_normal.specs.Operand.{AreLimited, answer_room}
-use Rattle.upp_limits.specs.upp_curve.specs.affine_segment.Fits.{LineFitsAt}
-use Rattle.curve_call.specs.upp_normal.specs.Room.{top, many, LineInRoom, TimeHasRoom}
-use Rattle.curve_call.specs.upp_normal.proofs.NormaliseGrids.{q_same_or}
-use Rattle.upp_limits.specs.upp_curve.proofs.affine_segment.PieceOrder.{each_map}
-use Rattle.curve_call.specs.upp_normal.proofs.NormaliseRoom.{line_fits}
+use Rattle.upp_normal.specs.Operand.{AreLimited, answer_room}
+use Rattle.upp_curve.specs.affine_segment.Fits.{LineFitsAt}
+use Rattle.upp_normal.specs.Room.{top, many, LineInRoom, TimeHasRoom}
+use Rattle.upp_normal.proofs.NormaliseGrids.{q_same_or}
+use Rattle.upp_curve.proofs.affine_segment.PieceOrder.{each_map}
+use Rattle.upp_normal.proofs.NormaliseRoom.{line_fits}
 use Rattle.upp_limits.proofs.NarrowSizes.{grid_pos, small_number, small_sum, half_bound}
-use Rattle.curve_call.specs.upp_normal.proofs.AnswerRoom.{AnswerLine, IsCrossing, tight, wide_narrow, answer_is_room, line_in_room, halves_apart, crossing_from, many_more, meet_times, nothing_over}
+use Rattle.upp_normal.proofs.AnswerRoom.{AnswerLine, IsCrossing, tight, wide_narrow, answer_is_room, line_in_room, halves_apart, crossing_from, many_more, meet_times, nothing_over}
 use Rattle.curve_call.specs.declared.stretch.Both.{Both}
 use Rattle.curve_call.specs.Stretches.{IsBothOf}
 use Rattle.curve_call.specs.Lies.{MeetsAt, CrossesAt, CrossFits}

@@ -1,16 +1,16 @@
 -- The pieces of a window of sums have the room of its call's answer.
 use Rattle.std.specs.Prelude.{List}
 use Rattle.std.proofs.Common.{arith}
-use Rattle.upp_limits.specs.rational.specs.Rational.{ℚ}
-use Rattle.upp_limits.specs.rational.specs.Extended.{Ext}
-use Rattle.upp_limits.specs.rational.specs.declared.Extended.TheVariants.{Fin, Inf}
-use Rattle.upp_limits.specs.upp_curve.specs.declared.affine_segment.line.Piece.{Piece}
+use Rattle.rational.specs.Rational.{ℚ}
+use Rattle.rational.specs.Extended.{Ext}
+use Rattle.rational.specs.declared.Extended.TheVariants.{Fin, Inf}
+use Rattle.upp_curve.specs.declared.affine_segment.line.Piece.{Piece}
 use Rattle.upp_limits.specs.Limits.{Sizes}
-use Rattle.upp_limits.specs.upp_curve.specs.affine_segment.Pieces.{Each}
-use Rattle.curve_call.specs.upp_normal.specs.Operand.{AreLimited, answer_room}
-use Rattle.curve_call.specs.upp_normal.specs.Room.{TimeHasRoom, ValueHasRoom, PieceHasRoom}
-use Rattle.curve_call.specs.upp_normal.proofs.AnswerRoom.{value_in_room}
-use Rattle.upp_limits.specs.upp_curve.proofs.affine_segment.PieceOrder.{each_map}
+use Rattle.upp_curve.specs.affine_segment.Pieces.{Each}
+use Rattle.upp_normal.specs.Operand.{AreLimited, answer_room}
+use Rattle.upp_normal.specs.Room.{TimeHasRoom, ValueHasRoom, PieceHasRoom}
+use Rattle.upp_normal.proofs.AnswerRoom.{value_in_room}
+use Rattle.upp_curve.proofs.affine_segment.PieceOrder.{each_map}
 use Rattle.element_envelope.specs.SumWindows.{SumValueAt, SumPiece, SumWindow}
 use Rattle.element_envelope.proofs.SumSteps.{time_room, line_room}
 

@@ -1,23 +1,23 @@
 -- Windows of what elements make: no step of the lower of two of them is too wide, and it is one again.
 use Rattle.std.specs.Prelude.{◌≡◌, ◌⊎◌, pos, List, [], ◌∷◌, Option, Some, None}
 use Rattle.std.proofs.Common.{arith, sym, ap, ◌∙◌, subst, inl, inr}
-use Rattle.upp_limits.specs.rational.specs.Rational.{ℚ, ◌*ℚ◌, ◌≤ℚ◌, int}
-use Rattle.upp_limits.specs.rational.specs.Grid.{Whole}
-use Rattle.upp_limits.specs.rational.proofs.Integers.{nat_nonneg}
-use Rattle.upp_limits.specs.rational.proofs.Laws.{le_or_lt, le_of_lt, antisym}
-use Rattle.upp_limits.specs.upp_curve.specs.declared.affine_segment.line.Line.{Line}
-use Rattle.upp_limits.specs.upp_curve.specs.declared.affine_segment.line.Piece.{Piece}
-use Rattle.upp_limits.specs.upp_curve.specs.affine_segment.Values.{line_value}
-use Rattle.upp_limits.specs.upp_curve.specs.affine_segment.Reading.{read, piece_in, piece_value, line_in}
-use Rattle.upp_limits.specs.upp_curve.specs.affine_segment.Pieces.{Each, HasStart}
+use Rattle.rational.specs.Rational.{ℚ, ◌*ℚ◌, ◌≤ℚ◌, int}
+use Rattle.rational.specs.Grid.{Whole}
+use Rattle.rational.proofs.Integers.{nat_nonneg}
+use Rattle.rational.proofs.Laws.{le_or_lt, le_of_lt, antisym}
+use Rattle.upp_curve.specs.declared.affine_segment.line.Line.{Line}
+use Rattle.upp_curve.specs.declared.affine_segment.line.Piece.{Piece}
+use Rattle.upp_curve.specs.affine_segment.Values.{line_value}
+use Rattle.upp_curve.specs.affine_segment.Reading.{read, piece_in, piece_value, line_in}
+use Rattle.upp_curve.specs.affine_segment.Pieces.{Each, HasStart}
 use Rattle.upp_limits.specs.Limits.{Sizes}
-use Rattle.curve_call.specs.upp_normal.specs.Operand.{AreLimited, answer_room}
-use Rattle.upp_limits.specs.upp_curve.specs.affine_segment.Fits.{LineFitsAt}
-use Rattle.curve_call.specs.upp_normal.specs.Room.{TimeHasRoom, LineHasRoom}
-use Rattle.upp_limits.specs.upp_curve.proofs.affine_segment.PieceIn.{value_past, value_at_start}
-use Rattle.upp_limits.specs.upp_curve.proofs.affine_segment.PieceOrder.{each_map}
-use Rattle.curve_call.specs.upp_normal.proofs.NormaliseRoomy.{each_in, found_early}
-use Rattle.curve_call.specs.upp_normal.proofs.AnswerRoom.{AnswerLine, IsCrossing, room_at_start, crossing_room, line_in_room, line_fits_in, line_value_in, steep_run}
+use Rattle.upp_normal.specs.Operand.{AreLimited, answer_room}
+use Rattle.upp_curve.specs.affine_segment.Fits.{LineFitsAt}
+use Rattle.upp_normal.specs.Room.{TimeHasRoom, LineHasRoom}
+use Rattle.upp_curve.proofs.affine_segment.PieceIn.{value_past, value_at_start}
+use Rattle.upp_curve.proofs.affine_segment.PieceOrder.{each_map}
+use Rattle.upp_normal.proofs.NormaliseRoomy.{each_in, found_early}
+use Rattle.upp_normal.proofs.AnswerRoom.{AnswerLine, IsCrossing, room_at_start, crossing_room, line_in_room, line_fits_in, line_value_in, steep_run}
 use Rattle.curve_call.specs.Stretches.{CutsFit}
 use Rattle.element_envelope.specs.ElementRoom.{SumLine}
 use Rattle.element_envelope.specs.SumWindows.{SumStart, SumValueAt, SumLineAt, SumPiece, SumWindow}

@@ -2,9 +2,9 @@
 -- least the mean of both. The least of such functions is one again, so it tells bends apart from what a period may
 -- repeat. Own choice.
 use Rattle.std.specs.Prelude.{ℕ, pos}
-use Rattle.upp_limits.specs.rational.specs.Rational.{ℚ, ◌+ℚ◌, ◌-ℚ◌, ◌≤ℚ◌, ◌<ℚ◌, int}
-use Rattle.upp_limits.specs.rational.specs.Grid.{Whole}
-use Rattle.upp_limits.specs.rational.specs.Extended.{Ext, ◌≤ₑ◌, ◌+ₑ◌}
+use Rattle.rational.specs.Rational.{ℚ, ◌+ℚ◌, ◌-ℚ◌, ◌≤ℚ◌, ◌<ℚ◌, int}
+use Rattle.rational.specs.Grid.{Whole}
+use Rattle.rational.specs.Extended.{Ext, ◌≤ₑ◌, ◌+ₑ◌}
 
 -- no whole multiple of 1 / T lies strictly between
 abbrev pub IsBare : ℕ → ℚ → ℚ → Type 0

@@ -1,14 +1,14 @@
 -- The convolution of two windows, as pieces: of two operands' windows, and of windows that are made of operands'. Own choice.
 use Rattle.std.specs.Prelude.{pos, List}
-use Rattle.upp_limits.specs.rational.specs.Rational.{ℚ, ◌≤ℚ◌, ◌<ℚ◌, int}
-use Rattle.upp_limits.specs.upp_curve.specs.declared.affine_segment.line.Piece.{Piece}
-use Rattle.upp_limits.specs.min_plus.specs.Convolution.{IsConvolution}
+use Rattle.rational.specs.Rational.{ℚ, ◌≤ℚ◌, ◌<ℚ◌, int}
+use Rattle.upp_curve.specs.declared.affine_segment.line.Piece.{Piece}
+use Rattle.min_plus.specs.Convolution.{IsConvolution}
 use Rattle.upp_limits.specs.Limits.{Sizes}
-use Rattle.upp_limits.specs.upp_curve.specs.affine_segment.Pieces.{Each, StartsAtZero}
-use Rattle.curve_call.specs.upp_normal.specs.Ahead.{GridValue}
-use Rattle.curve_call.specs.upp_normal.specs.Operand.{AreLimited, OperandLineAt, OperandPieces}
-use Rattle.upp_limits.specs.upp_curve.specs.affine_segment.Reading.{read}
-use Rattle.upp_limits.specs.rational.specs.Grid.{Whole}
+use Rattle.upp_curve.specs.affine_segment.Pieces.{Each, StartsAtZero}
+use Rattle.upp_normal.specs.Ahead.{GridValue}
+use Rattle.upp_normal.specs.Operand.{AreLimited, OperandLineAt, OperandPieces}
+use Rattle.upp_curve.specs.affine_segment.Reading.{read}
+use Rattle.rational.specs.Grid.{Whole}
 use Rattle.element_envelope.specs.ElementRoom.{WindowTime}
 use Rattle.element_envelope.specs.SumWindows.{SumWindow}
 use Rattle.element_envelope.specs.Arches.{Arches}

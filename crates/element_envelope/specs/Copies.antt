@@ -2,16 +2,16 @@
 -- the convolution. (Bouillard, Boyer and Le Corronc: the convolution of piecewise linear functions; the law is our own
 -- choice.)
 use Rattle.std.specs.Prelude.{◌⊎◌, ◌≡◌, pos, List, [], ◌∷◌, ◌++◌, Option, None}
-use Rattle.upp_limits.specs.rational.specs.Rational.{ℚ, ◌-ℚ◌, ◌≤ℚ◌, ◌<ℚ◌, int}
-use Rattle.upp_limits.specs.rational.specs.Extended.{Ext, ◌≤ₑ◌, ◌+ₑ◌, min_ext}
-use Rattle.upp_limits.specs.rational.specs.declared.Extended.TheVariants.{Inf}
-use Rattle.upp_limits.specs.rational.specs.Bounds.{IsInfimum}
-use Rattle.upp_limits.specs.upp_curve.specs.declared.affine_segment.line.Line.{Line}
-use Rattle.upp_limits.specs.upp_curve.specs.declared.affine_segment.line.Piece.{Piece}
-use Rattle.upp_limits.specs.upp_curve.specs.affine_segment.Pieces.{StartsAtZero}
-use Rattle.upp_limits.specs.upp_curve.specs.affine_segment.Reading.{read}
-use Rattle.upp_limits.specs.upp_curve.specs.affine_segment.Values.{line_value}
-use Rattle.upp_limits.specs.min_plus.specs.Convolution.{IsConvolution}
+use Rattle.rational.specs.Rational.{ℚ, ◌-ℚ◌, ◌≤ℚ◌, ◌<ℚ◌, int}
+use Rattle.rational.specs.Extended.{Ext, ◌≤ₑ◌, ◌+ₑ◌, min_ext}
+use Rattle.rational.specs.declared.Extended.TheVariants.{Inf}
+use Rattle.rational.specs.Bounds.{IsInfimum}
+use Rattle.upp_curve.specs.declared.affine_segment.line.Line.{Line}
+use Rattle.upp_curve.specs.declared.affine_segment.line.Piece.{Piece}
+use Rattle.upp_curve.specs.affine_segment.Pieces.{StartsAtZero}
+use Rattle.upp_curve.specs.affine_segment.Reading.{read}
+use Rattle.upp_curve.specs.affine_segment.Values.{line_value}
+use Rattle.min_plus.specs.Convolution.{IsConvolution}
 
 -- ---- the least of the copies
 -- p is one of these

@@ -1,8 +1,8 @@
 -- A copy of some of a window's pieces: where it starts, and which pieces are over before a time. Own choice.
 use Rattle.std.specs.Prelude.{ℕ, ◌-◌, List, [], ◌∷◌, length}
-use Rattle.upp_limits.specs.rational.specs.Rational.{ℚ, ◌+ℚ◌}
-use Rattle.upp_limits.specs.upp_curve.specs.declared.affine_segment.line.Piece.{Piece}
-use Rattle.upp_limits.specs.upp_curve.specs.Unrolled.{upto}
+use Rattle.rational.specs.Rational.{ℚ, ◌+ℚ◌}
+use Rattle.upp_curve.specs.declared.affine_segment.line.Piece.{Piece}
+use Rattle.upp_curve.specs.Unrolled.{upto}
 
 -- where the first of some pieces starts when it is moved x later; x where there is none
 abbrev pub copy_start : ℚ → List Piece → ℚ

@@ -1,11 +1,11 @@
 -- The least of copies of a window, as pieces. Own choice.
 use Rattle.std.specs.Prelude.{pos, List}
-use Rattle.upp_limits.specs.rational.specs.Rational.{ℚ, ◌≤ℚ◌, ◌<ℚ◌, int}
-use Rattle.upp_limits.specs.upp_curve.specs.declared.affine_segment.line.Piece.{Piece}
-use Rattle.upp_limits.specs.upp_curve.specs.affine_segment.Pieces.{Each, StartsAtZero}
-use Rattle.upp_limits.specs.upp_curve.specs.affine_segment.Reading.{read}
+use Rattle.rational.specs.Rational.{ℚ, ◌≤ℚ◌, ◌<ℚ◌, int}
+use Rattle.upp_curve.specs.declared.affine_segment.line.Piece.{Piece}
+use Rattle.upp_curve.specs.affine_segment.Pieces.{Each, StartsAtZero}
+use Rattle.upp_curve.specs.affine_segment.Reading.{read}
 use Rattle.upp_limits.specs.Limits.{Sizes}
-use Rattle.curve_call.specs.upp_normal.specs.Operand.{AreLimited}
+use Rattle.upp_normal.specs.Operand.{AreLimited}
 use Rattle.element_envelope.specs.SumWindows.{SumWindow}
 use Rattle.element_envelope.specs.Arches.{Arches}
 use Rattle.element_envelope.specs.ConvolutionWindows.{WindowPiece, WindowPieces}

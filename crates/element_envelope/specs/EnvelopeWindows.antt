@@ -1,15 +1,15 @@
 -- The least of all pairs of two lists of elements of operands, as pieces. Own choice.
 use Rattle.std.specs.Prelude.{pos, List}
-use Rattle.upp_limits.specs.rational.specs.Rational.{ℚ, ◌≤ℚ◌, ◌<ℚ◌, int}
-use Rattle.upp_limits.specs.upp_curve.specs.declared.affine_segment.line.Piece.{Piece}
-use Rattle.upp_limits.specs.upp_curve.specs.declared.affine_segment.element.Element.{Element}
-use Rattle.upp_limits.specs.upp_curve.specs.affine_segment.Elements.{IsProper}
+use Rattle.rational.specs.Rational.{ℚ, ◌≤ℚ◌, ◌<ℚ◌, int}
+use Rattle.upp_curve.specs.declared.affine_segment.line.Piece.{Piece}
+use Rattle.upp_curve.specs.declared.affine_segment.element.Element.{Element}
+use Rattle.upp_curve.specs.affine_segment.Elements.{IsProper}
 use Rattle.upp_limits.specs.Limits.{Sizes}
-use Rattle.upp_limits.specs.upp_curve.specs.affine_segment.Fits.{LineFitsAt}
-use Rattle.upp_limits.specs.upp_curve.specs.affine_segment.Pieces.{Each, StartsAtZero}
+use Rattle.upp_curve.specs.affine_segment.Fits.{LineFitsAt}
+use Rattle.upp_curve.specs.affine_segment.Pieces.{Each, StartsAtZero}
 use Rattle.curve_call.specs.Lower.{IsLowerOf}
-use Rattle.curve_call.specs.upp_normal.specs.Operand.{AreLimited}
-use Rattle.upp_limits.specs.upp_curve.specs.affine_segment.Reading.{read}
+use Rattle.upp_normal.specs.Operand.{AreLimited}
+use Rattle.upp_curve.specs.affine_segment.Reading.{read}
 use Rattle.element_envelope.specs.PieceElements.{Among}
 use Rattle.element_envelope.specs.ElementRoom.{OperandElement}
 use Rattle.element_envelope.specs.Envelopes.{IsEnvelope}

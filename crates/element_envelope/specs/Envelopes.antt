@@ -1,11 +1,11 @@
 -- The least of what the pairs of two lists of elements make. (Bouillard, Boyer and Le Corronc: the convolution of two
 -- functions is the least of those of their elementary functions.)
 use Rattle.std.specs.Prelude.{List}
-use Rattle.upp_limits.specs.rational.specs.Rational.{ℚ, ◌+ℚ◌, ◌≤ℚ◌}
-use Rattle.upp_limits.specs.rational.specs.Extended.{Ext}
-use Rattle.upp_limits.specs.rational.specs.Bounds.{IsInfimum}
-use Rattle.upp_limits.specs.upp_curve.specs.declared.affine_segment.element.Element.{Element}
-use Rattle.upp_limits.specs.upp_curve.specs.affine_segment.Elements.{PairSplit, pair_sum, start_of}
+use Rattle.rational.specs.Rational.{ℚ, ◌+ℚ◌, ◌≤ℚ◌}
+use Rattle.rational.specs.Extended.{Ext}
+use Rattle.rational.specs.Bounds.{IsInfimum}
+use Rattle.upp_curve.specs.declared.affine_segment.element.Element.{Element}
+use Rattle.upp_curve.specs.affine_segment.Elements.{PairSplit, pair_sum, start_of}
 use Rattle.element_envelope.specs.PieceElements.{Among}
 
 -- a split of t into a time of an element of the one list and a time of an element of the other

@@ -1,12 +1,12 @@
 -- What pairs of elements make, and the convolutions of windows: there are such pieces, whether or not there is memory for them.
 -- Own choice.
 use Rattle.std.specs.Prelude.{List}
-use Rattle.upp_limits.specs.rational.specs.Rational.{ℚ}
-use Rattle.upp_limits.specs.upp_curve.specs.declared.affine_segment.line.Piece.{Piece}
-use Rattle.upp_limits.specs.upp_curve.specs.declared.affine_segment.element.Element.{Element}
-use Rattle.upp_limits.specs.upp_curve.specs.declared.affine_segment.element.Joined.{Joined}
-use Rattle.upp_limits.specs.upp_curve.specs.affine_segment.Elements.{IsProper, IsConvolved}
-use Rattle.upp_limits.specs.upp_curve.specs.affine_segment.MadeParts.{AreParts}
+use Rattle.rational.specs.Rational.{ℚ}
+use Rattle.upp_curve.specs.declared.affine_segment.line.Piece.{Piece}
+use Rattle.upp_curve.specs.declared.affine_segment.element.Element.{Element}
+use Rattle.upp_curve.specs.declared.affine_segment.element.Joined.{Joined}
+use Rattle.upp_curve.specs.affine_segment.Elements.{IsProper, IsConvolved}
+use Rattle.upp_curve.specs.affine_segment.MadeParts.{AreParts}
 use Rattle.element_envelope.specs.EnvelopeWindows.{EnvelopeRoom, IsEnvelopeWindow}
 use Rattle.element_envelope.specs.ConvolutionWindows.{OperandWindows, IsConvolutionWindow, WindowsFrom, IsConvolutionFrom}
 

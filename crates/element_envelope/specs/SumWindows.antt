@@ -1,16 +1,16 @@
 -- Windows of what elements make: where their pieces start, and where their values and lines stand. Own choice.
 use Rattle.std.specs.Prelude.{ℕ, ◌*◌, ◌⊎◌, pos, List, Option, Some, None}
 use Prim.Native.Nat.{◌∣◌}
-use Rattle.upp_limits.specs.rational.specs.Rational.{ℚ, ◌≤ℚ◌, ◌<ℚ◌, int}
-use Rattle.upp_limits.specs.rational.specs.Extended.{Ext}
-use Rattle.upp_limits.specs.rational.specs.declared.Extended.TheVariants.{Fin, Inf}
-use Rattle.upp_limits.specs.rational.specs.Grid.{Whole, Within}
-use Rattle.upp_limits.specs.upp_curve.specs.declared.affine_segment.line.Line.{Line}
-use Rattle.upp_limits.specs.upp_curve.specs.declared.affine_segment.line.Piece.{Piece}
+use Rattle.rational.specs.Rational.{ℚ, ◌≤ℚ◌, ◌<ℚ◌, int}
+use Rattle.rational.specs.Extended.{Ext}
+use Rattle.rational.specs.declared.Extended.TheVariants.{Fin, Inf}
+use Rattle.rational.specs.Grid.{Whole, Within}
+use Rattle.upp_curve.specs.declared.affine_segment.line.Line.{Line}
+use Rattle.upp_curve.specs.declared.affine_segment.line.Piece.{Piece}
 use Rattle.upp_limits.specs.Limits.{Sizes}
-use Rattle.upp_limits.specs.upp_curve.specs.affine_segment.Pieces.{Each, StartsAtZero}
+use Rattle.upp_curve.specs.affine_segment.Pieces.{Each, StartsAtZero}
 use Rattle.upp_limits.specs.Sized.{times_largest}
-use Rattle.curve_call.specs.upp_normal.specs.Crossings.{IsCrossing}
+use Rattle.upp_normal.specs.Crossings.{IsCrossing}
 use Rattle.element_envelope.specs.ElementRoom.{SumLine}
 
 -- a time of the window, on the grid of times or where two lines cross

@@ -1,9 +1,9 @@
 -- The lower of two windows of what elements make. Own choice.
 use Rattle.std.specs.Prelude.{List}
-use Rattle.upp_limits.specs.rational.specs.Rational.{ℚ}
-use Rattle.upp_limits.specs.upp_curve.specs.declared.affine_segment.line.Piece.{Piece}
+use Rattle.rational.specs.Rational.{ℚ}
+use Rattle.upp_curve.specs.declared.affine_segment.line.Piece.{Piece}
 use Rattle.upp_limits.specs.Limits.{Sizes}
-use Rattle.curve_call.specs.upp_normal.specs.Operand.{AreLimited}
+use Rattle.upp_normal.specs.Operand.{AreLimited}
 use Rattle.curve_call.specs.Stretches.{CutsFit}
 use Rattle.curve_call.specs.Lower.{LowerFits, IsLowerOf}
 use Rattle.element_envelope.specs.SumWindows.{SumWindow}

@@ -12,10 +12,10 @@ use crate::cutting::cut;
 use crate::least::{MadePieces, envelope, lower_joined};
 use crate::near::{near_starts, steepest};
 use crate::starts::{are_low_at_starts, turning_starts};
+use fraction128::Frac;
+use rational::Extended;
 use std::alloc::{AllocError, Global};
-use upp_limits::fraction128::Frac;
-use upp_limits::rational::Extended;
-use upp_limits::upp_curve::affine_segment::Piece;
+use upp_curve::affine_segment::Piece;
 
 // The least of the copies of g at some starts, of which those are left out that are so far above the first one that their
 // copies are nowhere below its copy.

@@ -1,23 +1,23 @@
 //! The least of copies of pieces, each moved to the start of another piece and as high as the value there.
 
 ghost use Rattle.std.specs.Prelude.{[], ◌≡◌, ◌∷◌, ◌++◌, IfOk};
-ghost use Rattle.upp_limits.specs.rational.specs.Rational.{◌-ℚ◌, neg_ℚ};
-ghost use Rattle.upp_limits.specs.rational.specs.Ratio.{SumFits};
-ghost use Rattle.upp_limits.specs.upp_curve.specs.affine_segment.Pieces.{Each};
-ghost use Rattle.upp_limits.specs.upp_curve.specs.Fitting.{LaterFits};
-ghost use Rattle.upp_limits.specs.upp_curve.specs.Unrolled.{each_later, upto};
+ghost use Rattle.rational.specs.Rational.{◌-ℚ◌, neg_ℚ};
+ghost use Rattle.rational.specs.Ratio.{SumFits};
+ghost use Rattle.upp_curve.specs.affine_segment.Pieces.{Each};
+ghost use Rattle.upp_curve.specs.Fitting.{LaterFits};
+ghost use Rattle.upp_curve.specs.Unrolled.{each_later, upto};
 ghost use Rattle.element_envelope.specs.JoinedWindows.{lead_of};
 ghost use Rattle.element_envelope.specs.CopyWindows.{CopyRoom, IsCopyWindow};
 ghost use Rattle.element_envelope.specs.CopyPieces.{copy_start, skipped};
 
 use crate::least::{lower_joined, nothing};
 use crate::window::lead;
-use curve_call::upp_normal::count_before;
+use fraction128::{Frac, difference, is_less, sum};
+use rational::Extended;
 use std::alloc::{AllocError, Global};
-use upp_limits::fraction128::{Frac, difference, is_less, sum};
-use upp_limits::rational::Extended;
-use upp_limits::upp_curve::affine_segment::Piece;
-use upp_limits::upp_curve::fitting::later;
+use upp_curve::affine_segment::Piece;
+use upp_curve::fitting::later;
+use upp_normal::count_before;
 
 // Where the first of some pieces starts when it is moved x later; x where there is none.
 fn copy_start(x: Frac, pieces: &[Piece]) -> Frac

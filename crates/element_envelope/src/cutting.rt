@@ -3,10 +3,10 @@
 ghost use Rattle.std.specs.Prelude.{◌≡◌, ◌+◌, ◌<◌, ◌++◌, length, drop, OnOk, IfOk};
 ghost use Rattle.element_envelope.specs.PieceElements.{point_of, segment_of, next_start, elements_of};
 
+use fraction128::Ext;
+use rational::Extended;
 use std::alloc::{AllocError, Global};
-use upp_limits::fraction128::Ext;
-use upp_limits::rational::Extended;
-use upp_limits::upp_curve::affine_segment::{Element, Piece};
+use upp_curve::affine_segment::{Element, Piece};
 
 // Where the piece after the i-th starts; `end` where there is none.
 fn next_start(pieces: &[Piece], i: usize, end: &Ext) -> Ext

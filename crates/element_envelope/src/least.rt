@@ -1,23 +1,23 @@
 //! The least of what all pairs of two lists of elements make.
 
 ghost use Rattle.std.specs.Prelude.{◌≡◌, pos, [], ◌∷◌, length, IfOk, IsTrue, All};
-ghost use Rattle.upp_limits.specs.rational.specs.Rational.{int, ◌+ℚ◌, ◌≤ℚ◌};
-ghost use Rattle.upp_limits.specs.upp_curve.specs.affine_segment.Elements.{start_of};
-ghost use Rattle.upp_limits.specs.upp_curve.specs.affine_segment.Pieces.{StartsAtZero};
+ghost use Rattle.rational.specs.Rational.{int, ◌+ℚ◌, ◌≤ℚ◌};
+ghost use Rattle.upp_curve.specs.affine_segment.Elements.{start_of};
+ghost use Rattle.upp_curve.specs.affine_segment.Pieces.{StartsAtZero};
 ghost use Rattle.curve_call.specs.Stretches.{CutsFit};
 ghost use Rattle.curve_call.specs.Lower.{LowerFits, IsLowerOf};
-ghost use Rattle.upp_limits.specs.upp_curve.specs.Unrolled.{upto};
-ghost use Rattle.upp_limits.specs.upp_curve.specs.affine_segment.Reading.{nothing_at};
+ghost use Rattle.upp_curve.specs.Unrolled.{upto};
+ghost use Rattle.upp_curve.specs.affine_segment.Reading.{nothing_at};
 ghost use Rattle.element_envelope.specs.EnvelopeWindows.{EnvelopeRoom, LowerJoins, IsEnvelopeWindow};
 
 use crate::pair::joined;
 use crate::window::joined_window;
-use curve_call::upp_normal::{count_before, merged};
 use curve_call::window_lower;
+use fraction128::{Frac, is_less};
+use rational::Extended;
 use std::alloc::{AllocError, Global};
-use upp_limits::fraction128::{Frac, is_less};
-use upp_limits::rational::Extended;
-use upp_limits::upp_curve::affine_segment::{Element, Piece, start_of};
+use upp_curve::affine_segment::{Element, Piece, start_of};
+use upp_normal::{count_before, merged};
 
 /// Pieces, or want of memory.
 pub(crate) type MadePieces = Result<Vec<Piece>, AllocError>;

@@ -1,17 +1,17 @@
 //! Which starts are so far above the first one that their copies are nowhere below its copy.
 
 ghost use Rattle.std.specs.Prelude.{ℕ, ◌≡◌, ◌∷◌, ◌<◌, length, List, IsTrue, IfOk, IfSome};
-ghost use Rattle.upp_limits.specs.rational.specs.Rational.{ℚ, ◌+ℚ◌, ◌-ℚ◌, ◌*ℚ◌, ◌≤ℚ◌};
-ghost use Rattle.upp_limits.specs.upp_curve.specs.declared.affine_segment.line.Piece.{Piece as SpecPiece};
-ghost use Rattle.upp_limits.specs.upp_curve.specs.affine_segment.Pieces.{Each};
-ghost use Rattle.upp_limits.specs.upp_curve.specs.affine_segment.Fits.{LineFitsAt};
+ghost use Rattle.rational.specs.Rational.{ℚ, ◌+ℚ◌, ◌-ℚ◌, ◌*ℚ◌, ◌≤ℚ◌};
+ghost use Rattle.upp_curve.specs.declared.affine_segment.line.Piece.{Piece as SpecPiece};
+ghost use Rattle.upp_curve.specs.affine_segment.Pieces.{Each};
+ghost use Rattle.upp_curve.specs.affine_segment.Fits.{LineFitsAt};
 ghost use Rattle.element_envelope.specs.CopyWindows.{HaveWindowRoom};
 ghost use Rattle.element_envelope.specs.NearStarts.{RisesWithin, IsFar, IsNear};
 
+use fraction128::{Frac, is_less};
+use rational::Extended;
 use std::alloc::{AllocError, Global};
-use upp_limits::fraction128::{Frac, is_less};
-use upp_limits::rational::Extended;
-use upp_limits::upp_curve::affine_segment::{Piece, value};
+use upp_curve::affine_segment::{Piece, value};
 
 // The slope of a piece that goes on from its value with no jump up.
 fn plain_slope(p: &Piece) -> Option<Frac>

@@ -1,10 +1,10 @@
 //! What two elements of operands make.
 
-ghost use Rattle.upp_limits.specs.upp_curve.specs.affine_segment.Elements.{IsProper, IsConvolved};
-ghost use Rattle.upp_limits.specs.upp_curve.specs.affine_segment.MadeParts.{AreParts};
+ghost use Rattle.upp_curve.specs.affine_segment.Elements.{IsProper, IsConvolved};
+ghost use Rattle.upp_curve.specs.affine_segment.MadeParts.{AreParts};
 ghost use Rattle.element_envelope.specs.ElementRoom.{HaveRoom};
 
-use upp_limits::upp_curve::affine_segment::{Element, Joined, element_conv};
+use upp_curve::affine_segment::{Element, Joined, element_conv};
 
 /// The convolution of two elements of operands, within sizes under which no step is too wide.
 pub fn joined(a: &Element, b: &Element) -> Joined

@@ -1,18 +1,18 @@
 //! Whether pieces are nowhere above the limits beside a start, and the starts at which they do not bend downwards.
 
 ghost use Rattle.std.specs.Prelude.{◌≡◌, IsTrue, IfOk, None};
-ghost use Rattle.upp_limits.specs.rational.specs.Rational.{ℚ, ◌<ℚ◌};
-ghost use Rattle.upp_limits.specs.rational.specs.Extended.{◌≤ₑ◌};
-ghost use Rattle.upp_limits.specs.upp_curve.specs.affine_segment.Values.{line_at, line_value};
-ghost use Rattle.upp_limits.specs.upp_curve.specs.affine_segment.Fits.{LineFits, LineFitsAt};
+ghost use Rattle.rational.specs.Rational.{ℚ, ◌<ℚ◌};
+ghost use Rattle.rational.specs.Extended.{◌≤ₑ◌};
+ghost use Rattle.upp_curve.specs.affine_segment.Values.{line_at, line_value};
+ghost use Rattle.upp_curve.specs.affine_segment.Fits.{LineFits, LineFitsAt};
 ghost use Rattle.element_envelope.specs.Copies.{LowAtStarts};
 ghost use Rattle.element_envelope.specs.CopyWindows.{HaveWindowRoom};
 ghost use Rattle.element_envelope.specs.Turnings.{BendsDown, IsThinned};
 
+use fraction128::{Ext, Frac, is_less};
+use rational::Extended;
 use std::alloc::{AllocError, Global};
-use upp_limits::fraction128::{Ext, Frac, is_less};
-use upp_limits::rational::Extended;
-use upp_limits::upp_curve::affine_segment::{Line, Piece, value};
+use upp_curve::affine_segment::{Line, Piece, value};
 
 // Whether a value is at most that of a line at x; no line is infinity.
 fn is_below(v: Ext, line: &Option<Line>, x: Frac) -> bool

@@ -1,16 +1,16 @@
 //! What two elements make, as a window.
 
 ghost use Rattle.std.specs.Prelude.{◌≡◌, pos, ◌++◌, OnOk, IfOk};
-ghost use Rattle.upp_limits.specs.rational.specs.Rational.{◌≤ℚ◌, int};
-ghost use Rattle.upp_limits.specs.upp_curve.specs.affine_segment.Elements.{start_of, AreAdjoined};
+ghost use Rattle.rational.specs.Rational.{◌≤ℚ◌, int};
+ghost use Rattle.upp_curve.specs.affine_segment.Elements.{start_of, AreAdjoined};
 ghost use Rattle.element_envelope.specs.JoinedWindows.{after_end, part_pieces, first_pieces, turn_pieces};
 ghost use Rattle.element_envelope.specs.JoinedWindows.{joined_list, lead_of, IsWindowOf};
 
+use fraction128::{Ext, Frac};
+use rational::Extended;
 use std::alloc::{AllocError, Global};
 use std::cmp::Ordering;
-use upp_limits::fraction128::{Ext, Frac};
-use upp_limits::rational::Extended;
-use upp_limits::upp_curve::affine_segment::{Element, Joined, Piece, start_of};
+use upp_curve::affine_segment::{Element, Joined, Piece, start_of};
 
 // Infinity from an end on.
 fn push_end(pieces: &mut Vec<Piece>, end: &Ext) -> Result<(), AllocError>

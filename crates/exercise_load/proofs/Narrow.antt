@@ -4,13 +4,13 @@ use Rattle.std.specs.Prelude.{◌&&◌, nat_le, nat_lt}
 use Rattle.std.specs.List.{list_all, range_with_len}
 use Rattle.std.proofs.lemmas.Bool.{and_parts, leb-true, ltb-true}
 use Rattle.std.proofs.lemmas.List.FromFn.{get_or-range_with_len, length-range_with_len}
-use Rattle.upp_limits.specs.rational.specs.Gauge.{common_den_from, size_up, bound_of}
-use Rattle.upp_limits.specs.min_plus.specs.Functions.{zero_q}
-use Rattle.upp_limits.specs.upp_curve.specs.Curve.{SpecCurve}
-use Rattle.upp_limits.specs.upp_curve.specs.Kinds.{rate_latency, stair}
-use Rattle.upp_limits.specs.upp_curve.specs.Steady.{steady, same_ext}
+use Rattle.rational.specs.Gauge.{common_den_from, size_up, bound_of}
+use Rattle.min_plus.specs.Functions.{zero_q}
+use Rattle.upp_curve.specs.Curve.{SpecCurve}
+use Rattle.upp_curve.specs.Kinds.{rate_latency, stair}
+use Rattle.upp_curve.specs.Steady.{steady, same_ext}
 use Rattle.net_model.proofs.PlainNets.{each_passes}
-use Rattle.upp_limits.specs.upp_curve.proofs.Worked.{computing}
+use Rattle.upp_curve.proofs.Worked.{computing}
 use Rattle.upp_limits.specs.Limits.{gauge_of, own_end, own_sizes, own_gauge, own_tally}
 use Rattle.upp_limits.specs.OwnLimits.{IsWithinOwn}
 use Rattle.upp_limits.specs.Periods.{own_period}

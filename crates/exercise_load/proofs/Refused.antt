@@ -1,12 +1,12 @@
 -- A curve that is within the limits is refused only for want of memory.
 use Rattle.std.proofs.Common.{◌≡◌, ℕ, pos, Err, refl, subst, inl, inr}
 use native.Mathlib.Nat.{not-le_of_lt}
-use Rattle.upp_limits.specs.rational.specs.Rational.{ℚ, ◌<ℚ◌, ◌≤ℚ◌, int}
-use Rattle.upp_limits.specs.rational.proofs.Integers.{nat_nonneg, nat_lt}
-use Rattle.upp_limits.specs.rational.proofs.Laws.{le_lt_trans, lt_le_trans, lt_irrefl}
-use Rattle.upp_limits.specs.min_plus.specs.Functions.{zero_q}
-use Rattle.upp_limits.specs.upp_curve.specs.Curve.{SpecCurve}
-use Rattle.upp_limits.specs.upp_curve.specs.Kinds.{rate_latency, stair}
+use Rattle.rational.specs.Rational.{ℚ, ◌<ℚ◌, ◌≤ℚ◌, int}
+use Rattle.rational.proofs.Integers.{nat_nonneg, nat_lt}
+use Rattle.rational.proofs.Laws.{le_lt_trans, lt_le_trans, lt_irrefl}
+use Rattle.min_plus.specs.Functions.{zero_q}
+use Rattle.upp_curve.specs.Curve.{SpecCurve}
+use Rattle.upp_curve.specs.Kinds.{rate_latency, stair}
 use Rattle.upp_limits.specs.declared.own_limits.OverLimit.TheVariants.{TooMany, TooWide}
 use Rattle.upp_limits.specs.OwnLimits.{IsWithinOwn}
 use Rattle.curve_library.specs.Causes.{KeepsCauses, OneNegative}

@@ -10,10 +10,10 @@ use Rattle.std.proofs.lemmas.List.{get_or-map, length-map}
 use Rattle.std.proofs.lemmas.List.Folds.{list_all-append}
 use Rattle.std.proofs.lemmas.List.FromFn.{get_or-range_with_len, length-range_with_len, get_or-map-range_with_len, length-map-range_with_len}
 use Rattle.std.proofs.lemmas.Option.{slice_get-get_or, same_Some}
-use Rattle.upp_limits.specs.rational.proofs.Integers.{nat_nonneg, nat_lt}
-use Rattle.upp_limits.specs.rational.proofs.Laws.{le_refl}
-use Rattle.upp_limits.specs.min_plus.specs.Functions.{zero_q}
-use Rattle.net_model.specs.run_laws.specs.Servers.{Fifo, Priority, Drr, queue_count}
+use Rattle.rational.proofs.Integers.{nat_nonneg, nat_lt}
+use Rattle.rational.proofs.Laws.{le_refl}
+use Rattle.min_plus.specs.Functions.{zero_q}
+use Rattle.run_laws.specs.Servers.{Fifo, Priority, Drr, queue_count}
 use Rattle.net_model.specs.Accepted.{IsAccepted, IsServer, IsFlow, IsHop, IsInQuantum, HasFewQueues, IsLength}
 use Rattle.net_model.specs.declared.trace.TracePacket.{TracePacket}
 use Rattle.net_model.specs.Names.{IsName, is_name_byte, DifferInName}

@@ -1,8 +1,8 @@
 -- What holds of every workload.
 use Rattle.std.specs.Prelude.{◌≡◌, ◌⊎◌, ℕ, ◌*◌, ◌<◌, All, AllPairs, Contains}
-use Rattle.upp_limits.specs.rational.specs.Rational.{◌<ℚ◌}
-use Rattle.upp_limits.specs.min_plus.specs.Functions.{zero_q}
-use Rattle.upp_limits.specs.upp_curve.specs.Kinds.{rate_latency, stair}
+use Rattle.rational.specs.Rational.{◌<ℚ◌}
+use Rattle.min_plus.specs.Functions.{zero_q}
+use Rattle.upp_curve.specs.Kinds.{rate_latency, stair}
 use Rattle.upp_limits.specs.OwnLimits.{IsWithinOwn}
 use Rattle.net_model.specs.Accepted.{IsAccepted}
 use Rattle.net_model.specs.declared.trace.TracePacket.{TracePacket}

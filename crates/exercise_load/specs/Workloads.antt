@@ -2,11 +2,11 @@
 use Rattle.std.specs.Prelude.{ℕ, pos, ◌*◌, ◌%◌, ◌==◌, Bool, List, [], ◌∷◌, map, Some, if◌then◌else◌}
 use Rattle.std.specs.Fmt.{decimal}
 use Rattle.std.specs.List.{filter, flat_map, range_with_len}
-use Rattle.upp_limits.specs.rational.specs.Rational.{ℚ, int}
-use Rattle.upp_limits.specs.min_plus.specs.Functions.{zero_q}
-pub use Rattle.upp_limits.specs.min_plus.specs.Functions.{whole}
-use Rattle.upp_limits.specs.upp_curve.specs.Kinds.{rate_latency, stair}
-use Rattle.net_model.specs.run_laws.specs.Servers.{Discipline, Fifo, Priority, Drr}
+use Rattle.rational.specs.Rational.{ℚ, int}
+use Rattle.min_plus.specs.Functions.{zero_q}
+pub use Rattle.min_plus.specs.Functions.{whole}
+use Rattle.upp_curve.specs.Kinds.{rate_latency, stair}
+use Rattle.run_laws.specs.Servers.{Discipline, Fifo, Priority, Drr}
 use Rattle.net_model.specs.declared.server.ServiceKind.TheVariants.{Latency}
 use Rattle.net_model.specs.declared.trace.TracePacket.{TracePacket}
 use Rattle.net_model.specs.Networks.{Net, NetServer, NetFlow}

@@ -3,18 +3,18 @@
 ghost use Rattle.std.specs.Prelude.{◌≡◌, ◌≤◌, ◌+◌, ◌^◌, map, Some, IfOk};
 ghost use Rattle.std.specs.List.{range_with_len};
 ghost use Rattle.std.specs.String.{string_bytes};
-ghost use Rattle.upp_limits.specs.min_plus.specs.Functions.{zero_q};
-ghost use Rattle.upp_limits.specs.upp_curve.specs.Kinds.{stair};
+ghost use Rattle.min_plus.specs.Functions.{zero_q};
+ghost use Rattle.upp_curve.specs.Kinds.{stair};
 ghost use Rattle.net_model.specs.Views as model;
 ghost use Rattle.exercise_load.specs.Bounds.{IsDrawn, AreDrawn};
 ghost use Rattle.exercise_load.specs.Workloads as loads;
 
 use crate::drawn::DrawnFlow;
 use curve_library::{CurveFault, stair};
+use fraction128::Frac;
 use net_model::Flow;
 use std::alloc::{AllocError, Global};
-use upp_limits::fraction128::Frac;
-use upp_limits::upp_curve::Curve;
+use upp_curve::Curve;
 
 fn name_of(alloc: Global, number: u32) -> Result<String, AllocError>
     ensures { IfOk result (λ s. string_bytes s ≡ loads.numbered 102 number) }

@@ -6,9 +6,9 @@ ghost use Rattle.exercise_load.specs.Bounds.{IsDrawn, AreDrawn};
 ghost use Rattle.exercise_load.specs.Workloads as loads;
 
 use crate::drawn::DrawnFlow;
+use fraction128::Frac;
 use net_model::TracePacket;
 use std::alloc::{AllocError, Global};
-use upp_limits::fraction128::Frac;
 
 /// Between two times at which flows send.
 const STEP: u64 = 8_000;

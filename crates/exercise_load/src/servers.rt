@@ -3,15 +3,15 @@
 ghost use Rattle.std.specs.Prelude.{◌≡◌, ◌<◌, map, IfOk};
 ghost use Rattle.std.specs.List.{range_with_len};
 ghost use Rattle.std.specs.String.{string_bytes};
-ghost use Rattle.upp_limits.specs.upp_curve.specs.Kinds.{rate_latency};
+ghost use Rattle.upp_curve.specs.Kinds.{rate_latency};
 ghost use Rattle.net_model.specs.Views as model;
 ghost use Rattle.exercise_load.specs.Workloads as loads;
 
 use curve_library::{CurveFault, rate_latency};
+use fraction128::Frac;
 use net_model::{Discipline, Server, ServiceKind};
 use std::alloc::{AllocError, Global};
-use upp_limits::fraction128::Frac;
-use upp_limits::upp_curve::Curve;
+use upp_curve::Curve;
 
 const SERVERS: u32 = 16;
 

@@ -1,11 +1,11 @@
 -- What is seen of some first packets of a flow, of the flow.
 use Rattle.std.specs.Prelude.{◌≡◌, ℕ, zero, suc, ◌+◌, ◌<◌, ◌≤◌, List, [], ◌∷◌, length, take}
 use Rattle.std.proofs.Common.{arith, refl, sym, subst, ap}
-use Rattle.upp_limits.specs.rational.specs.Rational.{ℚ, ◌-ℚ◌}
-use Rattle.upp_limits.specs.rational.specs.Extended.{Ext, ◌<ₑ◌}
-use Rattle.upp_limits.specs.rational.specs.declared.Extended.TheVariants.{Fin}
-use Rattle.upp_limits.specs.upp_curve.specs.Curve.{SpecCurve}
-use Rattle.net_model.specs.run_laws.specs.Cards.{whole}
+use Rattle.rational.specs.Rational.{ℚ, ◌-ℚ◌}
+use Rattle.rational.specs.Extended.{Ext, ◌<ₑ◌}
+use Rattle.rational.specs.declared.Extended.TheVariants.{Fin}
+use Rattle.upp_curve.specs.Curve.{SpecCurve}
+use Rattle.run_laws.specs.Cards.{whole}
 use Rattle.flow_watch.specs.declared.watch_laws.entering.Entering.{Entering}
 use Rattle.flow_watch.specs.watch_laws.Entries.{entering, bits_to, bits_between}
 use Rattle.flow_watch.specs.Flows.{WindowReads, FlowReads, NoneCrowded}

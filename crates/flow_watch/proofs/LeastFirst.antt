@@ -3,12 +3,12 @@ use Rattle.std.specs.Prelude.{◌≡◌, ℕ, zero, suc, ◌+◌, ◌<◌, ◌�
 use Rattle.std.specs.List.{slice_index_or}
 use Rattle.std.proofs.Common.{arith, inl, inr, refl, sym, subst, ap, ap₂, ◌∙◌}
 use Rattle.std.proofs.lemmas.Bool.{cases_lt}
-use Rattle.upp_limits.specs.rational.specs.Rational.{ℚ, int, ◌-ℚ◌}
-use Rattle.upp_limits.specs.rational.specs.Extended.{Ext, ◌<ₑ◌}
-use Rattle.upp_limits.specs.rational.specs.declared.Extended.TheVariants.{Fin}
-use Rattle.upp_limits.specs.upp_curve.specs.Curve.{SpecCurve}
+use Rattle.rational.specs.Rational.{ℚ, int, ◌-ℚ◌}
+use Rattle.rational.specs.Extended.{Ext, ◌<ₑ◌}
+use Rattle.rational.specs.declared.Extended.TheVariants.{Fin}
+use Rattle.upp_curve.specs.Curve.{SpecCurve}
 use Rattle.upp_normal.specs.Unrolling.{IsOperandTo}
-use Rattle.net_model.specs.run_laws.specs.Cards.{whole}
+use Rattle.run_laws.specs.Cards.{whole}
 use Rattle.flow_watch.specs.declared.watch_laws.entering.Entering.{Entering}
 use Rattle.flow_watch.specs.watch_laws.Entries.{entering, bits_between, IsCrowded}
 use Rattle.flow_watch.specs.Flows.{WindowReads, FlowReads, NoneCrowdedFrom, FindsFirst}

@@ -2,26 +2,26 @@
 use Rattle.std.specs.Prelude.{◌≡◌, ◌≢◌, ℕ, zero, suc, ◌+◌, ◌<◌, pos, List, [], ◌∷◌, length, drop, Option, Some, None, IfSome, unwrap_or}
 use Rattle.std.specs.List.{slice_index_or}
 use Rattle.std.proofs.Common.{arith, sym, subst, ap, ◌∙◌, inl, inr, add-one}
-use Rattle.upp_limits.specs.rational.specs.Rational.{ℚ, int, ◌+ℚ◌, ◌-ℚ◌, ◌*ℚ◌, ◌/ℚ◌, ◌≤ℚ◌, ◌<ℚ◌}
-use Rattle.upp_limits.specs.rational.specs.Extended.{Ext, ◌≤ₑ◌, ◌+ₑ◌}
-use Rattle.upp_limits.specs.rational.specs.declared.Extended.TheVariants.{Fin, Inf}
-use Rattle.upp_limits.specs.rational.proofs.ExtendedOrder.{le_ext_trans}
-use Rattle.upp_limits.specs.rational.proofs.Integers.{nat_lt_out, nat_next}
-use Rattle.upp_limits.specs.rational.proofs.Laws.{div_mul, le_of_lt, le_or_lt, le_lt_trans, le_trans, lt_le_trans, mul_add, mul_le_mul_right, mul_lt_mul, mul_nonneg, not_zero, zero_mul}
-use Rattle.upp_limits.specs.rational.proofs.Linear.{with2, with3, with4, with_atoms, sub_nonneg}
-use Rattle.upp_limits.specs.rational.proofs.Whole.{one_more_times}
-use Rattle.upp_limits.specs.upp_curve.specs.declared.affine_segment.line.Piece.{Piece}
-use Rattle.upp_limits.specs.upp_curve.specs.affine_segment.Pieces.{StartsAtZero}
-use Rattle.upp_limits.specs.upp_curve.specs.affine_segment.Reading.{piece_value, read}
-use Rattle.upp_limits.specs.upp_curve.proofs.affine_segment.PieceIn.{read_go, read_one, read_stop}
-use Rattle.upp_limits.specs.upp_curve.specs.declared.curve.Tail.{Tail}
-use Rattle.upp_limits.specs.upp_curve.specs.declared.curve.Tail.TheVariants.{Periodic}
-use Rattle.upp_limits.specs.upp_curve.specs.Curve.{SpecCurve, value_at}
-use Rattle.upp_limits.specs.upp_curve.specs.Curves.{IsCurve}
-use Rattle.upp_limits.specs.upp_curve.specs.Normal.{IsNormal}
-use Rattle.upp_limits.specs.upp_curve.proofs.Repeats.{tail_lemma}
-use Rattle.net_model.specs.run_laws.specs.Cards.{whole}
-use Rattle.net_model.specs.run_laws.proofs.Sizes.{whole_le}
+use Rattle.rational.specs.Rational.{ℚ, int, ◌+ℚ◌, ◌-ℚ◌, ◌*ℚ◌, ◌/ℚ◌, ◌≤ℚ◌, ◌<ℚ◌}
+use Rattle.rational.specs.Extended.{Ext, ◌≤ₑ◌, ◌+ₑ◌}
+use Rattle.rational.specs.declared.Extended.TheVariants.{Fin, Inf}
+use Rattle.rational.proofs.ExtendedOrder.{le_ext_trans}
+use Rattle.rational.proofs.Integers.{nat_lt_out, nat_next}
+use Rattle.rational.proofs.Laws.{div_mul, le_of_lt, le_or_lt, le_lt_trans, le_trans, lt_le_trans, mul_add, mul_le_mul_right, mul_lt_mul, mul_nonneg, not_zero, zero_mul}
+use Rattle.rational.proofs.Linear.{with2, with3, with4, with_atoms, sub_nonneg}
+use Rattle.rational.proofs.Whole.{one_more_times}
+use Rattle.upp_curve.specs.declared.affine_segment.line.Piece.{Piece}
+use Rattle.upp_curve.specs.affine_segment.Pieces.{StartsAtZero}
+use Rattle.upp_curve.specs.affine_segment.Reading.{piece_value, read}
+use Rattle.upp_curve.proofs.affine_segment.PieceIn.{read_go, read_one, read_stop}
+use Rattle.upp_curve.specs.declared.curve.Tail.{Tail}
+use Rattle.upp_curve.specs.declared.curve.Tail.TheVariants.{Periodic}
+use Rattle.upp_curve.specs.Curve.{SpecCurve, value_at}
+use Rattle.upp_curve.specs.Curves.{IsCurve}
+use Rattle.upp_curve.specs.Normal.{IsNormal}
+use Rattle.upp_curve.proofs.Repeats.{tail_lemma}
+use Rattle.run_laws.specs.Cards.{whole}
+use Rattle.run_laws.proofs.Sizes.{whole_le}
 use Rattle.flow_watch.specs.declared.watch_laws.entering.Entering.{Entering}
 use Rattle.flow_watch.specs.watch_laws.Entries.{entering, bits_between}
 use Rattle.flow_watch.specs.watch_laws.Segments.{next_start}

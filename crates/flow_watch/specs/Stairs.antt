@@ -1,12 +1,12 @@
 -- Packets whose bits are counted in steps of a stair against a line under the stair: where the line at d is at least a whole number,
 -- the stair has one step more than that number. Own choice.
 use Rattle.std.specs.Prelude.{◌≡◌, ℕ, suc, pos, ◌<◌, List, [], ◌∷◌, length, drop, unwrap_or}
-use Rattle.upp_limits.specs.rational.specs.Rational.{ℚ, int, ◌+ℚ◌, ◌*ℚ◌, ◌≤ℚ◌, ◌<ℚ◌}
-use Rattle.upp_limits.specs.rational.specs.Extended.{Ext, ◌≤ₑ◌}
-use Rattle.upp_limits.specs.rational.specs.declared.Extended.TheVariants.{Fin}
-use Rattle.upp_limits.specs.upp_curve.specs.declared.affine_segment.line.Piece.{Piece}
-use Rattle.upp_limits.specs.upp_curve.specs.affine_segment.Reading.{piece_value}
-use Rattle.net_model.specs.run_laws.specs.Cards.{whole}
+use Rattle.rational.specs.Rational.{ℚ, int, ◌+ℚ◌, ◌*ℚ◌, ◌≤ℚ◌, ◌<ℚ◌}
+use Rattle.rational.specs.Extended.{Ext, ◌≤ₑ◌}
+use Rattle.rational.specs.declared.Extended.TheVariants.{Fin}
+use Rattle.upp_curve.specs.declared.affine_segment.line.Piece.{Piece}
+use Rattle.upp_curve.specs.affine_segment.Reading.{piece_value}
+use Rattle.run_laws.specs.Cards.{whole}
 use Rattle.flow_watch.specs.watch_laws.Segments.{next_start}
 
 -- ---- pieces

@@ -4,9 +4,9 @@ ghost use Rattle.std.specs.Prelude.{◌≡◌, drop, IfSome};
 ghost use Rattle.flow_watch.specs.Repeats.{IsCycleOf};
 ghost use Rattle.flow_watch.specs.watch_laws.Segments.{next_start};
 
-use upp_limits::fraction128::Frac;
-use upp_limits::upp_curve::affine_segment::Piece;
-use upp_limits::upp_curve::{Curve, Tail};
+use fraction128::Frac;
+use upp_curve::affine_segment::Piece;
+use upp_curve::{Curve, Tail};
 
 /// Where the piece of a number starts, if there is one.
 pub fn next_start(pieces: &[Piece], i: usize) -> Option<Frac>

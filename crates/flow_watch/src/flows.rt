@@ -1,11 +1,11 @@
 //! What a flow breaks: a packet that is longer than it allows, or too many bits between two of its packets.
 
 ghost use Rattle.std.specs.Prelude.{◌≡◌, ◌↔◌, ℕ, ◌<◌, ◌≤◌, ◌^◌, length, drop, IfOk, IfSome, IsTrue, MatchOption};
-ghost use Rattle.upp_limits.specs.rational.specs.Rational.{◌-ℚ◌, ◌≤ℚ◌};
-ghost use Rattle.upp_limits.specs.rational.specs.Extended.{◌<ₑ◌};
-ghost use Rattle.upp_limits.specs.upp_curve.specs.Curve.{value_at};
+ghost use Rattle.rational.specs.Rational.{◌-ℚ◌, ◌≤ℚ◌};
+ghost use Rattle.rational.specs.Extended.{◌<ₑ◌};
+ghost use Rattle.upp_curve.specs.Curve.{value_at};
 ghost use Rattle.upp_normal.specs.Unrolling.{IsOperandTo};
-ghost use Rattle.net_model.specs.run_laws.specs.Cards.{whole};
+ghost use Rattle.run_laws.specs.Cards.{whole};
 ghost use Rattle.flow_watch.specs.watch_laws.Entries.{entries};
 ghost use Rattle.flow_watch.specs.Flows.{entering_in, NoneLonger, IsFirstLonger, FlowReads, FindsFirst, NoneCrowded, IsFirstCrowded, IsUnderLine, IsUnderPiece, KeepsBucket, TimesRiseIn, KeepsPiece, KeepsAt, IsRaised, first_time, last_time};
 
@@ -16,12 +16,12 @@ use crate::sliding::before_upto;
 use crate::stairs::kept_upto;
 use crate::step_lines::whole_of;
 use crate::watch_laws::Entering;
-use net_model::run_laws::{Step, whole};
+use fraction128::{Frac, Wide, difference, greater, is_less, lesser};
+use rational::Extended;
+use run_laws::{Step, whole};
 use std::alloc::{AllocError, Global};
-use upp_limits::fraction128::{Frac, Wide, difference, greater, is_less, lesser};
-use upp_limits::rational::Extended;
-use upp_limits::upp_curve::Curve;
-use upp_limits::upp_curve::affine_segment::{Line, Piece};
+use upp_curve::Curve;
+use upp_curve::affine_segment::{Line, Piece};
 
 /// The packet that enters on a flow by a step, if one does.
 fn entering_of(step: &Step, flow: u32) -> Option<Entering>

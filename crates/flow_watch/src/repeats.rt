@@ -2,8 +2,8 @@
 //! window that is shorter than its end, and the rise of a period more for each period that the window is longer.
 
 ghost use Rattle.std.specs.Prelude.{ℕ, ◌<◌, pos, length, drop, IfSome};
-ghost use Rattle.upp_limits.specs.rational.specs.Rational.{int, ◌<ℚ◌};
-ghost use Rattle.upp_limits.specs.upp_curve.specs.Curve.{value_at};
+ghost use Rattle.rational.specs.Rational.{int, ◌<ℚ◌};
+ghost use Rattle.upp_curve.specs.Curve.{value_at};
 ghost use Rattle.flow_watch.specs.Flows.{FlowReads, NoneCrowded, TimesRiseIn};
 ghost use Rattle.flow_watch.specs.Repeats.{IsCover, IsLineTo, HasAtLeast, KeepsSteps, HoldsPiece, HoldsAt};
 
@@ -11,10 +11,10 @@ use crate::ends::{Cycle, cycle_of, next_start};
 use crate::flows::{bucket_of, fewer, piece_upto};
 use crate::step_lines::seen_upto;
 use crate::watch_laws::Entering;
+use fraction128::{Frac, is_less};
 use std::alloc::Global;
-use upp_limits::fraction128::{Frac, is_less};
-use upp_limits::upp_curve::Curve;
-use upp_limits::upp_curve::affine_segment::Piece;
+use upp_curve::Curve;
+use upp_curve::affine_segment::Piece;
 
 /// Steps that hold a value, and what they hold more.
 #[derive(Clone, Copy)]

@@ -5,7 +5,7 @@ ghost use Rattle.flow_watch.specs.Flows.{TimesRiseIn, KeepsBefore, IsNarrow};
 
 use crate::step_lines::whole_of;
 use crate::watch_laws::Entering;
-use upp_limits::fraction128::{Frac, is_less};
+use fraction128::{Frac, is_less};
 
 /// Packets up to one that is looked at: the number of the first of them, and the bits of all.
 #[derive(Clone, Copy)]

@@ -1,8 +1,8 @@
 //! How many packets keep a stair, by the steps that their bits fill against a line under the stair.
 
 ghost use Rattle.std.specs.Prelude.{◌≡◌, ℕ, ◌<◌, pos, length, drop, IfOk, IfSome, IsTrue};
-ghost use Rattle.upp_limits.specs.rational.specs.Rational.{int, ◌+ℚ◌, ◌*ℚ◌, ◌≤ℚ◌, ◌<ℚ◌};
-ghost use Rattle.upp_limits.specs.upp_curve.specs.Curve.{value_at};
+ghost use Rattle.rational.specs.Rational.{int, ◌+ℚ◌, ◌*ℚ◌, ◌≤ℚ◌, ◌<ℚ◌};
+ghost use Rattle.upp_curve.specs.Curve.{value_at};
 ghost use Rattle.flow_watch.specs.Flows.{FlowReads, NoneCrowded};
 ghost use Rattle.flow_watch.specs.Stairs.{IsCount, HasSteps, IsStep, IsStepAt, IsStair, RisesWith};
 
@@ -10,10 +10,10 @@ use crate::ends::{cycle_of, next_start};
 use crate::flows::bucket_of;
 use crate::step_lines::{is_at_most, seen_upto};
 use crate::watch_laws::Entering;
+use fraction128::{Frac, Wide, is_less, lesser};
 use std::alloc::Global;
-use upp_limits::fraction128::{Frac, Wide, is_less, lesser};
-use upp_limits::upp_curve::Curve;
-use upp_limits::upp_curve::affine_segment::Piece;
+use upp_curve::Curve;
+use upp_curve::affine_segment::Piece;
 
 /// Steps of a height, and a line: how many of them it has, in steps.
 #[derive(Clone, Copy)]

@@ -6,13 +6,13 @@ use Rattle.std.proofs.lemmas.List.{take_all, length-drop}
 use Rattle.std.proofs.lemmas.Option.{slice_get_within, get_or_from_slice_get}
 use Rattle.std.proofs.lemmas.List.Elements.{All-filter}
 use Rattle.std.proofs.lemmas.List.Kept.{AllPairs-filter}
-use Rattle.upp_limits.specs.rational.specs.Rational.{ℚ, ◌≤ℚ◌}
-use Rattle.upp_limits.specs.rational.specs.Ratio.{ratio, IsSmall}
-use Rattle.upp_limits.specs.rational.specs.Gauge.{Kept, bound_of}
-use Rattle.upp_limits.specs.rational.proofs.Gauges.{cap_cases, le_times}
-use Rattle.upp_limits.specs.rational.proofs.Parts.{small_ratio}
-use Rattle.upp_limits.specs.fraction128.specs.declared.fault.FracFault.{FracFault}
-use Rattle.upp_limits.specs.fraction128.specs.declared.fault.FracFault.TheVariants.{ZeroDen, TooBig}
+use Rattle.rational.specs.Rational.{ℚ, ◌≤ℚ◌}
+use Rattle.rational.specs.Ratio.{ratio, IsSmall}
+use Rattle.rational.specs.Gauge.{Kept, bound_of}
+use Rattle.rational.proofs.Gauges.{cap_cases, le_times}
+use Rattle.rational.proofs.Parts.{small_ratio}
+use Rattle.fraction128.specs.declared.fault.FracFault.{FracFault}
+use Rattle.fraction128.specs.declared.fault.FracFault.TheVariants.{ZeroDen, TooBig}
 use Rattle.upp_limits.specs.Gathered.{Gathers}
 use Rattle.upp_limits.specs.declared.gathered.Gathered.{Gathered}
 use Rattle.net_model.specs.declared.trace.TracePacket.{TracePacket}
@@ -20,10 +20,10 @@ use Rattle.net_model.specs.Traces.{SpecTrace, IsTrace, IsTracePacket}
 use Rattle.measure_curve.specs.declared.windows.Window.{Window}
 use Rattle.measure_curve.specs.Grids.{width_of, numbers_of, IsNarrow}
 use Rattle.measure_curve.specs.Limits.{grid_of, reach_of}
-use Rattle.upp_limits.specs.upp_curve.specs.declared.affine_segment.line.Piece.{Piece}
-use Rattle.upp_limits.specs.upp_curve.specs.declared.curve.Tail.TheVariants.{Affine}
-use Rattle.upp_limits.specs.upp_curve.specs.Curve.{SpecCurve}
-use Rattle.upp_limits.specs.upp_curve.specs.Curves.{IsCurve}
+use Rattle.upp_curve.specs.declared.affine_segment.line.Piece.{Piece}
+use Rattle.upp_curve.specs.declared.curve.Tail.TheVariants.{Affine}
+use Rattle.upp_curve.specs.Curve.{SpecCurve}
+use Rattle.upp_curve.specs.Curves.{IsCurve}
 use Rattle.measure_curve.specs.Staircases.{last_length, Fit, time_of, piece_of}
 use Rattle.measure_curve.proofs.Stairs.{stairs_curve}
 use Rattle.measure_curve.specs.Windows.{of_flow}

@@ -1,18 +1,18 @@
 -- The vertical deviation of a curve that stays below some number, and of a line: the least burst.
 use Rattle.std.specs.Prelude.{◌≡◌}
 use Rattle.std.proofs.Common.{arith, refl, sym, ◌∙◌}
-use Rattle.upp_limits.specs.rational.specs.Rational.{ℚ, ◌+ℚ◌, ◌*ℚ◌, ◌≤ℚ◌}
-use Rattle.upp_limits.specs.rational.specs.Extended.{Ext, ◌≤ₑ◌, ◌<ₑ◌, ◌-ₑ◌}
-use Rattle.upp_limits.specs.rational.specs.declared.Extended.TheVariants.{Fin, Inf}
-use Rattle.upp_limits.specs.rational.proofs.Linear.{with2, with3, with4}
-use Rattle.upp_limits.specs.rational.proofs.Laws.{mul_nonneg, lt_irrefl}
-use Rattle.upp_limits.specs.rational.proofs.Bounds.{smallest}
-use Rattle.upp_limits.specs.rational.proofs.ExtendedOrder.{fin_same}
-use Rattle.upp_limits.specs.min_plus.specs.Functions.{zero_q, FiniteTime, IsFinite}
-use Rattle.upp_limits.specs.min_plus.specs.Deviations.{IsVerticalDeviation}
-use Rattle.upp_limits.specs.upp_curve.specs.Curve.{value_at}
-use Rattle.upp_limits.specs.upp_curve.specs.Kinds.{bucket}
-use Rattle.upp_limits.specs.upp_curve.proofs.KindValues.{bucket_is}
+use Rattle.rational.specs.Rational.{ℚ, ◌+ℚ◌, ◌*ℚ◌, ◌≤ℚ◌}
+use Rattle.rational.specs.Extended.{Ext, ◌≤ₑ◌, ◌<ₑ◌, ◌-ₑ◌}
+use Rattle.rational.specs.declared.Extended.TheVariants.{Fin, Inf}
+use Rattle.rational.proofs.Linear.{with2, with3, with4}
+use Rattle.rational.proofs.Laws.{mul_nonneg, lt_irrefl}
+use Rattle.rational.proofs.Bounds.{smallest}
+use Rattle.rational.proofs.ExtendedOrder.{fin_same}
+use Rattle.min_plus.specs.Functions.{zero_q, FiniteTime, IsFinite}
+use Rattle.min_plus.specs.Deviations.{IsVerticalDeviation}
+use Rattle.upp_curve.specs.Curve.{value_at}
+use Rattle.upp_curve.specs.Kinds.{bucket}
+use Rattle.upp_curve.proofs.KindValues.{bucket_is}
 use Rattle.measure_curve.specs.Bursts.{IsBounded, IsLeastBurst}
 
 pub line_finite : (rate : ℚ) → IsFinite (value_at (bucket zero_q rate))

@@ -3,25 +3,25 @@ use Rattle.std.specs.Prelude.{◌≡◌, ℕ, ◌≤◌, ◌==◌, ◌&&◌, tru
 use Rattle.std.proofs.Common.{arith, refl, sym, subst, inl, inr, ◌∙◌}
 use Rattle.std.proofs.lemmas.Bool.{cases_Bool}
 use Rattle.std.proofs.lemmas.List.Sums.{sum_by-cons}
-use Rattle.upp_limits.specs.rational.specs.Rational.{ℚ, ◌+ℚ◌, ◌-ℚ◌, ◌≤ℚ◌}
-use Rattle.upp_limits.specs.rational.specs.Extended.{Ext, ◌≤ₑ◌}
-use Rattle.upp_limits.specs.rational.specs.declared.Extended.TheVariants.{Fin}
-use Rattle.upp_limits.specs.rational.proofs.Linear.{with2}
-use Rattle.upp_limits.specs.rational.proofs.ExtendedOrder.{le_ext_trans, antisym_ext}
-use Rattle.upp_limits.specs.min_plus.specs.Functions.{zero_q}
-use Rattle.upp_limits.specs.min_plus.specs.Formulas.{bucket_value}
-use Rattle.net_model.specs.run_laws.specs.declared.steps.Step.{Step}
-use Rattle.net_model.specs.run_laws.specs.declared.steps.Step.TheVariants.{Enter, Reach, Work, Leave, Visit}
-use Rattle.net_model.specs.run_laws.specs.Cards.{whole}
-use Rattle.net_model.specs.run_laws.specs.Counts.{within}
-use Rattle.net_model.specs.run_laws.specs.RunPremises.{entered_in}
-use Rattle.net_model.specs.run_laws.proofs.Sizes.{whole_le, whole_sum}
-use Rattle.net_model.specs.run_laws.proofs.Sums.{when_true, when_false, add_nothing}
+use Rattle.rational.specs.Rational.{ℚ, ◌+ℚ◌, ◌-ℚ◌, ◌≤ℚ◌}
+use Rattle.rational.specs.Extended.{Ext, ◌≤ₑ◌}
+use Rattle.rational.specs.declared.Extended.TheVariants.{Fin}
+use Rattle.rational.proofs.Linear.{with2}
+use Rattle.rational.proofs.ExtendedOrder.{le_ext_trans, antisym_ext}
+use Rattle.min_plus.specs.Functions.{zero_q}
+use Rattle.min_plus.specs.Formulas.{bucket_value}
+use Rattle.run_laws.specs.declared.steps.Step.{Step}
+use Rattle.run_laws.specs.declared.steps.Step.TheVariants.{Enter, Reach, Work, Leave, Visit}
+use Rattle.run_laws.specs.Cards.{whole}
+use Rattle.run_laws.specs.Counts.{within}
+use Rattle.run_laws.specs.RunPremises.{entered_in}
+use Rattle.run_laws.proofs.Sizes.{whole_le, whole_sum}
+use Rattle.run_laws.proofs.Sums.{when_true, when_false, add_nothing}
 use Rattle.net_model.specs.declared.trace.TracePacket.{TracePacket}
 use Rattle.measure_curve.specs.Bursts.{IsBounded}
 use Rattle.measure_curve.specs.Laws.{PacketsKeepTheCurve, KeptCurvesAreAbove, LeastArrivalIsOne, LeastBucketIsKept, entering_in, LeastInRuns}
 use Rattle.measure_curve.specs.Windows.{of_flow, bits_in, IsLeastArrival}
-use Rattle.upp_limits.specs.rational.proofs.Laws.{add_comm, sub_add}
+use Rattle.rational.proofs.Laws.{add_comm, sub_add}
 
 longer : (s d : ℚ) → zero_q ≤ℚ d → s ≤ℚ s +ℚ d
 longer s d h = with2 s d (λ c. omega (arith, c.le, c.lt, c.same))

@@ -4,30 +4,30 @@ use Rattle.std.proofs.lemmas.List.Elements.{All-tail}
 use Rattle.std.proofs.Common.{arith, refl, sym, ap, subst, ◌∙◌, inl, inr, true≢false}
 use Rattle.std.proofs.lemmas.Bool.{cases_Bool}
 use Rattle.std.proofs.lemmas.Int.{ints}
-use Rattle.upp_limits.specs.rational.specs.Rational.{ℚ, frac, int, ◌+ℚ◌, ◌*ℚ◌, ◌≤ℚ◌, ◌<ℚ◌}
-use Rattle.upp_limits.specs.rational.specs.Ratio.{IsSmall}
-use Rattle.upp_limits.specs.rational.specs.declared.Extended.TheVariants.{Fin}
-use Rattle.upp_limits.specs.rational.proofs.Laws.{le_refl, le_or_lt, lt_irrefl, zero_mul, mul_zero}
-use Rattle.upp_limits.specs.rational.proofs.Linear.{with2}
-use Rattle.upp_limits.specs.rational.proofs.Over.{lt_over, int_over, le_q_out, le_q_in}
-use Rattle.upp_limits.specs.rational.proofs.Parts.{small_ratio}
-use Rattle.upp_limits.specs.rational.proofs.ExtendedOrder.{fin_same}
-use Rattle.upp_limits.specs.min_plus.specs.Functions.{zero_q}
-use Rattle.upp_limits.specs.upp_curve.specs.declared.affine_segment.line.Piece.{Piece}
-use Rattle.upp_limits.specs.upp_curve.specs.affine_segment.Pieces.{Each, HasStart, RisesFrom, StartsAtZero}
-use Rattle.upp_limits.specs.upp_curve.specs.affine_segment.Reading.{read}
-use Rattle.upp_limits.specs.upp_curve.specs.affine_segment.Fits.{LineFits}
-use Rattle.upp_limits.specs.upp_curve.proofs.affine_segment.PieceIn.{read_go, read_stop, read_one}
-use Rattle.upp_limits.specs.upp_curve.specs.Curve.{value_at}
-use Rattle.upp_limits.specs.upp_curve.specs.Curves.{IsCurve}
-use Rattle.upp_limits.specs.upp_curve.specs.Normal.{IsNormal, Continues, NoneContinues}
-use Rattle.upp_limits.specs.upp_curve.specs.Readable.{EachFits}
-use Rattle.upp_limits.specs.upp_curve.specs.Steady.{last_of}
-use Rattle.upp_limits.specs.upp_curve.proofs.ReadableKinds.{bucket_curve, zero_small}
-use Rattle.upp_limits.specs.upp_curve.proofs.ByTail.{some_is}
-use Rattle.upp_limits.specs.upp_curve.proofs.StairValues.{flat_value}
-use Rattle.net_model.specs.run_laws.specs.Cards.{whole}
-use Rattle.net_model.specs.run_laws.proofs.Sizes.{whole_lt}
+use Rattle.rational.specs.Rational.{ℚ, frac, int, ◌+ℚ◌, ◌*ℚ◌, ◌≤ℚ◌, ◌<ℚ◌}
+use Rattle.rational.specs.Ratio.{IsSmall}
+use Rattle.rational.specs.declared.Extended.TheVariants.{Fin}
+use Rattle.rational.proofs.Laws.{le_refl, le_or_lt, lt_irrefl, zero_mul, mul_zero}
+use Rattle.rational.proofs.Linear.{with2}
+use Rattle.rational.proofs.Over.{lt_over, int_over, le_q_out, le_q_in}
+use Rattle.rational.proofs.Parts.{small_ratio}
+use Rattle.rational.proofs.ExtendedOrder.{fin_same}
+use Rattle.min_plus.specs.Functions.{zero_q}
+use Rattle.upp_curve.specs.declared.affine_segment.line.Piece.{Piece}
+use Rattle.upp_curve.specs.affine_segment.Pieces.{Each, HasStart, RisesFrom, StartsAtZero}
+use Rattle.upp_curve.specs.affine_segment.Reading.{read}
+use Rattle.upp_curve.specs.affine_segment.Fits.{LineFits}
+use Rattle.upp_curve.proofs.affine_segment.PieceIn.{read_go, read_stop, read_one}
+use Rattle.upp_curve.specs.Curve.{value_at}
+use Rattle.upp_curve.specs.Curves.{IsCurve}
+use Rattle.upp_curve.specs.Normal.{IsNormal, Continues, NoneContinues}
+use Rattle.upp_curve.specs.Readable.{EachFits}
+use Rattle.upp_curve.specs.Steady.{last_of}
+use Rattle.upp_curve.proofs.ReadableKinds.{bucket_curve, zero_small}
+use Rattle.upp_curve.proofs.ByTail.{some_is}
+use Rattle.upp_curve.proofs.StairValues.{flat_value}
+use Rattle.run_laws.specs.Cards.{whole}
+use Rattle.run_laws.proofs.Sizes.{whole_lt}
 use Rattle.measure_curve.specs.declared.windows.Window.{Window}
 use Rattle.measure_curve.specs.Staircases.{time_of, piece_of, last_length, staircase, StepUp, AreSteps, Fit}
 use Rattle.measure_curve.proofs.Tests.{level}

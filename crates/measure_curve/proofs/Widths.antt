@@ -4,15 +4,15 @@ use Rattle.std.specs.List.{AllByRecursion, slice_index_or}
 use Rattle.std.proofs.Common.{arith, refl, sym, subst, ◌∙◌}
 use Rattle.std.proofs.lemmas.List.Elements.{All-nil, All-cons, All-tail, All-append}
 use native.Mathlib.Nat.{mul-le-mul_right}
-use Rattle.upp_limits.specs.rational.specs.Rational.{ℚ, int, ◌*ℚ◌, ◌≤ℚ◌}
-use Rattle.upp_limits.specs.rational.specs.Gauge.{bound_of}
-use Rattle.upp_limits.specs.rational.specs.Grid.{Whole, Within}
-use Rattle.upp_limits.specs.rational.proofs.Grid.{whole_divides}
-use Rattle.upp_limits.specs.rational.proofs.Integers.{int_mul, nat_lt, nat_nonneg, nat_le_out}
-use Rattle.upp_limits.specs.rational.proofs.Laws.{mul_cancel, mul_le_mul_right, not_zero}
+use Rattle.rational.specs.Rational.{ℚ, int, ◌*ℚ◌, ◌≤ℚ◌}
+use Rattle.rational.specs.Gauge.{bound_of}
+use Rattle.rational.specs.Grid.{Whole, Within}
+use Rattle.rational.proofs.Grid.{whole_divides}
+use Rattle.rational.proofs.Integers.{int_mul, nat_lt, nat_nonneg, nat_le_out}
+use Rattle.rational.proofs.Laws.{mul_cancel, mul_le_mul_right, not_zero}
 use Rattle.upp_limits.proofs.CommonDen.{common_den_pos, common_den_each, bound_each}
 use Rattle.curve_library.proofs.SharesAre.{frac_times, steps_on}
-use Rattle.upp_limits.specs.min_plus.specs.Functions.{zero_q}
+use Rattle.min_plus.specs.Functions.{zero_q}
 use Rattle.net_model.specs.declared.trace.TracePacket.{TracePacket}
 use Rattle.net_model.specs.Traces.{IsTracePacket}
 use Rattle.measure_curve.specs.declared.windows.Entry.{Entry}

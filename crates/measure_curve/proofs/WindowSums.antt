@@ -4,11 +4,11 @@ use Rattle.std.specs.List.{AllByRecursion}
 use Rattle.std.proofs.Common.{arith, refl, sym, ap, subst, ◌∙◌}
 use Rattle.std.proofs.lemmas.Bool.{and_parts, and_from, leb-true}
 use Rattle.std.proofs.lemmas.Int.{ints}
-use Rattle.upp_limits.specs.rational.specs.Rational.{ℚ, frac, le_q, ◌+ℚ◌, ◌-ℚ◌, ◌≤ℚ◌}
-use Rattle.upp_limits.specs.rational.proofs.Laws.{le_trans}
-use Rattle.upp_limits.specs.rational.proofs.Linear.{with3, with4}
-use Rattle.upp_limits.specs.rational.proofs.Over.{le_over, sub_over, le_q_out, le_q_in}
-use Rattle.net_model.specs.run_laws.specs.Counts.{within}
+use Rattle.rational.specs.Rational.{ℚ, frac, le_q, ◌+ℚ◌, ◌-ℚ◌, ◌≤ℚ◌}
+use Rattle.rational.proofs.Laws.{le_trans}
+use Rattle.rational.proofs.Linear.{with3, with4}
+use Rattle.rational.proofs.Over.{le_over, sub_over, le_q_out, le_q_in}
+use Rattle.run_laws.specs.Counts.{within}
 use Rattle.net_model.specs.declared.trace.TracePacket.{TracePacket}
 use Rattle.measure_curve.specs.Scans.{EnterFrom, entry_of, ticks, windows}
 use Rattle.measure_curve.specs.Staircases.{time_of}

@@ -1,12 +1,12 @@
 -- The least bucket of a rate above a curve.
 use Rattle.std.specs.Prelude.{Result, Ok, Err}
-use Rattle.upp_limits.specs.rational.specs.Rational.{ℚ, ◌≤ℚ◌}
-use Rattle.upp_limits.specs.rational.specs.Extended.{Ext, ◌≤ₑ◌}
-use Rattle.upp_limits.specs.rational.specs.declared.Extended.TheVariants.{Fin}
-use Rattle.upp_limits.specs.min_plus.specs.Functions.{zero_q, IsFinite}
-use Rattle.upp_limits.specs.min_plus.specs.Formulas.{bucket_value}
-use Rattle.upp_limits.specs.upp_curve.specs.Curve.{SpecCurve}
-use Rattle.upp_limits.specs.upp_curve.specs.Kinds.{bucket}
+use Rattle.rational.specs.Rational.{ℚ, ◌≤ℚ◌}
+use Rattle.rational.specs.Extended.{Ext, ◌≤ₑ◌}
+use Rattle.rational.specs.declared.Extended.TheVariants.{Fin}
+use Rattle.min_plus.specs.Functions.{zero_q, IsFinite}
+use Rattle.min_plus.specs.Formulas.{bucket_value}
+use Rattle.upp_curve.specs.Curve.{SpecCurve}
+use Rattle.upp_curve.specs.Kinds.{bucket}
 use Rattle.upp_limits.specs.declared.op_kind.OpKind.TheVariants.{Vertical}
 use Rattle.upp_limits.specs.declared.op_kind.OpFault.{OpFault}
 use Rattle.upp_limits.specs.declared.op_kind.OpFault.TheVariants.{TooMany, TooWide, NoMemory}

@@ -1,6 +1,6 @@
 -- Packets whose times stand on one grid, and fit there. Own choice.
 use Rattle.std.specs.Prelude.{◌≡◌, ℕ, ◌+◌, ◌*◌, ◌^◌, ◌<◌, ◌≤◌, List, length, map, All, AllPairs}
-use Rattle.upp_limits.specs.rational.specs.Rational.{◌≤ℚ◌}
+use Rattle.rational.specs.Rational.{◌≤ℚ◌}
 use Rattle.upp_limits.specs.Limits.{Numbers, values_alone}
 use Rattle.net_model.specs.declared.trace.TracePacket.{TracePacket}
 use Rattle.net_model.specs.Traces.{IsTracePacket}

@@ -1,6 +1,6 @@
 -- When packets are too many or too wide to be measured. (The limits are our own choice.)
 use Rattle.std.specs.Prelude.{ℕ, ◌+◌, ◌*◌, ◌^◌, ◌<◌, ◌≤◌, List, length, max, map, sum_by}
-use Rattle.upp_limits.specs.rational.specs.Gauge.{common_den, bound_of}
+use Rattle.rational.specs.Gauge.{common_den, bound_of}
 use Rattle.net_model.specs.declared.trace.TracePacket.{TracePacket}
 
 abbrev pub AreTooMany : List TracePacket → Type 0

@@ -1,7 +1,7 @@
 -- Packets on a grid of times, the windows from one of them to another, and the steps of the most bits of a window. Own
 -- choice.
 use Rattle.std.specs.Prelude.{ℕ, ◌+◌, ◌-◌, ◌*◌, ◌/◌, ◌≤◌, ◌==◌, nat_le, nat_abs, List, [], ◌∷◌, ◌++◌, if◌then◌else◌}
-use Rattle.upp_limits.specs.rational.specs.Rational.{ℚ, den}
+use Rattle.rational.specs.Rational.{ℚ, den}
 use Rattle.net_model.specs.declared.trace.TracePacket.{TracePacket}
 use Rattle.measure_curve.specs.declared.windows.Entry.{Entry}
 use Rattle.measure_curve.specs.declared.windows.Window.{Window}

@@ -1,12 +1,12 @@
 -- How many bits enter in a closed window of time, and how many at most in one of each length. (Le Boudec and Thiran:
 -- the minimum arrival curve of a flow. Closed windows are our own choice.)
 use Rattle.std.specs.Prelude.{◌≡◌, ℕ, ◌+◌, ◌≤◌, ◌==◌, List, [], ◌∷◌, filter, if◌then◌else◌}
-use Rattle.upp_limits.specs.rational.specs.Rational.{ℚ, ◌+ℚ◌, ◌-ℚ◌, ◌≤ℚ◌, ◌<ℚ◌}
-use Rattle.upp_limits.specs.rational.specs.Extended.{Ext, ◌≤ₑ◌, ◌<ₑ◌}
-use Rattle.upp_limits.specs.rational.specs.declared.Extended.TheVariants.{Fin}
-use Rattle.upp_limits.specs.min_plus.specs.Functions.{zero_q}
-use Rattle.net_model.specs.run_laws.specs.Cards.{whole}
-use Rattle.net_model.specs.run_laws.specs.Counts.{within}
+use Rattle.rational.specs.Rational.{ℚ, ◌+ℚ◌, ◌-ℚ◌, ◌≤ℚ◌, ◌<ℚ◌}
+use Rattle.rational.specs.Extended.{Ext, ◌≤ₑ◌, ◌<ₑ◌}
+use Rattle.rational.specs.declared.Extended.TheVariants.{Fin}
+use Rattle.min_plus.specs.Functions.{zero_q}
+use Rattle.run_laws.specs.Cards.{whole}
+use Rattle.run_laws.specs.Counts.{within}
 use Rattle.net_model.specs.declared.trace.TracePacket.{TracePacket}
 
 -- the packets of a flow

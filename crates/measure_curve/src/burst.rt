@@ -1,22 +1,22 @@
 //! The least bucket of a rate above a curve.
 
 ghost use Rattle.std.specs.Prelude.{◌≡◌, ◌+◌, ◌≤◌, Err, IfOk, OnOk};
-ghost use Rattle.upp_limits.specs.rational.specs.Rational.{◌≤ℚ◌};
-ghost use Rattle.upp_limits.specs.rational.specs.declared.Extended.TheVariants as extended;
-ghost use Rattle.upp_limits.specs.min_plus.specs.Functions.{zero_q, IsFinite};
-ghost use Rattle.upp_limits.specs.min_plus.specs.Deviations.{IsVerticalDeviation};
-ghost use Rattle.upp_limits.specs.upp_curve.specs.Curve.{value_at};
-ghost use Rattle.upp_limits.specs.upp_curve.specs.Kinds.{bucket};
+ghost use Rattle.rational.specs.Rational.{◌≤ℚ◌};
+ghost use Rattle.rational.specs.declared.Extended.TheVariants as extended;
+ghost use Rattle.min_plus.specs.Functions.{zero_q, IsFinite};
+ghost use Rattle.min_plus.specs.Deviations.{IsVerticalDeviation};
+ghost use Rattle.upp_curve.specs.Curve.{value_at};
+ghost use Rattle.upp_curve.specs.Kinds.{bucket};
 ghost use Rattle.measure_curve.specs.Bursts.{IsBounded, IsLeastBurst, KeepsBurstLimits};
 
 use curve_deviation::vertical;
+use fraction128::Frac;
 use outcomes::Steps;
+use rational::Extended;
 use std::alloc::{AllocError, Global};
 use std::sync::ledger::Ledger;
+use upp_curve::Curve;
 use upp_limits::OpFault;
-use upp_limits::fraction128::Frac;
-use upp_limits::rational::Extended;
-use upp_limits::upp_curve::Curve;
 
 /// The line of this slope from 0 at 0.
 fn line_of(alloc: Global, rate: Frac) -> Result<Curve, AllocError>

@@ -1,7 +1,7 @@
 //! The least arrival curve of the packets of a flow.
 
 ghost use Rattle.std.specs.Prelude.{◌≡◌, ◌↔◌, IfOk, Err};
-ghost use Rattle.upp_limits.specs.upp_curve.specs.Curve.{value_at};
+ghost use Rattle.upp_curve.specs.Curve.{value_at};
 ghost use Rattle.measure_curve.specs.Bursts.{IsBounded};
 ghost use Rattle.measure_curve.specs.Grids.{IsNarrow};
 ghost use Rattle.measure_curve.specs.Limits.{AreTooMany, AreTooWide};
@@ -15,7 +15,7 @@ use crate::staircase::staircase;
 use crate::windows::windows_of;
 use net_model::{Trace, TracePacket};
 use std::alloc::{AllocError, Global};
-use upp_limits::upp_curve::Curve;
+use upp_curve::Curve;
 
 const MOST_PACKETS: usize = 1024;
 

@@ -1,16 +1,16 @@
 //! The curve of steps.
 
 ghost use Rattle.std.specs.Prelude.{◌≡◌, IfOk, map};
-ghost use Rattle.net_model.specs.run_laws.specs.Cards.{whole};
+ghost use Rattle.run_laws.specs.Cards.{whole};
 ghost use Rattle.measure_curve.specs.Staircases as staircases;
 
 use crate::ticks::time_of;
 use crate::windows::Window;
+use fraction128::Frac;
+use rational::Extended;
 use std::alloc::{AllocError, Global};
-use upp_limits::fraction128::Frac;
-use upp_limits::rational::Extended;
-use upp_limits::upp_curve::affine_segment::{Line, Piece};
-use upp_limits::upp_curve::{Curve, Tail};
+use upp_curve::affine_segment::{Line, Piece};
+use upp_curve::{Curve, Tail};
 
 /// The bits of a step.
 fn level_of(step: &Window) -> Frac

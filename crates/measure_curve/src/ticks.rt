@@ -1,11 +1,11 @@
 //! Times on a grid: whole numbers of steps of one length.
 
 ghost use Rattle.std.specs.Prelude.{◌≡◌, ◌<◌, ◌^◌, ◌*◌, nat_abs, pos};
-ghost use Rattle.upp_limits.specs.rational.specs.Rational.{int, ◌≤ℚ◌, den};
+ghost use Rattle.rational.specs.Rational.{int, ◌≤ℚ◌, den};
 ghost use Rattle.measure_curve.specs.Scans as scans;
 ghost use Rattle.measure_curve.specs.Staircases as staircases;
 
-use upp_limits::fraction128::Frac;
+use fraction128::Frac;
 
 /// A time as a number of steps of 1 / grid.
 pub(crate) fn ticks(time: Frac, grid: u128) -> u128

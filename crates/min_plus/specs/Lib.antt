@@ -10,4 +10,3 @@ pub mod Continuity
 pub mod BucketBounds
 pub mod closure_laws
 pub mod best_splits
-pub use Rattle.rational as rational

@@ -27,5 +27,3 @@ pub fn deviations_are_nonnegative()
 pub fn bucket_deviations()
     ensures { BucketDeviations }
 {}
-
-pub use rational;

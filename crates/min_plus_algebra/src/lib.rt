@@ -2,16 +2,16 @@
 #![tactic(auto)]
 
 // Numbers, and infinity; the counter of operators.
+pub use fraction128::{Ext, Frac, FracFault, FracText, Wide};
 pub use outcomes::Steps;
-pub use upp_limits::fraction128::{Ext, Frac, FracFault, FracText, Wide};
-pub use upp_limits::rational::Extended;
+pub use rational::Extended;
 
 // Curves: of the kinds of a network's file, of listed pieces, and of any pieces in normal form.
 pub use curve_library::{
     CurveFault, PieceText, TailText, UseAs, bucket, gate, listed, rate_latency, stair,
 };
-pub use upp_limits::upp_curve::affine_segment::{Line, Piece};
-pub use upp_limits::upp_curve::{Curve, Tail, equal, is_continuous};
+pub use upp_curve::affine_segment::{Line, Piece};
+pub use upp_curve::{Curve, Tail, equal, is_continuous};
 pub use upp_limits::{OpFault, OpKind, OverLimit};
 pub use upp_normal::{RawCurve, normalise};
 

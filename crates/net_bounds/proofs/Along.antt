@@ -1,24 +1,24 @@
 -- From end to end by the service along the path.
 use Rattle.std.specs.Prelude.{◌≡◌, ℕ, zero, suc, ◌<◌, ◌+◌, List, [], ◌∷◌, ◌++◌, length, map}
 use Rattle.std.proofs.Common.{arith, sym, ap, ◌∙◌, refl, subst}
-use Rattle.upp_limits.specs.rational.specs.Rational.{ℚ, ◌+ℚ◌, ◌≤ℚ◌}
-use Rattle.upp_limits.specs.rational.specs.Extended.{Ext, ◌≤ₑ◌, ◌+ₑ◌}
-use Rattle.upp_limits.specs.rational.specs.declared.Extended.TheVariants.{Fin}
-use Rattle.upp_limits.specs.rational.proofs.Linear.{with1, with3}
+use Rattle.rational.specs.Rational.{ℚ, ◌+ℚ◌, ◌≤ℚ◌}
+use Rattle.rational.specs.Extended.{Ext, ◌≤ₑ◌, ◌+ₑ◌}
+use Rattle.rational.specs.declared.Extended.TheVariants.{Fin}
+use Rattle.rational.proofs.Linear.{with1, with3}
 use Rattle.upp_limits.specs.declared.op_kind.OpKind.TheVariants.{PosMinus, Convolve}
-use Rattle.upp_limits.specs.upp_curve.specs.Curve.{value_at}
-use Rattle.upp_limits.specs.min_plus.specs.Functions.{zero_q, IsNonnegative}
-use Rattle.upp_limits.specs.min_plus.specs.Pointwise.{packetised}
-use Rattle.upp_limits.specs.min_plus.specs.Convolution.{IsConvolution}
-use Rattle.residuals.specs.curve_call.specs.Growth.{GrowsFromZero}
-use Rattle.residuals.specs.curve_call.specs.Answers.{IsMadeBy}
-use Rattle.residuals.specs.curve_call.proofs.GrowingAnswers.{growing_answers}
-use Rattle.residuals.specs.curve_call.proofs.Excesses.{excess_nonneg}
-use Rattle.net_model.specs.run_laws.specs.Runs.{SpecRun}
-use Rattle.net_model.specs.run_laws.specs.Cards.{whole, of_flow}
-use Rattle.net_model.specs.run_laws.proofs.Sizes.{whole_nonneg}
-use Rattle.net_model.specs.run_laws.proofs.Service.{packets_are_served}
-use Rattle.net_model.specs.run_laws.specs.Routes.{link_at, last_server}
+use Rattle.upp_curve.specs.Curve.{value_at}
+use Rattle.min_plus.specs.Functions.{zero_q, IsNonnegative}
+use Rattle.min_plus.specs.Pointwise.{packetised}
+use Rattle.min_plus.specs.Convolution.{IsConvolution}
+use Rattle.curve_call.specs.Growth.{GrowsFromZero}
+use Rattle.curve_call.specs.Answers.{IsMadeBy}
+use Rattle.curve_call.proofs.GrowingAnswers.{growing_answers}
+use Rattle.curve_call.proofs.Excesses.{excess_nonneg}
+use Rattle.run_laws.specs.Runs.{SpecRun}
+use Rattle.run_laws.specs.Cards.{whole, of_flow}
+use Rattle.run_laws.proofs.Sizes.{whole_nonneg}
+use Rattle.run_laws.proofs.Service.{packets_are_served}
+use Rattle.run_laws.specs.Routes.{link_at, last_server}
 use Rattle.net_laws.specs.Paths.{IsServedAlong, IsWithinSplits, links_between, links_along}
 use Rattle.net_model.specs.Networks.{Net}
 use Rattle.net_cells.specs.declared.cell.Kind.TheVariants.{Residual}

@@ -3,27 +3,27 @@
 use Rattle.std.specs.Prelude.{◌≡◌, ℕ, ◌<◌, ◌≤◌, ◌==◌, ◌&&◌, List, [], ◌∷◌, length}
 use Rattle.std.proofs.Common.{arith, sym, ap, ◌∙◌, subst, inl, inr}
 use Rattle.std.proofs.lemmas.Bool.{eqb-true, eq-eqb}
-use Rattle.upp_limits.specs.rational.specs.Rational.{ℚ, ◌-ℚ◌, ◌≤ℚ◌}
-use Rattle.upp_limits.specs.rational.specs.Extended.{Ext, ◌≤ₑ◌}
-use Rattle.upp_limits.specs.rational.specs.declared.Extended.TheVariants.{Fin}
-use Rattle.upp_limits.specs.rational.proofs.ExtendedOrder.{le_ext_trans}
-use Rattle.upp_limits.specs.rational.proofs.Linear.{with1, with2}
-use Rattle.upp_limits.specs.min_plus.specs.Functions.{zero_q, IsNonnegative}
-use Rattle.net_model.specs.run_laws.specs.Runs.{SpecRun}
-use Rattle.net_model.specs.run_laws.specs.Cards.{Card, Class, of_flow, ServerStep, Arrives, Works, Leaves, Visits}
-use Rattle.net_model.specs.run_laws.specs.Counts.{arrives, within, arrived_in}
-use Rattle.net_model.specs.run_laws.specs.Premises.{EachArrival, KeepsArrivals}
-use Rattle.net_model.specs.run_laws.specs.Routes as routes
-use Rattle.net_model.specs.run_laws.specs.Routes.{Hop, route_of, PassesServer}
-use Rattle.net_model.specs.run_laws.proofs.Arrivals.{arrivals_map, IsPassing}
-use Rattle.net_model.specs.run_laws.proofs.QueueBound.{passing}
-use Rattle.net_model.specs.run_laws.proofs.Sizes.{size_nonneg}
-use Rattle.net_model.specs.run_laws.proofs.Sums.{when_nonneg, each_all, total_nonneg}
-use Rattle.net_model.specs.run_laws.specs.Cards.{size}
+use Rattle.rational.specs.Rational.{ℚ, ◌-ℚ◌, ◌≤ℚ◌}
+use Rattle.rational.specs.Extended.{Ext, ◌≤ₑ◌}
+use Rattle.rational.specs.declared.Extended.TheVariants.{Fin}
+use Rattle.rational.proofs.ExtendedOrder.{le_ext_trans}
+use Rattle.rational.proofs.Linear.{with1, with2}
+use Rattle.min_plus.specs.Functions.{zero_q, IsNonnegative}
+use Rattle.run_laws.specs.Runs.{SpecRun}
+use Rattle.run_laws.specs.Cards.{Card, Class, of_flow, ServerStep, Arrives, Works, Leaves, Visits}
+use Rattle.run_laws.specs.Counts.{arrives, within, arrived_in}
+use Rattle.run_laws.specs.Premises.{EachArrival, KeepsArrivals}
+use Rattle.run_laws.specs.Routes as routes
+use Rattle.run_laws.specs.Routes.{Hop, route_of, PassesServer}
+use Rattle.run_laws.proofs.Arrivals.{arrivals_map, IsPassing}
+use Rattle.run_laws.proofs.QueueBound.{passing}
+use Rattle.run_laws.proofs.Sizes.{size_nonneg}
+use Rattle.run_laws.proofs.Sums.{when_nonneg, each_all, total_nonneg}
+use Rattle.run_laws.specs.Cards.{size}
 use Rattle.net_laws.specs.Orders.{KeptAt}
 use Rattle.net_model.specs.Networks.{Net}
 use Rattle.net_model.specs.Accepted.{IsAccepted}
-use Rattle.upp_limits.specs.upp_curve.specs.Curve.{value_at}
+use Rattle.upp_curve.specs.Curve.{value_at}
 use Rattle.net_cells.specs.declared.cell.Kind.TheVariants.{In}
 use Rattle.net_cells.specs.Numbered.{packet, arrival, service, hops, server_of_hop, queue_of_hop, path}
 use Rattle.net_cells.specs.declared.visit.Visit.{Visit}
@@ -40,7 +40,7 @@ use Rattle.net_bounds.proofs.Paths.{queue_is, passes_has}
 use Rattle.net_bounds.proofs.Routed.{own_queues, live_is, hops_is, routed, hop_is_live, hop_at, passes_at, hop_passes}
 use Rattle.net_bounds.proofs.ListSums.{HasKey}
 use Rattle.net_bounds.proofs.Cells.{values, HasValues}
-use Rattle.net_model.specs.run_laws.proofs.Members.{Has}
+use Rattle.run_laws.proofs.Members.{Has}
 
 -- ---- the setting
 -- the curve of a flow at a server of its path

@@ -3,10 +3,10 @@ use Rattle.std.specs.Prelude.{◌≡◌, ℕ, ◌<◌, ◌==◌, Bool, true, fal
 use Rattle.std.specs.List.{range_with_len}
 use Rattle.std.proofs.Common.{arith, sym, ◌∙◌, refl, subst}
 use Rattle.std.proofs.lemmas.Bool.{eqb-true, ltb-true, and_parts}
-use Rattle.net_model.specs.run_laws.specs.Runs.{SpecRun}
-use Rattle.net_model.specs.run_laws.specs.Cards.{Card, Class, of_queue, before_queue}
-use Rattle.net_model.specs.run_laws.specs.Premises.{KeepsArrivals}
-use Rattle.net_model.specs.run_laws.proofs.Arrivals.{arrivals_map}
+use Rattle.run_laws.specs.Runs.{SpecRun}
+use Rattle.run_laws.specs.Cards.{Card, Class, of_queue, before_queue}
+use Rattle.run_laws.specs.Premises.{KeepsArrivals}
+use Rattle.run_laws.proofs.Arrivals.{arrivals_map}
 use Rattle.net_model.specs.Networks.{Net}
 use Rattle.net_cells.specs.declared.cell.Kind.TheVariants.{Cross, Total, Higher}
 use Rattle.net_cells.specs.Numbered.{hops, server_of_hop, queue_of_hop, queues, levels}
@@ -24,7 +24,7 @@ use Rattle.net_bounds.proofs.QueueCells.{arriving_at, total_at, cross_is, higher
 use Rattle.net_bounds.proofs.PartCells.{total_over, total_is}
 use Rattle.net_bounds.proofs.PartComes.{parts_keep}
 use Rattle.net_bounds.proofs.Arriving.{AtServer, keeps_values, flow_comes, IsVisiting, all_visiting, card_visit, has_in, IsVisitIn, visit_in, has_key}
-use Rattle.net_model.specs.run_laws.proofs.Members.{Has}
+use Rattle.run_laws.proofs.Members.{Has}
 
 -- ---- a queue
 pub total_cell : (net : Net) (at : CellTable) (s q : ℕ) → MeetsEquations net at → q < queues net s

@@ -2,14 +2,14 @@
 use Rattle.std.specs.Prelude.{◌≡◌, ℕ, ◌<◌, ◌≤◌, ◌+◌, ◌-◌, ◌==◌, ◌&&◌, true, List, [], ◌∷◌, length, map, Some}
 use Rattle.std.proofs.Common.{arith, sym, ap, ◌∙◌, refl, subst}
 use Rattle.std.proofs.lemmas.Bool.{and_from}
-use Rattle.upp_limits.specs.rational.specs.Extended.{Ext, ◌+ₑ◌}
-use Rattle.upp_limits.specs.rational.specs.declared.Extended.TheVariants.{Fin}
-use Rattle.upp_limits.specs.min_plus.specs.Deviations.{IsHorizontalDeviation}
-use Rattle.net_model.specs.run_laws.specs.Runs.{SpecRun}
-use Rattle.net_model.specs.run_laws.specs.Cards.{of_flow}
-use Rattle.net_model.specs.run_laws.specs.Premises.{KeepsArrivals}
-use Rattle.net_model.specs.run_laws.specs.Routes.{Hop, route_of, first_server}
-use Rattle.net_model.specs.run_laws.specs.Bounds.{IsFlowBounded}
+use Rattle.rational.specs.Extended.{Ext, ◌+ₑ◌}
+use Rattle.rational.specs.declared.Extended.TheVariants.{Fin}
+use Rattle.min_plus.specs.Deviations.{IsHorizontalDeviation}
+use Rattle.run_laws.specs.Runs.{SpecRun}
+use Rattle.run_laws.specs.Cards.{of_flow}
+use Rattle.run_laws.specs.Premises.{KeepsArrivals}
+use Rattle.run_laws.specs.Routes.{Hop, route_of, first_server}
+use Rattle.run_laws.specs.Bounds.{IsFlowBounded}
 use Rattle.net_laws.specs.Paths.{IsPath, StaysAtMost, IsServedAlong, sum_along, links_along}
 use Rattle.net_laws.proofs.PathRuns.{delay_from_hops, delay_from_path_service, path_is_served}
 use Rattle.net_laws.proofs.Queues.{of_lesser}

@@ -2,15 +2,15 @@
 use Rattle.std.specs.Prelude.{◌≡◌, ℕ, zero, suc, ◌<◌, true, Some, List, [], ◌∷◌, length, take}
 use Rattle.std.proofs.Common.{arith, sym, ap, ◌∙◌, subst, inl, inr, get_or}
 use Rattle.std.proofs.lemmas.Bool.{cases_eq, eq-eqb, ne_eqb}
-use Rattle.upp_limits.specs.rational.specs.Rational.{ℚ, ◌-ℚ◌}
-use Rattle.upp_limits.specs.rational.specs.Extended.{Ext, ◌≤ₑ◌}
-use Rattle.upp_limits.specs.rational.specs.declared.Extended.TheVariants.{Fin}
-use Rattle.upp_limits.specs.upp_curve.specs.Curve.{value_at}
-use Rattle.net_model.specs.run_laws.specs.Runs.{SpecRun}
-use Rattle.net_model.specs.run_laws.specs.Cards.{of_flow}
-use Rattle.net_model.specs.run_laws.specs.Counts.{departed_in}
-use Rattle.net_model.specs.run_laws.specs.RunPremises.{entered_in}
-use Rattle.net_model.specs.run_laws.specs.Routes.{Hop, route_of, first_server, server_after}
+use Rattle.rational.specs.Rational.{ℚ, ◌-ℚ◌}
+use Rattle.rational.specs.Extended.{Ext, ◌≤ₑ◌}
+use Rattle.rational.specs.declared.Extended.TheVariants.{Fin}
+use Rattle.upp_curve.specs.Curve.{value_at}
+use Rattle.run_laws.specs.Runs.{SpecRun}
+use Rattle.run_laws.specs.Cards.{of_flow}
+use Rattle.run_laws.specs.Counts.{departed_in}
+use Rattle.run_laws.specs.RunPremises.{entered_in}
+use Rattle.run_laws.specs.Routes.{Hop, route_of, first_server, server_after}
 use Rattle.net_laws.specs.Orders as orders
 use Rattle.net_laws.specs.Orders.{KeptAt, PassedOn, EntersKept}
 use Rattle.net_laws.proofs.Orders.{kept_everywhere}
@@ -33,7 +33,7 @@ use Rattle.net_bounds.proofs.Cells.{values, curve_holds}
 use Rattle.net_bounds.proofs.HopCells.{in_first, in_next}
 use Rattle.net_bounds.proofs.Arriving.{arrivals, AtServer}
 use Rattle.net_bounds.proofs.Hops.{flow_goes_on}
-use Rattle.net_model.specs.run_laws.proofs.Members.{Has, contains_has}
+use Rattle.run_laws.proofs.Members.{Has, contains_has}
 
 -- ---- the order goes forward
 -- what stands among the first n has its place below n

@@ -2,17 +2,17 @@
 use Rattle.std.specs.Prelude.{◌≡◌, ℕ, zero, suc, ◌<◌, ◌+◌, true, nat_lt}
 use Rattle.std.proofs.Common.{arith, sym, refl, subst}
 use Rattle.std.proofs.lemmas.Bool.{lt-ltb}
-use Rattle.upp_limits.specs.rational.specs.Rational.{ℚ, ◌≤ℚ◌}
-use Rattle.upp_limits.specs.rational.specs.Extended.{Ext, min_ext}
+use Rattle.rational.specs.Rational.{ℚ, ◌≤ℚ◌}
+use Rattle.rational.specs.Extended.{Ext, min_ext}
 use Rattle.upp_limits.specs.declared.op_kind.OpKind.TheVariants.{Min, Shift, FifoLeft, Deconvolve}
-use Rattle.upp_limits.specs.upp_curve.specs.Curve.{value_at}
-use Rattle.upp_limits.specs.min_plus.specs.Functions.{zero_q}
-use Rattle.upp_limits.specs.min_plus.specs.Pointwise.{packetised, shifted}
-use Rattle.upp_limits.specs.min_plus.specs.Running.{IsFifoLeftover}
-use Rattle.upp_limits.specs.min_plus.specs.Convolution.{IsDeconvolution}
-use Rattle.upp_limits.specs.min_plus.specs.Deviations.{IsHorizontalDeviation}
-use Rattle.residuals.specs.curve_call.specs.Answers.{IsMadeBy}
-use Rattle.net_model.specs.run_laws.specs.Cards.{whole}
+use Rattle.upp_curve.specs.Curve.{value_at}
+use Rattle.min_plus.specs.Functions.{zero_q}
+use Rattle.min_plus.specs.Pointwise.{packetised, shifted}
+use Rattle.min_plus.specs.Running.{IsFifoLeftover}
+use Rattle.min_plus.specs.Convolution.{IsDeconvolution}
+use Rattle.min_plus.specs.Deviations.{IsHorizontalDeviation}
+use Rattle.curve_call.specs.Answers.{IsMadeBy}
+use Rattle.run_laws.specs.Cards.{whole}
 use Rattle.net_model.specs.Networks.{Net}
 use Rattle.net_cells.specs.declared.cell.Kind.TheVariants.{In, Cross, QueueService, Theta, Residual, QueueDelay, HopDelay, ShiftOut, DeconvOut, Out}
 use Rattle.net_cells.specs.Numbered.{packet, arrival, hops, server_of_hop, queue_of_hop}

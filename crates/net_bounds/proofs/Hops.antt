@@ -3,26 +3,26 @@
 use Rattle.std.specs.Prelude.{◌≡◌, ℕ, suc, ◌<◌, ◌≤◌, ◌==◌, true, List}
 use Rattle.std.proofs.Common.{arith, sym, ap, ◌∙◌, refl, subst, get_or}
 use Rattle.std.proofs.lemmas.Bool.{eqb-true, eq-eqb, and_parts}
-use Rattle.upp_limits.specs.rational.specs.Rational.{ℚ, ◌-ℚ◌, ◌≤ℚ◌}
-use Rattle.upp_limits.specs.rational.specs.Extended.{Ext, ◌≤ₑ◌, min_ext}
-use Rattle.upp_limits.specs.rational.specs.declared.Extended.TheVariants.{Fin}
-use Rattle.upp_limits.specs.rational.proofs.ExtendedOrder.{min_greatest}
-use Rattle.upp_limits.specs.rational.proofs.Linear.{with2}
-use Rattle.upp_limits.specs.min_plus.specs.Functions.{zero_q}
-use Rattle.upp_limits.specs.min_plus.specs.Pointwise.{shifted, packetised}
-use Rattle.upp_limits.specs.min_plus.specs.Running.{IsFifoLeftover}
-use Rattle.upp_limits.specs.min_plus.proofs.DeviationSigns.{horizontals_are_nonnegative}
-use Rattle.residuals.specs.curve_call.specs.Growth.{GrowsFromZero}
-use Rattle.net_model.specs.run_laws.specs.Runs.{SpecRun}
-use Rattle.net_model.specs.run_laws.specs.Cards.{Card, Class, of_flow, of_queue, whole}
-use Rattle.net_model.specs.run_laws.specs.Counts.{departed_in}
-use Rattle.net_model.specs.run_laws.specs.Serves.{Serves, ServesPackets}
-use Rattle.net_model.specs.run_laws.specs.Delays.{hop_delays, AreAtMost}
-use Rattle.net_model.specs.run_laws.specs.Routes as routes
-use Rattle.net_model.specs.run_laws.specs.Routes.{Hop, route_of}
-use Rattle.net_model.specs.run_laws.proofs.Arrivals.{arrivals_map, arrivals_all}
+use Rattle.rational.specs.Rational.{ℚ, ◌-ℚ◌, ◌≤ℚ◌}
+use Rattle.rational.specs.Extended.{Ext, ◌≤ₑ◌, min_ext}
+use Rattle.rational.specs.declared.Extended.TheVariants.{Fin}
+use Rattle.rational.proofs.ExtendedOrder.{min_greatest}
+use Rattle.rational.proofs.Linear.{with2}
+use Rattle.min_plus.specs.Functions.{zero_q}
+use Rattle.min_plus.specs.Pointwise.{shifted, packetised}
+use Rattle.min_plus.specs.Running.{IsFifoLeftover}
+use Rattle.min_plus.proofs.DeviationSigns.{horizontals_are_nonnegative}
+use Rattle.curve_call.specs.Growth.{GrowsFromZero}
+use Rattle.run_laws.specs.Runs.{SpecRun}
+use Rattle.run_laws.specs.Cards.{Card, Class, of_flow, of_queue, whole}
+use Rattle.run_laws.specs.Counts.{departed_in}
+use Rattle.run_laws.specs.Serves.{Serves, ServesPackets}
+use Rattle.run_laws.specs.Delays.{hop_delays, AreAtMost}
+use Rattle.run_laws.specs.Routes as routes
+use Rattle.run_laws.specs.Routes.{Hop, route_of}
+use Rattle.run_laws.proofs.Arrivals.{arrivals_map, arrivals_all}
 use Rattle.residuals.proofs.fifo.FifoLaw.{fifo_serves_always}
-use Rattle.net_model.specs.run_laws.proofs.Service.{packets_are_served}
+use Rattle.run_laws.proofs.Service.{packets_are_served}
 use Rattle.residuals.proofs.fifo.FifoGrowth as fifo
 use Rattle.net_laws.specs.Queues.{IsInQueue}
 use Rattle.net_laws.proofs.Queues.{flow_stays, flow_leaves}
@@ -36,8 +36,8 @@ use Rattle.net_bounds.specs.NetRuns.{routes_of}
 use Rattle.net_bounds.specs.Promises.{seen_by, IsHopKept}
 use Rattle.net_bounds.proofs.Paths.{queue_is}
 use Rattle.net_bounds.proofs.Routed.{own_queues, hops_is, routed, hop_is_live, hop_at, queue_inside}
-use Rattle.net_model.specs.run_laws.proofs.Classes.{same_and}
-use Rattle.net_model.specs.run_laws.proofs.Seen.{IsInOwnQueue, cards_map, in_own_queues, Agree, agree_back, keeps_same, serves_same, same_delays, same_departed_in}
+use Rattle.run_laws.proofs.Classes.{same_and}
+use Rattle.run_laws.proofs.Seen.{IsInOwnQueue, cards_map, in_own_queues, Agree, agree_back, keeps_same, serves_same, same_delays, same_departed_in}
 use Rattle.net_bounds.proofs.ListSums.{own, in_two}
 use Rattle.net_bounds.proofs.Cells.{values, size_in, curve_has, number_has, curve_holds, number_holds}
 use Rattle.net_bounds.proofs.HopCells.{in_curve, theta_is, residual_is, IsHopDelay, hop_delay_is, shift_out_is, deconv_out_is, out_is}
@@ -46,7 +46,7 @@ use Rattle.net_bounds.proofs.Arriving.{AtServer, hop_is, flow_comes}
 use Rattle.net_bounds.proofs.Comes.{queue_comes, cross_comes}
 use Rattle.net_bounds.proofs.Sizes.{flow_sizes}
 use Rattle.net_bounds.proofs.Queues.{here, lawful_here, queue_served}
-use Rattle.net_model.specs.run_laws.proofs.Members.{at_has}
+use Rattle.run_laws.proofs.Members.{at_has}
 use Rattle.net_laws.proofs.Sums.{other}
 
 -- ---- the setting

@@ -2,12 +2,12 @@
 use Rattle.std.specs.Prelude.{◌≡◌, ℕ, ◌<◌, length, Option, Some, None, slice_get}
 use Rattle.std.proofs.Common.{arith, refl, sym, subst}
 use Rattle.std.proofs.lemmas.Option.{slice_get_within}
-use Rattle.net_model.specs.run_laws.specs.Servers.{queue_count}
+use Rattle.run_laws.specs.Servers.{queue_count}
 use Rattle.net_model.specs.Networks.{Net, NetServer}
 use Rattle.net_cells.specs.Numbered.{queues, discipline_of, server_of_hop}
-use Rattle.net_model.specs.run_laws.specs.Runs.{SpecRun}
-use Rattle.net_model.specs.run_laws.specs.Cards.{of_flow}
-use Rattle.net_model.specs.run_laws.specs.Premises.{KeepsArrivals}
+use Rattle.run_laws.specs.Runs.{SpecRun}
+use Rattle.run_laws.specs.Cards.{of_flow}
+use Rattle.run_laws.specs.Premises.{KeepsArrivals}
 use Rattle.net_laws.specs.Orders.{KeptAt}
 use Rattle.net_cells.specs.declared.cell.Kind.TheVariants.{In}
 use Rattle.net_cells.specs.Cells.{cell_of}

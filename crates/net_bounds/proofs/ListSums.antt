@@ -2,22 +2,22 @@
 use Rattle.std.specs.Prelude.{◌≡◌, ℕ, pos, ◌==◌, Bool, true, false, not, ◌&&◌, List, [], ◌∷◌}
 use Rattle.std.proofs.Common.{sym, ap, refl, inl, inr, ◌⊎◌}
 use Rattle.std.proofs.lemmas.Bool.{cases_Bool, both_ways, eq-eqb, and_parts}
-use Rattle.upp_limits.specs.rational.specs.Rational.{ℚ, int, ◌-ℚ◌, ◌≤ℚ◌}
-use Rattle.upp_limits.specs.rational.specs.Extended.{Ext, ◌+ₑ◌}
-use Rattle.upp_limits.specs.rational.specs.declared.Extended.TheVariants.{Fin}
-use Rattle.upp_limits.specs.rational.proofs.Laws.{le_refl}
-use Rattle.upp_limits.specs.rational.proofs.ExtendedOrder.{le_ext_trans, same_le_ext, add_le_ext}
-use Rattle.net_model.specs.run_laws.specs.Cards.{Card, Class, size, ServerStep, Arrives, Works, Leaves, Visits}
-use Rattle.net_model.specs.run_laws.proofs.Always.{AreAlwaysParts}
-use Rattle.net_model.specs.run_laws.specs.Counts.{when, arrives, within, arrived_in}
-use Rattle.net_model.specs.run_laws.specs.Premises.{EachArrival, KeepsArrivals}
-use Rattle.net_model.specs.run_laws.proofs.Arrivals.{arrivals_map, none_arrive}
-use Rattle.net_model.specs.run_laws.proofs.Classes.{split_parts}
-use Rattle.net_model.specs.run_laws.proofs.Parts.{arrivals_parts}
-use Rattle.net_model.specs.run_laws.proofs.Sizes.{size_nonneg}
-use Rattle.net_model.specs.run_laws.proofs.Sums.{when_false, when_nonneg, each_all, total_le}
+use Rattle.rational.specs.Rational.{ℚ, int, ◌-ℚ◌, ◌≤ℚ◌}
+use Rattle.rational.specs.Extended.{Ext, ◌+ₑ◌}
+use Rattle.rational.specs.declared.Extended.TheVariants.{Fin}
+use Rattle.rational.proofs.Laws.{le_refl}
+use Rattle.rational.proofs.ExtendedOrder.{le_ext_trans, same_le_ext, add_le_ext}
+use Rattle.run_laws.specs.Cards.{Card, Class, size, ServerStep, Arrives, Works, Leaves, Visits}
+use Rattle.run_laws.proofs.Always.{AreAlwaysParts}
+use Rattle.run_laws.specs.Counts.{when, arrives, within, arrived_in}
+use Rattle.run_laws.specs.Premises.{EachArrival, KeepsArrivals}
+use Rattle.run_laws.proofs.Arrivals.{arrivals_map, none_arrive}
+use Rattle.run_laws.proofs.Classes.{split_parts}
+use Rattle.run_laws.proofs.Parts.{arrivals_parts}
+use Rattle.run_laws.proofs.Sizes.{size_nonneg}
+use Rattle.run_laws.proofs.Sums.{when_false, when_nonneg, each_all, total_le}
 use Rattle.net_laws.specs.Sums.{with_number}
-use Rattle.net_model.specs.run_laws.proofs.Members.{Has}
+use Rattle.run_laws.proofs.Members.{Has}
 use Rattle.net_laws.proofs.Sums.{other}
 
 -- the sum of the values at a time

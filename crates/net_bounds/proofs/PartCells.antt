@@ -2,18 +2,18 @@
 use Rattle.std.specs.Prelude.{◌≡◌, ◌==◌, ◌<◌, ℕ, zero, suc, Bool, true, false, List, [], ◌∷◌, ◌++◌, map}
 use Rattle.std.proofs.Common.{sym, ap, ap₂, ◌∙◌, refl, subst}
 use Rattle.std.proofs.lemmas.Bool.{lt-ltb}
-use Rattle.upp_limits.specs.rational.specs.Rational.{ℚ, ◌≤ℚ◌}
-use Rattle.upp_limits.specs.rational.specs.Extended.{Ext, ◌+ₑ◌, min_ext}
-use Rattle.upp_limits.specs.rational.specs.declared.Extended.TheVariants.{Fin}
-use Rattle.upp_limits.specs.rational.proofs.ExtendedOrder.{add_zero_ext, add_ext_assoc, add_ext_comm}
-use Rattle.upp_limits.specs.min_plus.specs.Functions.{zero_q}
-use Rattle.upp_limits.specs.min_plus.specs.Formulas.{bucket_value}
+use Rattle.rational.specs.Rational.{ℚ, ◌≤ℚ◌}
+use Rattle.rational.specs.Extended.{Ext, ◌+ₑ◌, min_ext}
+use Rattle.rational.specs.declared.Extended.TheVariants.{Fin}
+use Rattle.rational.proofs.ExtendedOrder.{add_zero_ext, add_ext_assoc, add_ext_comm}
+use Rattle.min_plus.specs.Functions.{zero_q}
+use Rattle.min_plus.specs.Formulas.{bucket_value}
 use Rattle.upp_limits.specs.declared.op_kind.OpKind.TheVariants.{Min}
-use Rattle.upp_limits.specs.upp_curve.specs.Curve.{SpecCurve, value_at}
-use Rattle.upp_limits.specs.upp_curve.specs.Kinds.{bucket}
-use Rattle.upp_limits.specs.upp_curve.proofs.KindValues.{bucket_is}
-use Rattle.net_model.specs.run_laws.specs.Cards.{whole}
-use Rattle.residuals.specs.curve_call.specs.Answers.{IsMadeBy}
+use Rattle.upp_curve.specs.Curve.{SpecCurve, value_at}
+use Rattle.upp_curve.specs.Kinds.{bucket}
+use Rattle.upp_curve.proofs.KindValues.{bucket_is}
+use Rattle.run_laws.specs.Cards.{whole}
+use Rattle.curve_call.specs.Answers.{IsMadeBy}
 use Rattle.net_model.specs.Networks.{Net}
 use Rattle.net_cells.specs.declared.cell.Kind.TheVariants.{In, Total}
 use Rattle.net_cells.specs.declared.visit.Visit.{Visit}

@@ -2,18 +2,18 @@
 use Rattle.std.specs.Prelude.{◌≡◌, ◌<◌, ◌≤◌, ℕ, zero, suc, Bool, true, ◌==◌, ◌&&◌, nat_lt, pos, Some, None, List, [], ◌∷◌, ◌++◌, length, if◌then◌else◌}
 use Rattle.std.proofs.Common.{arith, sym, ap, ◌∙◌, refl, subst, inl, inr, get_or}
 use Rattle.std.proofs.lemmas.Bool.{cases_Bool, cases_eq, eqb-true, eq-eqb, ne_eqb, lt-ltb, ltb-true, and_parts, and_from}
-use Rattle.upp_limits.specs.rational.specs.Rational.{ℚ, int, ◌-ℚ◌, ◌≤ℚ◌}
-use Rattle.upp_limits.specs.rational.specs.declared.Extended.TheVariants.{Fin}
-use Rattle.upp_limits.specs.rational.proofs.Laws.{le_of_lt}
-use Rattle.upp_limits.specs.rational.proofs.ExtendedOrder.{min_greatest}
-use Rattle.net_model.specs.run_laws.specs.Runs.{SpecRun}
-use Rattle.net_model.specs.run_laws.specs.Cards.{Card, of_queue}
-use Rattle.net_model.specs.run_laws.specs.Servers.{Fifo, Server}
-use Rattle.net_model.specs.run_laws.specs.Counts.{arrived_in}
-use Rattle.net_model.specs.run_laws.specs.Premises.{KeepsArrivals, KeepsSizes}
-use Rattle.net_model.specs.run_laws.specs.Routes.{Hop, server_at}
-use Rattle.net_model.specs.run_laws.proofs.Arrivals.{IsPassing, arrivals_map}
-use Rattle.net_model.specs.run_laws.proofs.Members.{Has}
+use Rattle.rational.specs.Rational.{ℚ, int, ◌-ℚ◌, ◌≤ℚ◌}
+use Rattle.rational.specs.declared.Extended.TheVariants.{Fin}
+use Rattle.rational.proofs.Laws.{le_of_lt}
+use Rattle.rational.proofs.ExtendedOrder.{min_greatest}
+use Rattle.run_laws.specs.Runs.{SpecRun}
+use Rattle.run_laws.specs.Cards.{Card, of_queue}
+use Rattle.run_laws.specs.Servers.{Fifo, Server}
+use Rattle.run_laws.specs.Counts.{arrived_in}
+use Rattle.run_laws.specs.Premises.{KeepsArrivals, KeepsSizes}
+use Rattle.run_laws.specs.Routes.{Hop, server_at}
+use Rattle.run_laws.proofs.Arrivals.{IsPassing, arrivals_map}
+use Rattle.run_laws.proofs.Members.{Has}
 use Rattle.net_laws.specs.Laws.{IsLink}
 use Rattle.net_laws.proofs.Paths.{link_of_path}
 use Rattle.net_laws.specs.paces.Groups.{of_flows, IsPaced}

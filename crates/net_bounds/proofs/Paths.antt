@@ -2,13 +2,13 @@
 use Rattle.std.specs.Prelude.{◌≡◌, ℕ, suc, pos, ◌<◌, List, [], ◌∷◌, length, Some}
 use Rattle.std.proofs.Common.{arith, refl, inl, inr, get_or}
 use Rattle.std.proofs.lemmas.Bool.{cases_eq, eq-eqb, ne_eqb}
-use Rattle.upp_limits.specs.rational.specs.Rational.{int, ◌≤ℚ◌}
-use Rattle.net_model.specs.run_laws.specs.Routes.{Routes, PassesServer, queue_at, first_of, first_server, server_after, link_at}
+use Rattle.rational.specs.Rational.{int, ◌≤ℚ◌}
+use Rattle.run_laws.specs.Routes.{Routes, PassesServer, queue_at, first_of, first_server, server_after, link_at}
 use Rattle.net_laws.specs.Paths.{IsPath}
 use Rattle.net_cells.proofs.Lists.{Apart}
 use Rattle.net_bounds.specs.NetRuns.{hops_along}
 use Rattle.net_bounds.proofs.Placed.{place_in}
-use Rattle.net_model.specs.run_laws.proofs.Members.{Has}
+use Rattle.run_laws.proofs.Members.{Has}
 
 -- ---- the servers
 pub passes_has : (s : ℕ) (path queues : List ℕ) → PassesServer s (hops_along path queues) → Has path s

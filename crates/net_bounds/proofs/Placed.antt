@@ -3,7 +3,7 @@ use Rattle.std.specs.Prelude.{◌≡◌, ◌≢◌, ℕ, zero, suc, ◌<◌, ◌
 use Rattle.std.proofs.Common.{arith, sym, ap, refl, inl, inr, get_or}
 use Rattle.std.proofs.lemmas.Bool.{cases_eq, eq-eqb, ne_eqb}
 use Rattle.net_cells.proofs.Lists.{Apart}
-use Rattle.net_model.specs.run_laws.proofs.Members.{Has, at_has, has_contains}
+use Rattle.run_laws.proofs.Members.{Has, at_has, has_contains}
 
 abbrev pub place_in : ℕ → List ℕ → ℕ
 place_in s [] = 0

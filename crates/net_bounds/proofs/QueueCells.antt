@@ -3,13 +3,13 @@ use Rattle.std.specs.Prelude.{◌≡◌, ℕ, ◌<◌, List, [], ◌∷◌, map,
 use Rattle.std.specs.List.{range_with_len}
 use Rattle.std.proofs.Common.{sym, ap, ◌∙◌, refl, subst, inl, inr}
 use Rattle.std.proofs.lemmas.Bool.{lt-ltb}
-use Rattle.upp_limits.specs.rational.specs.Rational.{ℚ}
-use Rattle.upp_limits.specs.rational.specs.Extended.{Ext, ◌+ₑ◌}
-use Rattle.upp_limits.specs.upp_curve.specs.Curve.{SpecCurve, value_at}
-use Rattle.upp_limits.specs.min_plus.specs.Pointwise.{packetised}
-use Rattle.upp_limits.specs.min_plus.specs.Deviations.{IsHorizontalDeviation, IsVerticalDeviation}
-use Rattle.net_model.specs.run_laws.specs.Cards.{whole}
-use Rattle.residuals.specs.residual_laws.specs.PriorityLaws.{IsPriorityService}
+use Rattle.rational.specs.Rational.{ℚ}
+use Rattle.rational.specs.Extended.{Ext, ◌+ₑ◌}
+use Rattle.upp_curve.specs.Curve.{SpecCurve, value_at}
+use Rattle.min_plus.specs.Pointwise.{packetised}
+use Rattle.min_plus.specs.Deviations.{IsHorizontalDeviation, IsVerticalDeviation}
+use Rattle.run_laws.specs.Cards.{whole}
+use Rattle.residual_laws.specs.PriorityLaws.{IsPriorityService}
 use Rattle.residuals.specs.left.Left.{Left, all, above, share, map_left}
 use Rattle.residuals.specs.left.Laws.{IsLeft}
 use Rattle.net_model.specs.Networks.{Net}
@@ -30,7 +30,7 @@ use Rattle.net_bounds.proofs.ListSums.{sum_over}
 use Rattle.net_bounds.proofs.Cells.{values, of_values, curve_from, curve_map, HasValues, sum_reads, AllCurves}
 use Rattle.net_bounds.proofs.FormulaParts.{vertical_same, a_curve, less_reads, number_map, deviation_reads}
 use Rattle.net_bounds.proofs.HopCells.{in_curve}
-use Rattle.net_model.specs.run_laws.proofs.Members.{Has}
+use Rattle.run_laws.proofs.Members.{Has}
 use Rattle.net_cells.proofs.TableValues.{has_number}
 
 -- the curve of a flow at a hop, and of a queue

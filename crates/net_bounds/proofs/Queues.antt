@@ -2,24 +2,24 @@
 use Rattle.std.specs.Prelude.{◌≡◌, ℕ, ◌<◌, ◌≤◌, true, List, length, Option}
 use Rattle.std.proofs.Common.{arith, sym, subst}
 use Rattle.std.proofs.lemmas.Bool.{eqb-true}
-use Rattle.upp_limits.specs.rational.specs.Rational.{ℚ}
-use Rattle.upp_limits.specs.rational.specs.Extended.{Ext}
-use Rattle.upp_limits.specs.rational.proofs.ExtendedOrder.{same_le_ext}
-use Rattle.upp_limits.specs.upp_curve.specs.Curve.{value_at}
-use Rattle.upp_limits.specs.min_plus.specs.Functions.{IsNonnegative}
-use Rattle.residuals.specs.curve_call.specs.Growth.{GrowsFromZero}
-use Rattle.residuals.specs.curve_call.proofs.GrowingAnswers.{grown}
-use Rattle.net_model.specs.run_laws.specs.Runs.{SpecRun}
-use Rattle.net_model.specs.run_laws.specs.Cards.{Card, of_queue, ServerStep}
-use Rattle.net_model.specs.run_laws.specs.Servers.{Server}
-use Rattle.net_model.specs.run_laws.specs.Allows.{IsLawfulView}
-use Rattle.net_model.specs.run_laws.specs.Premises.{KeepsService, KeepsSizes, IsZeroAtStart}
-use Rattle.net_model.specs.run_laws.specs.Serves.{Serves}
-use Rattle.net_model.specs.run_laws.specs.Routes as routes
-use Rattle.net_model.specs.run_laws.proofs.Arrivals.{arrivals_map}
-use Rattle.net_model.specs.run_laws.proofs.Backlog.{backlog_from_service}
-use Rattle.net_model.specs.run_laws.proofs.Delay.{delay_always}
-use Rattle.net_model.specs.run_laws.proofs.Views.{views_are_lawful}
+use Rattle.rational.specs.Rational.{ℚ}
+use Rattle.rational.specs.Extended.{Ext}
+use Rattle.rational.proofs.ExtendedOrder.{same_le_ext}
+use Rattle.upp_curve.specs.Curve.{value_at}
+use Rattle.min_plus.specs.Functions.{IsNonnegative}
+use Rattle.curve_call.specs.Growth.{GrowsFromZero}
+use Rattle.curve_call.proofs.GrowingAnswers.{grown}
+use Rattle.run_laws.specs.Runs.{SpecRun}
+use Rattle.run_laws.specs.Cards.{Card, of_queue, ServerStep}
+use Rattle.run_laws.specs.Servers.{Server}
+use Rattle.run_laws.specs.Allows.{IsLawfulView}
+use Rattle.run_laws.specs.Premises.{KeepsService, KeepsSizes, IsZeroAtStart}
+use Rattle.run_laws.specs.Serves.{Serves}
+use Rattle.run_laws.specs.Routes as routes
+use Rattle.run_laws.proofs.Arrivals.{arrivals_map}
+use Rattle.run_laws.proofs.Backlog.{backlog_from_service}
+use Rattle.run_laws.proofs.Delay.{delay_always}
+use Rattle.run_laws.proofs.Views.{views_are_lawful}
 use Rattle.residuals.specs.left.Left.{Left, all, above, share, EachBefore}
 use Rattle.residuals.specs.left.Laws.{IsLeft, IsLeftTo}
 use Rattle.residuals.proofs.left.Laws.{map_fits, serves as left_serves, grows as left_grows}

@@ -3,11 +3,11 @@ use Rattle.std.specs.Prelude.{◌≡◌, ℕ, zero, suc, pos, ◌<◌, ◌≤◌
 use Rattle.std.proofs.Common.{arith, sym, ap, ◌∙◌, refl, subst, get_or}
 use Rattle.std.proofs.lemmas.List.{get_or_default, length-map}
 use Rattle.std.proofs.lemmas.Option.{slice_get_within}
-use Rattle.upp_limits.specs.rational.specs.Rational.{ℚ, int, ◌≤ℚ◌}
-use Rattle.upp_limits.specs.rational.proofs.Laws.{le_refl}
-use Rattle.net_model.specs.run_laws.specs.Servers.{Fifo, Server, queue_count}
-use Rattle.net_model.specs.run_laws.specs.Routes as routes
-use Rattle.net_model.specs.run_laws.specs.Routes.{Route, route_of, link_at, PassesServer}
+use Rattle.rational.specs.Rational.{ℚ, int, ◌≤ℚ◌}
+use Rattle.rational.proofs.Laws.{le_refl}
+use Rattle.run_laws.specs.Servers.{Fifo, Server, queue_count}
+use Rattle.run_laws.specs.Routes as routes
+use Rattle.run_laws.specs.Routes.{Route, route_of, link_at, PassesServer}
 use Rattle.net_model.specs.Networks.{Net, NetServer, NetFlow}
 use Rattle.net_model.specs.Accepted.{IsAccepted, IsServer}
 use Rattle.net_laws.specs.Paths.{IsPath}
@@ -20,7 +20,7 @@ pub use Rattle.net_cells.proofs.Routed.{route_is, live_is}
 use Rattle.net_bounds.specs.NetRuns.{hops_along, route_for, server_for, link_for, routes_of}
 use Rattle.net_bounds.proofs.Placed.{place_in, placed, apart_from}
 use Rattle.net_bounds.proofs.Paths.{is_path, passes_has, has_passes}
-use Rattle.net_model.specs.run_laws.proofs.Members.{at_has}
+use Rattle.run_laws.proofs.Members.{at_has}
 
 -- ---- flows
 -- the queues of a flow, one at each server of its path

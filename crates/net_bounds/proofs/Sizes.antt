@@ -3,10 +3,10 @@ use Rattle.std.specs.Prelude.{◌≡◌, ℕ, ◌≤◌, nat_lt, true, List, [],
 use Rattle.std.proofs.Common.{arith, sym, ap, subst, inl, inr}
 use Rattle.std.proofs.Math.Nat.{le-max_left, le-max_right}
 use Rattle.std.proofs.lemmas.Bool.{eqb-true}
-use Rattle.net_model.specs.run_laws.specs.Runs.{SpecRun}
-use Rattle.net_model.specs.run_laws.specs.Cards.{Card, of_flow, of_queue, after_queue}
-use Rattle.net_model.specs.run_laws.specs.Premises.{KeepsSizes}
-use Rattle.net_model.specs.run_laws.proofs.Arrivals.{arrivals_map}
+use Rattle.run_laws.specs.Runs.{SpecRun}
+use Rattle.run_laws.specs.Cards.{Card, of_flow, of_queue, after_queue}
+use Rattle.run_laws.specs.Premises.{KeepsSizes}
+use Rattle.run_laws.proofs.Arrivals.{arrivals_map}
 use Rattle.net_model.specs.Networks.{Net}
 use Rattle.net_cells.specs.Numbered.{packet, queue_of_hop}
 use Rattle.net_cells.specs.declared.visit.Visit.{Visit}
@@ -16,7 +16,7 @@ use Rattle.net_cells.proofs.Lists.{has_filter}
 use Rattle.net_bounds.specs.Promises.{seen_by}
 use Rattle.net_bounds.proofs.Routed.{hop_at}
 use Rattle.net_bounds.proofs.Arriving.{AtServer, IsVisiting, all_visiting, card_visit, has_card, has_in}
-use Rattle.net_model.specs.run_laws.proofs.Members.{Has}
+use Rattle.run_laws.proofs.Members.{Has}
 
 pub longest_most : (net : Net) (vs : List Visit) (v : Visit) → Has vs v → packet net v.flow ≤ longest_of net vs
 longest_most net [] v h = absurd h

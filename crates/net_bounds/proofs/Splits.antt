@@ -1,14 +1,14 @@
 -- A convolution of services, one after the other, is at most the sum of their values over each split of its time.
 use Rattle.std.specs.Prelude.{◌≡◌, ℕ, zero, suc, List, [], ◌∷◌, ◌++◌, length}
 use Rattle.std.proofs.Common.{arith, sym, ap, ◌∙◌, refl, subst}
-use Rattle.upp_limits.specs.rational.specs.Rational.{ℚ, ◌+ℚ◌, ◌≤ℚ◌}
-use Rattle.upp_limits.specs.rational.specs.Extended.{Ext, ◌≤ₑ◌, ◌+ₑ◌}
-use Rattle.upp_limits.specs.rational.proofs.ExtendedOrder.{le_ext_trans, le_ext_refl, same_le_ext, add_le_ext, add_ext_assoc, add_zero_ext, zero_add_ext}
-use Rattle.upp_limits.specs.rational.proofs.Laws.{add_zero}
-use Rattle.upp_limits.specs.min_plus.specs.Functions.{zero_q}
-use Rattle.upp_limits.specs.min_plus.specs.Convolution.{Split, AllNonneg, sum_of}
+use Rattle.rational.specs.Rational.{ℚ, ◌+ℚ◌, ◌≤ℚ◌}
+use Rattle.rational.specs.Extended.{Ext, ◌≤ₑ◌, ◌+ₑ◌}
+use Rattle.rational.proofs.ExtendedOrder.{le_ext_trans, le_ext_refl, same_le_ext, add_le_ext, add_ext_assoc, add_zero_ext, zero_add_ext}
+use Rattle.rational.proofs.Laws.{add_zero}
+use Rattle.min_plus.specs.Functions.{zero_q}
+use Rattle.min_plus.specs.Convolution.{Split, AllNonneg, sum_of}
 use Rattle.net_laws.specs.Paths.{IsWithinSplits, sum_of_values}
-use Rattle.upp_limits.specs.min_plus.proofs.TimeSums.{nonneg_total, sum_more}
+use Rattle.min_plus.proofs.TimeSums.{nonneg_total, sum_more}
 
 -- ---- the last of some times
 record EndsWith (n : ℕ) (xs : List ℚ) : Type 0 where

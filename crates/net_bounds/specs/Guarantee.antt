@@ -1,7 +1,7 @@
 -- The guarantee: what a table that meets the equations of a network promises of every run of it. (Le Boudec and Thiran;
 -- Bouillard, Boyer and Le Corronc, feed-forward networks.)
 use Rattle.std.specs.Prelude.{◌<◌, ℕ, List, IsTrue}
-use Rattle.net_model.specs.run_laws.specs.Runs.{SpecRun}
+use Rattle.run_laws.specs.Runs.{SpecRun}
 use Rattle.net_model.specs.Networks.{Net}
 use Rattle.net_model.specs.Accepted.{IsAccepted}
 use Rattle.net_model.specs.Orders.{IsOrder}

@@ -1,9 +1,9 @@
 -- The runs of a network. (Le Boudec and Thiran; that work may be at any pace in version 1, and at most at its server's rate
 -- in version 2, is our own choice.)
-use Rattle.upp_limits.specs.upp_curve.specs.Curve.{value_at}
-use Rattle.net_model.specs.run_laws.specs.Runs.{SpecRun}
-use Rattle.net_model.specs.run_laws.specs.Lawful.{IsLawful}
-use Rattle.net_model.specs.run_laws.specs.RunPremises.{KeepsPremises}
+use Rattle.upp_curve.specs.Curve.{value_at}
+use Rattle.run_laws.specs.Runs.{SpecRun}
+use Rattle.run_laws.specs.Lawful.{IsLawful}
+use Rattle.run_laws.specs.RunPremises.{KeepsPremises}
 use Rattle.net_model.specs.Networks.{Net}
 pub use Rattle.net_model.specs.NetRoutes.{hops_along, pace_for, route_for, server_for, link_for, routes_of}
 use Rattle.net_cells.specs.Numbered.{packet, arrival, service}

@@ -1,9 +1,9 @@
 -- One server of a network, whether there is a cycle or not: what a table promises there, where the flows keep their
 -- curves there. (Le Boudec and Thiran.)
 use Rattle.std.specs.Prelude.{◌≡◌, ◌<◌, ℕ, length}
-use Rattle.net_model.specs.run_laws.specs.Runs.{SpecRun}
-use Rattle.net_model.specs.run_laws.specs.Cards.{of_flow}
-use Rattle.net_model.specs.run_laws.specs.Premises.{KeepsArrivals}
+use Rattle.run_laws.specs.Runs.{SpecRun}
+use Rattle.run_laws.specs.Cards.{of_flow}
+use Rattle.run_laws.specs.Premises.{KeepsArrivals}
 use Rattle.net_model.specs.Networks.{Net}
 use Rattle.net_model.specs.Accepted.{IsAccepted}
 use Rattle.net_cells.specs.declared.cell.Kind.TheVariants.{In}

@@ -1,19 +1,19 @@
 -- What a table promises of a hop, of a queue and of a path, in a run. An infinite number claims nothing. (Le Boudec and
 -- Thiran; Bouillard, Boyer and Le Corronc: total-flow and separate-flow analysis.)
 use Rattle.std.specs.Prelude.{◌<◌, ℕ, suc, List}
-use Rattle.upp_limits.specs.rational.specs.Rational.{ℚ, ◌-ℚ◌, ◌≤ℚ◌}
-use Rattle.upp_limits.specs.rational.specs.Extended.{Ext, ◌≤ₑ◌}
-use Rattle.upp_limits.specs.rational.specs.declared.Extended.TheVariants.{Fin}
-use Rattle.net_model.specs.run_laws.specs.Runs.{SpecRun}
-use Rattle.upp_limits.specs.min_plus.specs.Pointwise.{packetised}
-use Rattle.net_model.specs.run_laws.specs.Cards.{Class, of_flow, of_queue, whole, ServerStep}
-use Rattle.net_model.specs.run_laws.specs.Counts.{departed_in}
-use Rattle.net_model.specs.run_laws.specs.Premises.{KeepsArrivals}
-use Rattle.net_model.specs.run_laws.specs.Serves.{Serves, ServesPackets}
-use Rattle.net_model.specs.run_laws.specs.Delays.{hop_delays, AreAtMost, backlog}
-use Rattle.net_model.specs.run_laws.specs.Routes.{route_of}
-use Rattle.net_model.specs.run_laws.specs.Views.{view}
-use Rattle.net_model.specs.run_laws.specs.Bounds.{IsFlowBounded}
+use Rattle.rational.specs.Rational.{ℚ, ◌-ℚ◌, ◌≤ℚ◌}
+use Rattle.rational.specs.Extended.{Ext, ◌≤ₑ◌}
+use Rattle.rational.specs.declared.Extended.TheVariants.{Fin}
+use Rattle.run_laws.specs.Runs.{SpecRun}
+use Rattle.min_plus.specs.Pointwise.{packetised}
+use Rattle.run_laws.specs.Cards.{Class, of_flow, of_queue, whole, ServerStep}
+use Rattle.run_laws.specs.Counts.{departed_in}
+use Rattle.run_laws.specs.Premises.{KeepsArrivals}
+use Rattle.run_laws.specs.Serves.{Serves, ServesPackets}
+use Rattle.run_laws.specs.Delays.{hop_delays, AreAtMost, backlog}
+use Rattle.run_laws.specs.Routes.{route_of}
+use Rattle.run_laws.specs.Views.{view}
+use Rattle.run_laws.specs.Bounds.{IsFlowBounded}
 use Rattle.net_laws.specs.Paths.{IsServedOver}
 use Rattle.net_model.specs.Networks.{Net}
 use Rattle.net_cells.specs.declared.cell.Kind.TheVariants.{In, Total, QueueService, Residual, QueueDelay, QueueBacklog, HopDelay, Out, PathService, Tfa, Sfa, Bound}

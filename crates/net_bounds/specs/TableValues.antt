@@ -1,8 +1,8 @@
 -- What a table of a network's cells has in a cell: a curve whose function is of a sort, or a number. (Own choice.)
 use Rattle.std.specs.Prelude.{◌≡◌, Some}
-use Rattle.upp_limits.specs.rational.specs.Rational.{ℚ}
-use Rattle.upp_limits.specs.rational.specs.Extended.{Ext}
-use Rattle.upp_limits.specs.upp_curve.specs.Curve.{SpecCurve, value_at}
+use Rattle.rational.specs.Rational.{ℚ}
+use Rattle.rational.specs.Extended.{Ext}
+use Rattle.upp_curve.specs.Curve.{SpecCurve, value_at}
 use Rattle.net_cells.specs.declared.cell.Cell.{Cell}
 use Rattle.net_cells.specs.Meanings.{curve, CellTable}
 pub use Rattle.net_cells.specs.TableValues.{HasNumber}

@@ -1,18 +1,18 @@
 -- A formula that is answered by a value means that value.
 use Rattle.std.proofs.Common.{◌≡◌, ℕ, List, [], ◌∷◌, ◌++◌, ap, subst}
 use Rattle.std.specs.Prelude.{Ok, Err, Result}
-use Rattle.upp_limits.specs.rational.specs.Extended.{Ext, min_ext}
+use Rattle.rational.specs.Extended.{Ext, min_ext}
 use Rattle.upp_limits.specs.declared.op_kind.OpKind.{OpKind}
 use Rattle.upp_limits.specs.declared.op_kind.OpKind.TheVariants.{Sum, Min, Shift, FifoLeft, Horizontal, Vertical}
 use Rattle.upp_limits.specs.declared.op_kind.OpFault.{OpFault}
-use Rattle.upp_limits.specs.upp_curve.specs.Curve.{SpecCurve, value_at}
-use Rattle.upp_limits.specs.upp_curve.specs.Curves.{IsCurve}
-use Rattle.upp_limits.specs.upp_curve.specs.Kinds.{bucket}
-use Rattle.net_model.specs.run_laws.specs.Cards.{whole}
-use Rattle.upp_limits.specs.min_plus.specs.Deviations.{IsHorizontalDeviation, IsVerticalDeviation}
-use Rattle.residuals.specs.curve_call.specs.Again.{IsAgain}
-use Rattle.residuals.specs.curve_call.specs.Answers.{IsMadeBy}
-use Rattle.residuals.specs.curve_call.specs.Calls.{Applies, AppliesTo}
+use Rattle.upp_curve.specs.Curve.{SpecCurve, value_at}
+use Rattle.upp_curve.specs.Curves.{IsCurve}
+use Rattle.upp_curve.specs.Kinds.{bucket}
+use Rattle.run_laws.specs.Cards.{whole}
+use Rattle.min_plus.specs.Deviations.{IsHorizontalDeviation, IsVerticalDeviation}
+use Rattle.curve_call.specs.Again.{IsAgain}
+use Rattle.curve_call.specs.Answers.{IsMadeBy}
+use Rattle.curve_call.specs.Calls.{Applies, AppliesTo}
 use Rattle.outcomes.specs.Calls.{goes_on, stops}
 use Rattle.residuals.specs.calls.PriorityCalls.{MakesPriority}
 use Rattle.residuals.proofs.calls.PriorityCalls as priority_calls

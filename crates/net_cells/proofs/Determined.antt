@@ -5,7 +5,7 @@ use Rattle.net_cells.proofs.OneMeaning.{means_one}
 use Rattle.net_cells.proofs.OneAnswer.{answers_one}
 use Rattle.net_cells.proofs.AnswersMean.{answers_mean}
 use Rattle.net_cells.proofs.SameLeaves.{means_same, answers_same}
-use Rattle.net_model.specs.run_laws.proofs.Members.{has_contains}
+use Rattle.run_laws.proofs.Members.{has_contains}
 
 pub formulas_are_determined : FormulasAreDetermined
 formulas_are_determined = record {

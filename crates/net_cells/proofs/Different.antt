@@ -3,7 +3,7 @@ use Rattle.std.proofs.Common.{◌≡◌, ℕ, zero, suc, ◌-◌, List, [], ◌�
 use Rattle.std.specs.Prelude.{not, ◌==◌, Bool, true, false}
 use Rattle.std.proofs.lemmas.Bool.{eqb-true}
 use Rattle.std.specs.List.{range_with_len}
-use Rattle.upp_limits.specs.upp_curve.specs.Curve.{SpecCurve}
+use Rattle.upp_curve.specs.Curve.{SpecCurve}
 use Rattle.residuals.specs.left.Left.{Left, all, above, share}
 use Rattle.net_model.specs.Networks.{Net}
 use Rattle.net_cells.specs.declared.cell.Cell.{Cell}
@@ -21,7 +21,7 @@ use Rattle.net_cells.specs.Laws.{OperandsAreDifferent}
 use Rattle.net_cells.proofs.Lists.{Apart, apart_pairs, apart_map, apart_filter, apart_flat, apart_range, filter_has}
 use Rattle.net_cells.proofs.Places.{apart_visits, at_visit_one, cell_of_one}
 use Rattle.net_cells.proofs.LeavesOf.{sum_leaves, parts_leaves, served_leaves}
-use Rattle.net_model.specs.run_laws.proofs.Members.{Has}
+use Rattle.run_laws.proofs.Members.{Has}
 
 -- ---- one, two, three
 one_apart : (x : Cell) → Apart (x ∷ [])

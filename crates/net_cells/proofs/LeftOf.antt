@@ -6,15 +6,15 @@ use Rattle.std.proofs.Common.{arith, sym, ap, ap₂, refl, subst, inl, inr, get_
 use Rattle.std.proofs.lemmas.Bool.{cases_lt}
 use Rattle.std.proofs.lemmas.List.{length-map, get_or_past}
 use Rattle.std.proofs.lemmas.List.FromFn.{length-range_with_len, length-map-range_with_len, get_or-map-range_with_len}
-use Rattle.upp_limits.specs.rational.specs.Rational.{ℚ}
-use Rattle.upp_limits.specs.rational.specs.Extended.{Ext}
-use Rattle.upp_limits.specs.upp_curve.specs.Curve.{SpecCurve}
+use Rattle.rational.specs.Rational.{ℚ}
+use Rattle.rational.specs.Extended.{Ext}
+use Rattle.upp_curve.specs.Curve.{SpecCurve}
 use Rattle.residuals.specs.left.Left.{Left, all, above, share, map_left, EachBefore, IsFit}
 use Rattle.residuals.specs.left.Laws.{IsLeftTo}
-use Rattle.net_model.specs.run_laws.specs.Cards.{of_queue, before_queue, after_queue, ServerStep}
-use Rattle.net_model.specs.run_laws.specs.Servers.{Discipline, Fifo, Priority, Drr, Server, queue_count}
-use Rattle.net_model.specs.run_laws.specs.Premises.{KeepsArrivals, KeepsSizes}
-use Rattle.net_model.specs.run_laws.proofs.Members.{Has}
+use Rattle.run_laws.specs.Cards.{of_queue, before_queue, after_queue, ServerStep}
+use Rattle.run_laws.specs.Servers.{Discipline, Fifo, Priority, Drr, Server, queue_count}
+use Rattle.run_laws.specs.Premises.{KeepsArrivals, KeepsSizes}
+use Rattle.run_laws.proofs.Members.{Has}
 use Rattle.net_model.specs.Networks.{Net}
 use Rattle.net_model.specs.Accepted.{HasFewQueues}
 use Rattle.net_cells.specs.declared.cell.Cell.{Cell}

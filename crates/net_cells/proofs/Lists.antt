@@ -3,7 +3,7 @@ use Rattle.std.proofs.Common.{◌≡◌, ℕ, ◌<◌, ◌≤◌, ◌+◌, zero,
 use Rattle.std.specs.Prelude.{AllPairs, ◌≢◌}
 use Rattle.std.specs.List.{filter, flat_map, range_with_len}
 use Rattle.std.proofs.lemmas.Bool.{cases_lt}
-pub use Rattle.net_model.specs.run_laws.proofs.Members.{Has, at_has, contains_has, has_contains, has_left, has_right, has_either, has_map, has_flat}
+pub use Rattle.run_laws.proofs.Members.{Has, at_has, contains_has, has_contains, has_left, has_right, has_either, has_map, has_flat}
 
 -- none of them is there twice
 abbrev pub Apart : {X : Type 0} → List X → Type 0

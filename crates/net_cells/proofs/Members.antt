@@ -6,7 +6,7 @@ use Rattle.std.proofs.lemmas.Bool.{ltb-true, eqb-true, eq-eqb, and_parts, and_fr
 use Rattle.std.proofs.lemmas.List.{get_or_default}
 use Rattle.std.proofs.lemmas.Option.{slice_get_within}
 use Rattle.std.proofs.lemmas.Map.Keys.{IsDistinct-head, IsDistinct-tail}
-use Rattle.net_model.specs.run_laws.specs.Servers.{queue_count}
+use Rattle.run_laws.specs.Servers.{queue_count}
 use Rattle.net_model.specs.Networks.{Net, NetServer, NetFlow}
 use Rattle.net_model.specs.Accepted.{IsAccepted, IsHop}
 use Rattle.net_model.specs.Orders.{IsOrder}
@@ -20,7 +20,7 @@ use Rattle.net_cells.specs.Order.{evaluation_order, server_cells, path_cells}
 use Rattle.net_cells.specs.Laws.{OrderHasEachCell}
 use Rattle.net_cells.proofs.Lists.{Apart, apart_pairs, apart_joined, flat_has, apart_flat}
 use Rattle.net_cells.proofs.Places.{flow_inside, home, home_in, Side, at_servers, of_paths, side_of, IsHome, IsOnPath, server_have, has_server, apart_server, path_have, has_path, apart_path, apart_path_kinds, path_scope}
-use Rattle.net_model.specs.run_laws.proofs.Members.{Has, contains_has, has_contains, has_left, has_right, has_either, has_flat}
+use Rattle.run_laws.proofs.Members.{Has, contains_has, has_contains, has_left, has_right, has_either, has_flat}
 
 -- ---- hops of an accepted network
 -- a hop that there is is one of a live flow

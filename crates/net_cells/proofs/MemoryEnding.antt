@@ -21,7 +21,7 @@ use Rattle.net_cells.proofs.OneAnswer.{answers_one}
 use Rattle.net_cells.proofs.Placing.{refusals_placed}
 use Rattle.net_cells.proofs.Tables.{over_by, over_answered, Places, places, same, sooner, later}
 use Rattle.net_cells.proofs.Works.{work_is}
-use Rattle.net_model.specs.run_laws.proofs.Members.{Has, has_left, has_right, has_contains}
+use Rattle.run_laws.proofs.Members.{Has, has_left, has_right, has_contains}
 
 -- ---- at one cell
 ends_most : (at : CellTable) (F : Formula) (n : ℕ) → EndsAt at F n → n ≤ operators F

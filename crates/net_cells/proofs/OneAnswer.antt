@@ -1,22 +1,22 @@
 -- What making a formula's value answers is determined.
 use Rattle.std.proofs.Common.{◌≡◌, ◌≢◌, List, [], ◌∷◌, ◌++◌, refl, sym, ap, ◌∙◌, subst, arith}
 use Rattle.std.specs.Prelude.{Some, Result, Ok, Err}
-use Rattle.upp_limits.specs.rational.specs.Rational.{ℚ}
-use Rattle.upp_limits.specs.rational.specs.Extended.{Ext, min_ext}
+use Rattle.rational.specs.Rational.{ℚ}
+use Rattle.rational.specs.Extended.{Ext, min_ext}
 use Rattle.upp_limits.specs.declared.op_kind.OpKind.{OpKind}
 use Rattle.upp_limits.specs.declared.op_kind.OpKind.TheVariants.{Sum, Min, Shift, FifoLeft, Horizontal, Vertical}
 use Rattle.upp_limits.specs.declared.op_kind.OpFault.{OpFault}
 use Rattle.upp_limits.specs.declared.op_kind.OpFault.TheVariants.{TooMany, TooWide, NoMemory}
-use Rattle.upp_limits.specs.upp_curve.specs.Curve.{SpecCurve, value_at}
-use Rattle.upp_limits.specs.upp_curve.specs.Kinds.{bucket}
-use Rattle.net_model.specs.run_laws.specs.Cards.{whole}
-use Rattle.upp_limits.specs.min_plus.specs.Deviations.{IsHorizontalDeviation, IsVerticalDeviation}
+use Rattle.upp_curve.specs.Curve.{SpecCurve, value_at}
+use Rattle.upp_curve.specs.Kinds.{bucket}
+use Rattle.run_laws.specs.Cards.{whole}
+use Rattle.min_plus.specs.Deviations.{IsHorizontalDeviation, IsVerticalDeviation}
 use Rattle.upp_limits.specs.Outcome.{IsWithin, IsCauseOf}
-use Rattle.upp_limits.specs.min_plus.proofs.Unambiguous.{deviations_are_unique}
-use Rattle.residuals.specs.curve_call.specs.Again.{IsAgain, again_determined}
-use Rattle.residuals.specs.curve_call.specs.Calls.{Applies, AppliesTo}
-use Rattle.residuals.specs.curve_call.specs.Determined.{IsDetermined}
-use Rattle.residuals.specs.curve_call.proofs.InTurn.{applies_determined}
+use Rattle.min_plus.proofs.Unambiguous.{deviations_are_unique}
+use Rattle.curve_call.specs.Again.{IsAgain, again_determined}
+use Rattle.curve_call.specs.Calls.{Applies, AppliesTo}
+use Rattle.curve_call.specs.Determined.{IsDetermined}
+use Rattle.curve_call.proofs.InTurn.{applies_determined}
 use Rattle.outcomes.proofs.Calls.{then_determined}
 use Rattle.residuals.specs.calls.PriorityCalls.{MakesPriority}
 use Rattle.residuals.proofs.calls.PriorityCalls as priority_calls

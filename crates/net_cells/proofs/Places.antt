@@ -15,7 +15,7 @@ use Rattle.net_cells.specs.Visits.{Visit, visit, all_visits, visits, is_at, goes
 use Rattle.net_cells.specs.Cells.{cell_of, scope_of, is_in_scope, has_cell, server_kinds, path_kinds}
 use Rattle.net_cells.specs.Order.{at_visit, cells_in_scope, kind_cells, server_cells, path_cells}
 use Rattle.net_cells.proofs.Lists.{Apart, map_has, apart_map, has_filter, filter_has, apart_filter, apart_back, Before, before_back, before_range, flat_has, apart_flat, has_range, range_has, apart_range}
-use Rattle.net_model.specs.run_laws.proofs.Members.{Has, has_map, has_flat}
+use Rattle.run_laws.proofs.Members.{Has, has_map, has_flat}
 
 -- ---- flows
 pub flow_inside : (net : Net) (i k : ℕ) → k < hops net i → i < length net.flows

@@ -5,7 +5,7 @@ use Rattle.std.specs.List.{flat_map, range_with_len}
 use Rattle.std.proofs.lemmas.Bool.{lt-ltb, ltb-true, eqb-true, and_parts}
 use Rattle.std.proofs.lemmas.List.{get_or_default}
 use Rattle.upp_limits.specs.declared.op_kind.OpKind.TheVariants.{Sum}
-use Rattle.net_model.specs.run_laws.specs.Servers.{Discipline, Fifo, Priority, Drr, queue_count}
+use Rattle.run_laws.specs.Servers.{Discipline, Fifo, Priority, Drr, queue_count}
 use Rattle.net_model.specs.Networks.{Net, NetServer, NetFlow}
 use Rattle.net_model.specs.Accepted.{IsAccepted, HasFewQueues}
 use Rattle.net_model.specs.Orders.{IsOrder}
@@ -28,7 +28,7 @@ use Rattle.net_cells.proofs.LeavesOf.{parts_leaves}
 use Rattle.net_cells.proofs.Lists.{Before, map_has, flat_has, filter_has, range_has, before_left, before_right, before_across, before_flat, before_inside, before_place, before_split, Apart}
 use Rattle.net_cells.proofs.Places.{flow_inside, live_inside, visit_has, home, home_in, rank, kinds_before, path_kinds_before, IsHome, has_kind, has_server, has_path}
 use Rattle.net_cells.proofs.Members.{hop_of, hop_kept, home_inside, home_in_order, order_has, apart_cells}
-use Rattle.net_model.specs.run_laws.proofs.Members.{Has, has_right, has_either, has_flat, contains_has, has_contains}
+use Rattle.run_laws.proofs.Members.{Has, has_right, has_either, has_flat, contains_has, has_contains}
 
 -- ---- both in the order
 abbrev All : Net → List ℕ → List Cell

@@ -2,7 +2,7 @@
 use Rattle.std.specs.Prelude.{◌≡◌, ℕ, Option, Some, None, is_some}
 use Rattle.std.proofs.Common.{refl, ap, ◌∙◌}
 use Rattle.std.proofs.Math.ListN.{get_or-map}
-use Rattle.net_model.specs.run_laws.specs.Routes.{Route, route_of}
+use Rattle.run_laws.specs.Routes.{Route, route_of}
 use Rattle.net_model.specs.Networks.{Net, NetFlow}
 use Rattle.net_model.specs.NetRoutes.{route_for, routes_of}
 use Rattle.net_cells.specs.Numbered.{flow_at, is_live}

@@ -1,15 +1,15 @@
 -- A formula reads its own cells alone: two tables that agree on them give it the same meaning and the same answers.
 use Rattle.std.proofs.Common.{◌≡◌, List, [], ◌∷◌, ◌++◌, refl, sym, ◌∙◌, inl, inr}
 use Rattle.std.specs.Prelude.{Ok, Err}
-use Rattle.upp_limits.specs.rational.specs.Extended.{Ext, min_ext}
+use Rattle.rational.specs.Extended.{Ext, min_ext}
 use Rattle.upp_limits.specs.declared.op_kind.OpKind.TheVariants.{Min, Shift, FifoLeft, Horizontal, Vertical}
-use Rattle.upp_limits.specs.upp_curve.specs.Curve.{SpecCurve, value_at}
-use Rattle.upp_limits.specs.upp_curve.specs.Kinds.{bucket}
-use Rattle.net_model.specs.run_laws.specs.Cards.{whole}
-use Rattle.upp_limits.specs.min_plus.specs.Deviations.{IsHorizontalDeviation, IsVerticalDeviation}
-use Rattle.residuals.specs.curve_call.specs.Again.{IsAgain}
-use Rattle.residuals.specs.curve_call.specs.Answers.{IsMadeBy}
-use Rattle.residuals.specs.curve_call.specs.Calls.{Applies, AppliesTo}
+use Rattle.upp_curve.specs.Curve.{SpecCurve, value_at}
+use Rattle.upp_curve.specs.Kinds.{bucket}
+use Rattle.run_laws.specs.Cards.{whole}
+use Rattle.min_plus.specs.Deviations.{IsHorizontalDeviation, IsVerticalDeviation}
+use Rattle.curve_call.specs.Again.{IsAgain}
+use Rattle.curve_call.specs.Answers.{IsMadeBy}
+use Rattle.curve_call.specs.Calls.{Applies, AppliesTo}
 use Rattle.outcomes.specs.Calls.{goes_on, stops}
 use Rattle.residuals.specs.calls.PriorityCalls.{MakesPriority}
 use Rattle.net_cells.specs.declared.cell.Cell.{Cell}
@@ -18,7 +18,7 @@ use Rattle.net_cells.specs.NumberSums.{Sums, sum_of_numbers}
 use Rattle.net_cells.specs.Formulas.{Formula, leaves, value_of, given, empty_sum, made, made_of, moved, cut, part, no_part, leftover, priority, deficit, horizontal, vertical, smaller, along, delayed}
 use Rattle.net_cells.specs.Means.{Means, MeansFrom, OfCurve, OfNumber, HaveNumbers, IsPriorityCurve, with_links}
 use Rattle.net_cells.specs.Answers.{Answer, Answers, AnswersFrom, IsOnly, MakesCurve, MakesNumber, Deviates, ThenCurve, ThenNumber}
-use Rattle.net_model.specs.run_laws.proofs.Members.{Has, has_left, has_right}
+use Rattle.run_laws.proofs.Members.{Has, has_left, has_right}
 
 -- two tables have the same values at some cells
 abbrev pub AgreeOn : List Cell → CellTable → CellTable → Type 0

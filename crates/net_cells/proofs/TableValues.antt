@@ -1,7 +1,7 @@
 -- What is known of the values that a table has.
 use Rattle.std.specs.Prelude.{◌≡◌, Some}
 use Rattle.std.proofs.Common.{sym, ◌∙◌}
-use Rattle.upp_limits.specs.rational.specs.Extended.{Ext}
+use Rattle.rational.specs.Extended.{Ext}
 use Rattle.net_cells.specs.declared.cell.Cell.{Cell}
 use Rattle.net_cells.specs.Meanings.{Meaning, curve, number, CellTable, IsNumberIn}
 use Rattle.net_cells.specs.TableValues.{HasNumber}

@@ -21,7 +21,7 @@ use Rattle.net_cells.proofs.AnswersMean.{answers_mean}
 use Rattle.net_cells.proofs.SameLeaves.{AgreeOn, means_same, answers_same}
 use Rattle.net_cells.proofs.Members.{in_order, order_has}
 use Rattle.net_cells.proofs.Precedes.{leaf_in_front, in_front}
-use Rattle.net_model.specs.run_laws.proofs.Members.{Has, has_left, has_right, has_either, contains_has, has_contains}
+use Rattle.run_laws.proofs.Members.{Has, has_left, has_right, has_either, contains_has, has_contains}
 
 -- ---- on a front of the order
 abbrev MeetOn : Net → CellTable → List Cell → Type 0

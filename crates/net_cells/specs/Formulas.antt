@@ -1,9 +1,9 @@
 -- What a cell is made of: cells, curves and numbers of the network, and operators on them, in the order in which they
 -- are made. (Own choice of the form; the operators are those of Le Boudec and Thiran.)
 use Rattle.std.specs.Prelude.{ℕ, ◌+◌, Bool, true, false, List, [], ◌∷◌, ◌++◌, if◌then◌else◌}
-use Rattle.upp_limits.specs.rational.specs.Rational.{ℚ}
+use Rattle.rational.specs.Rational.{ℚ}
 use Rattle.upp_limits.specs.declared.op_kind.OpKind.{OpKind}
-use Rattle.upp_limits.specs.upp_curve.specs.Curve.{SpecCurve}
+use Rattle.upp_curve.specs.Curve.{SpecCurve}
 use Rattle.net_cells.specs.declared.cell.Cell.{Cell}
 
 pub data Formula : Type 0 where

@@ -1,7 +1,7 @@
 -- What the value of a cell is: a curve, or a number that may be infinite. Own choice.
 use Rattle.std.specs.Prelude.{Option}
-use Rattle.upp_limits.specs.rational.specs.Extended.{Ext}
-use Rattle.upp_limits.specs.upp_curve.specs.Curve.{SpecCurve}
+use Rattle.rational.specs.Extended.{Ext}
+use Rattle.upp_curve.specs.Curve.{SpecCurve}
 use Rattle.net_cells.specs.declared.cell.Cell.{Cell}
 
 pub data Meaning : Type 0 where

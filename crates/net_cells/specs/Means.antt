@@ -1,18 +1,18 @@
 -- What a formula means by a table of the values of its cells: each operator by its definition, and no limit. (Le Boudec
 -- and Thiran; that a curve is its normal form is our own choice.)
 use Rattle.std.specs.Prelude.{◌≡◌, ℕ, List, [], ◌∷◌, ◌++◌, map, Some}
-use Rattle.upp_limits.specs.rational.specs.Rational.{ℚ}
-use Rattle.upp_limits.specs.rational.specs.Extended.{Ext, min_ext}
-use Rattle.upp_limits.specs.rational.specs.declared.Extended.TheVariants.{Fin}
+use Rattle.rational.specs.Rational.{ℚ}
+use Rattle.rational.specs.Extended.{Ext, min_ext}
+use Rattle.rational.specs.declared.Extended.TheVariants.{Fin}
 use Rattle.upp_limits.specs.declared.op_kind.OpKind.TheVariants.{Sum, Min, Shift, FifoLeft}
-use Rattle.upp_limits.specs.upp_curve.specs.Curve.{SpecCurve, value_at}
-use Rattle.upp_limits.specs.upp_curve.specs.Curves.{IsCurve}
-use Rattle.upp_limits.specs.upp_curve.specs.Kinds.{bucket}
-use Rattle.upp_limits.specs.min_plus.specs.Deviations.{IsHorizontalDeviation, IsVerticalDeviation}
-use Rattle.residuals.specs.curve_call.specs.Answers.{IsMadeBy}
-use Rattle.residuals.specs.residual_laws.specs.PriorityLaws.{IsPriorityService}
-use Rattle.residuals.specs.residual_laws.specs.DrrLaws.{IsDrrService}
-use Rattle.net_model.specs.run_laws.specs.Cards.{whole}
+use Rattle.upp_curve.specs.Curve.{SpecCurve, value_at}
+use Rattle.upp_curve.specs.Curves.{IsCurve}
+use Rattle.upp_curve.specs.Kinds.{bucket}
+use Rattle.min_plus.specs.Deviations.{IsHorizontalDeviation, IsVerticalDeviation}
+use Rattle.curve_call.specs.Answers.{IsMadeBy}
+use Rattle.residual_laws.specs.PriorityLaws.{IsPriorityService}
+use Rattle.residual_laws.specs.DrrLaws.{IsDrrService}
+use Rattle.run_laws.specs.Cards.{whole}
 use Rattle.net_cells.specs.declared.cell.Cell.{Cell}
 use Rattle.net_cells.specs.Numbered.{zero_curve}
 use Rattle.net_cells.specs.Meanings.{Meaning, curve, number, CellTable, IsCurveIn, IsNumberIn}

@@ -1,13 +1,13 @@
 -- Sums of numbers, with limits of their own. Own choice.
 use Rattle.std.specs.Prelude.{◌≡◌, ℕ, ◌*◌, ◌^◌, ◌<◌, ◌≤◌, max, List, [], ◌∷◌, length, Bool, true, false, if◌then◌else◌, Result, Ok, Err}
-use Rattle.upp_limits.specs.rational.specs.Rational.{ℚ, ◌+ℚ◌, neg_ℚ}
-use Rattle.upp_limits.specs.rational.specs.MinMax.{max_q}
-use Rattle.upp_limits.specs.rational.specs.Extended.{Ext, ◌+ₑ◌}
-use Rattle.upp_limits.specs.rational.specs.declared.Extended.TheVariants.{Fin, Inf}
-use Rattle.upp_limits.specs.rational.specs.Gauge.{common_den, size_up}
+use Rattle.rational.specs.Rational.{ℚ, ◌+ℚ◌, neg_ℚ}
+use Rattle.rational.specs.MinMax.{max_q}
+use Rattle.rational.specs.Extended.{Ext, ◌+ₑ◌}
+use Rattle.rational.specs.declared.Extended.TheVariants.{Fin, Inf}
+use Rattle.rational.specs.Gauge.{common_den, size_up}
 use Rattle.upp_limits.specs.declared.op_kind.OpFault.{OpFault}
 use Rattle.upp_limits.specs.declared.op_kind.OpFault.TheVariants.{TooMany, TooWide, NoMemory}
-use Rattle.upp_limits.specs.min_plus.specs.Functions.{zero_q}
+use Rattle.min_plus.specs.Functions.{zero_q}
 
 -- the sum, infinite where one of them is
 abbrev pub sum_of_numbers : List Ext → Ext

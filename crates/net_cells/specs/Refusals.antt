@@ -2,17 +2,17 @@
 -- refused one is the last of these. So want of memory at so many says that each of them is within its limits. A sum of
 -- numbers is no operator on curves and is not counted; where it is over a limit it has the place of one more. Own choice.
 use Rattle.std.specs.Prelude.{◌≡◌, ◌⊎◌, ℕ, List, [], ◌∷◌, ◌++◌}
-use Rattle.upp_limits.specs.rational.specs.Extended.{Ext}
+use Rattle.rational.specs.Extended.{Ext}
 use Rattle.upp_limits.specs.declared.op_kind.OpKind.TheVariants.{Sum, Min, Shift, FifoLeft, Horizontal, Vertical}
 use Rattle.upp_limits.specs.declared.op_kind.OpFault.{OpFault}
 use Rattle.upp_limits.specs.declared.op_kind.OpFault.TheVariants.{NoMemory}
-use Rattle.upp_limits.specs.upp_curve.specs.Curve.{SpecCurve}
-use Rattle.upp_limits.specs.upp_curve.specs.Kinds.{bucket}
-use Rattle.upp_limits.specs.min_plus.specs.Deviations.{IsHorizontalDeviation, IsVerticalDeviation}
-use Rattle.residuals.specs.curve_call.specs.Again.{IsAgain}
-use Rattle.residuals.specs.curve_call.specs.Calls.{Applies, AppliesTo}
+use Rattle.upp_curve.specs.Curve.{SpecCurve}
+use Rattle.upp_curve.specs.Kinds.{bucket}
+use Rattle.min_plus.specs.Deviations.{IsHorizontalDeviation, IsVerticalDeviation}
+use Rattle.curve_call.specs.Again.{IsAgain}
+use Rattle.curve_call.specs.Calls.{Applies, AppliesTo}
 use Rattle.residuals.specs.calls.InTurn.{AtCall, InTurn, PriorityRefused, DrrRefused}
-use Rattle.net_model.specs.run_laws.specs.Cards.{whole}
+use Rattle.run_laws.specs.Cards.{whole}
 use Rattle.net_cells.specs.declared.cell.Cell.{Cell}
 use Rattle.net_cells.specs.Meanings.{Meaning, curve, number, CellTable}
 use Rattle.net_cells.specs.NumberSums.{Sums}

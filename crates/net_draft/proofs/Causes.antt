@@ -3,10 +3,10 @@ use Rattle.std.specs.Prelude.{◌≡◌, pos, Bool, true, false, not, if◌then�
 use Rattle.std.proofs.Common.{subst, refl, inl, inr}
 use Rattle.rational.specs.Rational.{ℚ, int, ◌≤ℚ◌, ◌<ℚ◌}
 use Rattle.rational.specs.declared.Extended.TheVariants.{Fin}
-use Rattle.upp_limits.specs.upp_curve.specs.Curve.{SpecCurve, value_at}
-use Rattle.upp_limits.specs.min_plus.specs.Functions.{zero_q, IsRising}
-use Rattle.upp_limits.specs.min_plus.specs.Continuity.{IsContinuous}
-use Rattle.upp_limits.specs.upp_curve.specs.Kinds.{stair, rate_latency, gate}
+use Rattle.upp_curve.specs.Curve.{SpecCurve, value_at}
+use Rattle.min_plus.specs.Functions.{zero_q, IsRising}
+use Rattle.min_plus.specs.Continuity.{IsContinuous}
+use Rattle.upp_curve.specs.Kinds.{stair, rate_latency, gate}
 use Rattle.upp_limits.specs.OwnLimits.{IsWithinOwn}
 use Rattle.curve_library.specs.declared.texts.PieceText.{PieceText}
 use Rattle.curve_library.specs.declared.texts.TailText.{TailText}

@@ -7,7 +7,7 @@ use Rattle.std.proofs.lemmas.List.Quantifiers.{position-Some}
 use Rattle.std.proofs.lemmas.Str.{IsCharBoundary-before_ascii}
 use Rattle.std.specs.Str.Parse.{digits_value}
 use Rattle.rational.specs.Gauge.{cap}
-use Rattle.upp_limits.specs.fraction128.specs.Text.{is_numeral}
+use Rattle.fraction128.specs.Text.{is_numeral}
 use Rattle.net_draft.specs.Hops.{HopText, hop_parts, is_colon}
 use Rattle.net_draft.specs.Values.{is_name}
 

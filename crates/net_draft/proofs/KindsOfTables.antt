@@ -5,10 +5,10 @@ use Rattle.std.specs.Str.{bytes_eq}
 use Rattle.std.specs.Str.Parse.{digits_value}
 use Rattle.std.proofs.Common.{◌≡◌, ℕ, ℤ, pos, negsuc, ◌+◌, Bool, true, false, if◌then◌else◌, List, [], ◌∷◌, ◌++◌, length, Option, None, Some, Result, Ok, Err, refl, subst}
 use Rattle.rational.specs.Rational.{ℚ, int}
-use Rattle.upp_limits.specs.fraction128.specs.declared.fault.FracText.{FracText}
-use Rattle.upp_limits.specs.fraction128.specs.Text.{parse_of, is_numeral, before_at}
+use Rattle.fraction128.specs.declared.fault.FracText.{FracText}
+use Rattle.fraction128.specs.Text.{parse_of, is_numeral, before_at}
 use Rattle.curve_library.specs.declared.texts.UseAs.TheVariants as uses
-use Rattle.net_model.specs.run_laws.specs.Servers.{Fifo, Priority, Drr, queue_count}
+use Rattle.run_laws.specs.Servers.{Fifo, Priority, Drr, queue_count}
 use Rattle.toml.specs.Data.{Data, Members, no_members, member, get_member, as_str, as_integer, as_bool, as_array, as_table}
 use Rattle.net_model.specs.declared.fault.NetKind.{NetKind}
 use Rattle.net_model.specs.declared.fault.NetKind.TheVariants.{M1, M2, M3, M4, M5, M6, M7, M8, M9, M10, M11, M12}

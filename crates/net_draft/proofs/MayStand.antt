@@ -8,15 +8,15 @@ use Rattle.rational.proofs.Linear.{with2}
 use Rattle.rational.proofs.Laws.{le_refl, le_or_lt}
 use Rattle.rational.proofs.Integers.{nat_nonneg}
 use Rattle.rational.proofs.ExtendedOrder.{le_ext_trans}
-use Rattle.upp_limits.specs.upp_curve.specs.Curve.{SpecCurve, value_at}
-use Rattle.upp_limits.specs.min_plus.specs.Functions.{zero_q, IsFinite, IsRising, IsNonnegative}
-use Rattle.upp_limits.specs.upp_curve.specs.Kinds.{bucket, stair, rate_latency, gate}
-use Rattle.upp_limits.specs.upp_curve.specs.affine_segment.Pieces.{Each}
-use Rattle.upp_limits.specs.upp_curve.specs.affine_segment.Reading.{read}
-use Rattle.upp_limits.specs.upp_curve.specs.Shapes.{IsNumber, IsFinitePiece}
-use Rattle.upp_limits.specs.upp_curve.proofs.Finite.{level_of, read_number, repeated_number}
-use Rattle.upp_limits.specs.upp_curve.proofs.RisingCurves.{read_is}
-use Rattle.upp_limits.specs.upp_curve.proofs.Repeats.{repeated_first}
+use Rattle.upp_curve.specs.Curve.{SpecCurve, value_at}
+use Rattle.min_plus.specs.Functions.{zero_q, IsFinite, IsRising, IsNonnegative}
+use Rattle.upp_curve.specs.Kinds.{bucket, stair, rate_latency, gate}
+use Rattle.upp_curve.specs.affine_segment.Pieces.{Each}
+use Rattle.upp_curve.specs.affine_segment.Reading.{read}
+use Rattle.upp_curve.specs.Shapes.{IsNumber, IsFinitePiece}
+use Rattle.upp_curve.proofs.Finite.{level_of, read_number, repeated_number}
+use Rattle.upp_curve.proofs.RisingCurves.{read_is}
+use Rattle.upp_curve.proofs.Repeats.{repeated_first}
 use Rattle.curve_library.specs.declared.texts.PieceText.{PieceText}
 use Rattle.curve_library.specs.declared.texts.TailText.{TailText}
 use Rattle.curve_library.specs.declared.texts.UseAs.TheVariants.{Arrival, Service}

@@ -1,6 +1,6 @@
 -- What is answered to the text of a curve, other than a limit, tells that its curve is over none.
 use Rattle.std.proofs.Common.{◌≡◌, Option, Some, None, Ok, Err, sym, ◌∙◌}
-use Rattle.upp_limits.specs.upp_curve.specs.Curve.{SpecCurve}
+use Rattle.upp_curve.specs.Curve.{SpecCurve}
 use Rattle.upp_limits.specs.declared.own_limits.OverLimit.{OverLimit}
 use Rattle.curve_library.specs.declared.fault.CurveFault.TheVariants as faults
 use Rattle.curve_library.proofs.Answering.{over_within}

@@ -1,18 +1,18 @@
 -- Whether a curve in any form rises, and whether one that rises is continuous, from its pieces.
 use Rattle.std.specs.Prelude.{List, Some, None}
 use Rattle.std.proofs.Common.{refl}
-use Rattle.upp_limits.specs.upp_curve.specs.declared.affine_segment.line.Piece.{Piece}
-use Rattle.upp_limits.specs.upp_curve.specs.declared.curve.Tail.{Tail}
-use Rattle.upp_limits.specs.upp_curve.specs.declared.curve.Tail.TheVariants.{Periodic, Affine, Infinite}
-use Rattle.upp_limits.specs.upp_curve.specs.affine_segment.Reading.{read}
-use Rattle.upp_limits.specs.upp_curve.specs.Curve.{value_at}
-use Rattle.upp_limits.specs.min_plus.specs.Functions.{IsRising}
-use Rattle.upp_limits.specs.upp_curve.specs.Normal.{IsRaw}
-use Rattle.upp_limits.specs.upp_curve.specs.Shapes.{PiecesRise}
-use Rattle.upp_limits.specs.min_plus.specs.Continuity.{IsContinuous}
-use Rattle.upp_limits.specs.upp_curve.specs.JoinedPieces.{PiecesJoin}
-use Rattle.upp_limits.specs.upp_curve.proofs.RisingCurves.{GoesOn, plain_rises, plain_pieces, periodic_rises, periodic_pieces}
-use Rattle.upp_limits.specs.upp_curve.proofs.Joins.{plain_continuous, periodic_continuous, plain_joins, periodic_joins}
+use Rattle.upp_curve.specs.declared.affine_segment.line.Piece.{Piece}
+use Rattle.upp_curve.specs.declared.curve.Tail.{Tail}
+use Rattle.upp_curve.specs.declared.curve.Tail.TheVariants.{Periodic, Affine, Infinite}
+use Rattle.upp_curve.specs.affine_segment.Reading.{read}
+use Rattle.upp_curve.specs.Curve.{value_at}
+use Rattle.min_plus.specs.Functions.{IsRising}
+use Rattle.upp_curve.specs.Normal.{IsRaw}
+use Rattle.upp_curve.specs.Shapes.{PiecesRise}
+use Rattle.min_plus.specs.Continuity.{IsContinuous}
+use Rattle.upp_curve.specs.JoinedPieces.{PiecesJoin}
+use Rattle.upp_curve.proofs.RisingCurves.{GoesOn, plain_rises, plain_pieces, periodic_rises, periodic_pieces}
+use Rattle.upp_curve.proofs.Joins.{plain_continuous, periodic_continuous, plain_joins, periodic_joins}
 use Rattle.net_draft.specs.Refusals.{Next, end_of}
 
 -- ---- what comes next, as a time and a value

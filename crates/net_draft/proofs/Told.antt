@@ -3,12 +3,12 @@ use Rattle.std.specs.Prelude.{◌≡◌, ◌⊎◌, pos, Bool, false, ◌&&◌, 
 use Rattle.std.proofs.Common.{refl, inl, inr}
 use Rattle.rational.specs.Rational.{ℚ, int, ◌≤ℚ◌, ◌<ℚ◌}
 use Rattle.rational.specs.declared.Extended.TheVariants.{Fin}
-use Rattle.upp_limits.specs.upp_curve.specs.Curve.{SpecCurve, value_at}
-use Rattle.upp_limits.specs.min_plus.specs.Functions.{zero_q, IsRising}
-use Rattle.upp_limits.specs.min_plus.specs.Continuity.{IsContinuous}
-use Rattle.upp_limits.specs.upp_curve.specs.Kinds.{stair, rate_latency, gate}
+use Rattle.upp_curve.specs.Curve.{SpecCurve, value_at}
+use Rattle.min_plus.specs.Functions.{zero_q, IsRising}
+use Rattle.min_plus.specs.Continuity.{IsContinuous}
+use Rattle.upp_curve.specs.Kinds.{stair, rate_latency, gate}
 use Rattle.upp_limits.specs.OwnLimits.{IsWithinOwn}
-use Rattle.upp_limits.specs.upp_curve.proofs.RisingCurves.{GoesOn}
+use Rattle.upp_curve.proofs.RisingCurves.{GoesOn}
 use Rattle.curve_library.specs.declared.texts.PieceText.{PieceText}
 use Rattle.curve_library.specs.declared.texts.TailText.{TailText}
 use Rattle.curve_library.specs.declared.texts.UseAs.{UseAs}

@@ -4,8 +4,8 @@ use Rattle.std.specs.Prelude.{List, [], ◌∷◌, drop, Option, Some, None, Res
 use Rattle.std.specs.List.{list_any, position}
 use Rattle.std.specs.Str.{bytes_eq}
 use Rattle.std.specs.Str.Parse.{digits_value}
-use Rattle.upp_limits.specs.fraction128.specs.Text.{is_numeral, before_at}
-use Rattle.net_model.specs.run_laws.specs.Servers.{queue_count}
+use Rattle.fraction128.specs.Text.{is_numeral, before_at}
+use Rattle.run_laws.specs.Servers.{queue_count}
 use Rattle.toml.specs.Data.{Data}
 use Rattle.net_model.specs.declared.fault.NetKind.{NetKind}
 use Rattle.net_model.specs.declared.fault.NetKind.TheVariants.{M5, M6, M8, M10}

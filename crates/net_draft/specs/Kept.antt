@@ -2,7 +2,7 @@
 use Rattle.std.specs.Prelude.{◌≡◌, ◌≢◌, ℕ, ◌≤◌, List, map, length, All, AllPairs}
 use Rattle.std.specs.String.{string_bytes}
 use Rattle.rational.specs.Rational.{ℚ, ◌≤ℚ◌, ◌<ℚ◌}
-use Rattle.upp_limits.specs.min_plus.specs.Functions.{zero_q}
+use Rattle.min_plus.specs.Functions.{zero_q}
 use Rattle.net_model.specs.Names.{IsName}
 use Rattle.net_model.specs.Accepted.{IsVersion, IsLength, HasFewQueues}
 use Rattle.net_model.specs.Views.{discipline_of}

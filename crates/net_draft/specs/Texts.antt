@@ -5,7 +5,7 @@ use Rattle.curve_library.specs.declared.texts.PieceText.{PieceText}
 use Rattle.curve_library.specs.declared.texts.TailText.{TailText}
 use Rattle.curve_library.specs.declared.texts.UseAs.{UseAs}
 use Rattle.curve_library.specs.declared.texts.UseAs.TheVariants as uses
-use Rattle.net_model.specs.run_laws.specs.Servers.{Discipline, queue_count}
+use Rattle.run_laws.specs.Servers.{Discipline, queue_count}
 use Rattle.net_model.specs.Accepted.{IsInQuantum}
 use Rattle.net_draft.specs.declared.hop.Hop.{Hop}
 

@@ -6,8 +6,8 @@ use Rattle.std.specs.Str.{bytes_eq}
 use Rattle.rational.specs.Rational.{ℚ, int}
 use Rattle.rational.specs.Ratio.{cmp_q}
 use Rattle.std.specs.Ordering.{is_lt}
-use Rattle.upp_limits.specs.fraction128.specs.declared.fault.FracText.{FracText}
-use Rattle.upp_limits.specs.fraction128.specs.Text.{parse_of}
+use Rattle.fraction128.specs.declared.fault.FracText.{FracText}
+use Rattle.fraction128.specs.Text.{parse_of}
 use Rattle.toml.specs.Data.{Data, Items, no_items, item, Members, get_member}
 use Rattle.toml.specs.Data.{as_str, as_integer, as_bool, as_array, as_table}
 use Rattle.net_model.specs.declared.fault.NetKind.{NetKind}

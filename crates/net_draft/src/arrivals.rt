@@ -16,10 +16,10 @@ use crate::pieces::{pieces_of, tail_of};
 use crate::places::{fault_under, under};
 use crate::words::{ArrivalWord, arrival_kind};
 use curve_library::UseAs;
+use fraction128::Frac;
 use net_model::NetKind;
 use std::alloc::Global;
 use toml::{Table, Value};
-use upp_limits::fraction128::Frac;
 
 #[tactic(auto, unfolding(crate::specs::Tables::bucket_at))]
 fn bucket_of(

@@ -1,7 +1,7 @@
 //! Curves as a file writes them.
 
 use curve_library::{PieceText, TailText, UseAs};
-use upp_limits::fraction128::Frac;
+use fraction128::Frac;
 
 /// A curve as a file writes it.
 #[derive(Drop)]

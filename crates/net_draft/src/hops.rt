@@ -20,10 +20,10 @@ use crate::places::{fault_at, nth, under};
 use crate::server_draft::ServerDraft;
 use crate::server_list::ServerList;
 use crate::values::text_in;
+use fraction128::read_digits;
 use net_model::{NetKind, find_colon, is_name};
 use std::alloc::Global;
 use toml::{Table, Value};
-use upp_limits::fraction128::read_digits;
 
 /// A path entry as it is written. A number of a queue above 2^32 - 1 is 2^32 - 1.
 #[derive(Clone, Copy)]

@@ -17,10 +17,10 @@ use crate::places::{fault_at, fault_under};
 use crate::values::{
     list_in, nonnegative_in, number_in, positive_in, table_in, truth_in, whole_in,
 };
+use fraction128::Frac;
 use net_model::NetKind;
 use std::alloc::Global;
 use toml::{Table, Value};
-use upp_limits::fraction128::Frac;
 
 /// The value at a key.
 pub(crate) fn field<'a>(table: &'a Table, key: &str) -> Option<&'a Value>

@@ -14,7 +14,7 @@ use crate::places::fault_at;
 use curve_library::{CurveFault, bucket, gate, listed, rate_latency, stair};
 use net_model::{CurveRefusal, NetKind};
 use std::alloc::Global;
-use upp_limits::upp_curve::Curve;
+use upp_curve::Curve;
 
 fn made(alloc: Global, text: &CurveText) -> Result<Curve, CurveFault>
     ensures { CurveAnswers (text_of text.now) result }

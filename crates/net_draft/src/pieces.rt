@@ -10,9 +10,9 @@ use crate::keys::{field, number_or, only, required_list, required_number, table_
 use crate::limits::MOST_PIECES;
 use crate::places::{nth, under};
 use curve_library::{PieceText, TailText};
+use fraction128::Frac;
 use std::alloc::Global;
 use toml::{Table, Value};
-use upp_limits::fraction128::Frac;
 
 #[tactic(auto, unfolding(crate::specs::Tables::piece_at))]
 fn piece_of(alloc: Global, place: &str, value: &Value) -> Result<PieceText, DraftFault>

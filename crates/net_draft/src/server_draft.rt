@@ -1,8 +1,8 @@
 //! Servers of a draft.
 
 use crate::curve_draft::CurveDraft;
+use fraction128::Frac;
 use net_model::Discipline;
-use upp_limits::fraction128::Frac;
 
 /// A server as a file gives it.
 #[derive(Drop)]

@@ -17,9 +17,9 @@ use crate::pieces::{pieces_of, tail_of};
 use crate::places::under;
 use crate::words::{ServiceWord, service_kind};
 use curve_library::UseAs;
+use fraction128::Frac;
 use std::alloc::Global;
 use toml::{Table, Value};
-use upp_limits::fraction128::Frac;
 
 #[tactic(auto, unfolding(crate::specs::Tables::latency_at))]
 fn latency_of(

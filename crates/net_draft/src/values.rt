@@ -7,10 +7,10 @@ ghost use Rattle.net_draft.specs.Faults.{viewed};
 ghost use Rattle.net_draft.specs.Values.{text_in, truth_in, table_in, entries_in, number_in, positive_in};
 ghost use Rattle.net_draft.specs.Values.{nonnegative_in, whole_in, list_in};
 
+use fraction128::Frac;
 use net_model::NetKind;
 use std::cmp::Ordering;
 use toml::{Table, Value};
-use upp_limits::fraction128::Frac;
 
 pub(crate) fn text_in(value: &Value) -> Result<&str, NetKind>
     ensures { viewed (λ s. s.now) result ≡ text_in (view value.now) }

@@ -4,7 +4,7 @@ use Rattle.std.specs.Prelude.{Ok, Err, ℤ, nat_le, nat_lt, ◌&&◌, not}
 use Rattle.std.specs.List.{list_all}
 use Rattle.std.proofs.lemmas.Bool.{and_parts, and_from, not_from_false, leb-true, lt-ltb, le-ltb}
 use Rattle.std.proofs.lemmas.List.Sums.{AllPass-from_list_all}
-use Rattle.upp_limits.specs.rational.specs.Rational.{ℚ}
+use Rattle.rational.specs.Rational.{ℚ}
 use Rattle.net_model.specs.declared.edit.PathEntry.{PathEntry}
 use Rattle.net_model.specs.Networks.{Net}
 use Rattle.net_model.specs.Names.{IsName, is_name_byte}

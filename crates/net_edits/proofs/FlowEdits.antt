@@ -4,11 +4,11 @@ use Rattle.std.specs.Prelude.{Ok, Err, pos, negsuc, ℤ, nat_le, slice_get, slic
 use Rattle.std.proofs.lemmas.Bool.{cases_lt, and_parts, and_from, not_from_false, leb-true}
 use Rattle.std.proofs.lemmas.List.{get_or_past, length-map}
 use Rattle.std.proofs.lemmas.Option.{slice_get-get_or, get_or_from_slice_get, slice_get_within}
-use Rattle.upp_limits.specs.rational.specs.Rational.{ℚ, int, ◌≤ℚ◌, ◌<ℚ◌}
-use Rattle.upp_limits.specs.rational.proofs.Integers.{nat_nonneg}
-use Rattle.upp_limits.specs.min_plus.specs.Functions.{zero_q}
-use Rattle.upp_limits.specs.upp_curve.specs.Curve.{SpecCurve}
-use Rattle.upp_limits.specs.upp_curve.specs.Kinds.{bucket, stair}
+use Rattle.rational.specs.Rational.{ℚ, int, ◌≤ℚ◌, ◌<ℚ◌}
+use Rattle.rational.proofs.Integers.{nat_nonneg}
+use Rattle.min_plus.specs.Functions.{zero_q}
+use Rattle.upp_curve.specs.Curve.{SpecCurve}
+use Rattle.upp_curve.specs.Kinds.{bucket, stair}
 use Rattle.net_model.specs.declared.edit.PathEntry.{PathEntry}
 use Rattle.net_model.specs.Networks.{Net, NetServer, NetFlow}
 use Rattle.net_model.specs.Accepted.{IsLength, IsArrivalCurve, IsFlow, IsAccepted}

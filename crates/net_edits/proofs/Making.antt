@@ -1,11 +1,11 @@
 -- Curves that an edit of a server makes, and servers that have them.
 use Rattle.std.proofs.Common.{◌≡◌, ℕ, refl, sym, subst, inl, inr}
 use Rattle.std.specs.Prelude.{Option, Result}
-use Rattle.upp_limits.specs.rational.specs.Rational.{ℚ, ◌≤ℚ◌, ◌<ℚ◌}
-use Rattle.upp_limits.specs.rational.proofs.Laws.{le_trans, le_of_lt, lt_irrefl, lt_le_trans, not_le_of_lt}
-use Rattle.upp_limits.specs.min_plus.specs.Functions.{zero_q}
-use Rattle.upp_limits.specs.upp_curve.specs.Curve.{SpecCurve}
-use Rattle.upp_limits.specs.upp_curve.specs.Kinds.{rate_latency, gate}
+use Rattle.rational.specs.Rational.{ℚ, ◌≤ℚ◌, ◌<ℚ◌}
+use Rattle.rational.proofs.Laws.{le_trans, le_of_lt, lt_irrefl, lt_le_trans, not_le_of_lt}
+use Rattle.min_plus.specs.Functions.{zero_q}
+use Rattle.upp_curve.specs.Curve.{SpecCurve}
+use Rattle.upp_curve.specs.Kinds.{rate_latency, gate}
 use Rattle.curve_library.specs.Causes.{OneNegative, NoSlot}
 use Rattle.curve_library.proofs.SignTests.{none_negative}
 use Rattle.net_model.specs.declared.server.ServiceKind.{ServiceKind}

@@ -1,9 +1,9 @@
 -- Edits that no limit refuses: those that make no curve, and those whose curve is over none.
 use Rattle.std.proofs.Common.{◌≡◌, ℕ, List, Option, None, Bool, true, false, sym, subst}
 use Rattle.std.specs.Prelude.{Ok, Err, ℤ, length, nat_lt, not, ◌&&◌}
-use Rattle.upp_limits.specs.rational.specs.Rational.{ℚ}
+use Rattle.rational.specs.Rational.{ℚ}
 use Rattle.net_model.specs.declared.edit.PathEntry.{PathEntry}
-use Rattle.upp_limits.specs.upp_curve.specs.Kinds.{bucket}
+use Rattle.upp_curve.specs.Kinds.{bucket}
 use Rattle.net_model.specs.Networks.{Net}
 use Rattle.net_model.specs.Quanta.{is_quantum_of}
 use Rattle.net_cells.specs.Numbered.{discipline}

@@ -4,16 +4,16 @@ use Rattle.std.specs.Prelude.{Result, Ok, Err}
 use Rattle.std.specs.Ordering.{MatchOrdering}
 use Rattle.std.specs.declared.cmp.Ordering.{Ordering}
 use Rattle.std.specs.declared.cmp.Ordering.TheVariants.{Less}
-use Rattle.upp_limits.specs.rational.specs.Rational.{ℚ, ◌≤ℚ◌, ◌<ℚ◌, lt_q}
-use Rattle.upp_limits.specs.rational.proofs.Over.{lt_q_out, lt_q_in}
-use Rattle.upp_limits.specs.rational.proofs.MinMax.{lt_q_not}
-use Rattle.upp_limits.specs.rational.proofs.Laws.{le_of_not_lt}
-use Rattle.upp_limits.specs.upp_curve.specs.Curve.{SpecCurve}
-use Rattle.upp_limits.specs.min_plus.specs.Functions.{zero_q}
+use Rattle.rational.specs.Rational.{ℚ, ◌≤ℚ◌, ◌<ℚ◌, lt_q}
+use Rattle.rational.proofs.Over.{lt_q_out, lt_q_in}
+use Rattle.rational.proofs.MinMax.{lt_q_not}
+use Rattle.rational.proofs.Laws.{le_of_not_lt}
+use Rattle.upp_curve.specs.Curve.{SpecCurve}
+use Rattle.min_plus.specs.Functions.{zero_q}
 use Rattle.curve_library.specs.declared.fault.CurveFault.{CurveFault}
 use Rattle.curve_library.specs.declared.fault.CurveFault.TheVariants.{Negative, ZeroPeriod, NotRising, NotContinuous, NotZeroAtStart, Op, NoMemory}
 use Rattle.curve_library.specs.Causes.{KeepsOwnLimits, KeepsCauses}
-use Rattle.upp_limits.specs.rational.proofs.Compared.{not_less}
+use Rattle.rational.proofs.Compared.{not_less}
 
 pub below_not : (r : Ordering) (x z : ℚ) → MatchOrdering r (x <ℚ z) (x ≡ z) (z <ℚ x) → (r ≡ Less → ⊥) → z ≡ zero_q
     → false ≡ lt_q x zero_q

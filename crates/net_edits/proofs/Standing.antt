@@ -5,7 +5,7 @@ use Rattle.std.proofs.lemmas.List.{length-set}
 use Rattle.std.proofs.lemmas.List.Elements.{All-set, All-contains}
 use Rattle.std.proofs.lemmas.Bool.Decides.{eqb_tells}
 use Rattle.std.proofs.lemmas.Option.{same_Some}
-use Rattle.net_model.specs.run_laws.specs.Servers.{Discipline, queue_count}
+use Rattle.run_laws.specs.Servers.{Discipline, queue_count}
 use Rattle.net_model.specs.Networks.{Net, NetServer, NetFlow}
 use Rattle.net_model.specs.Accepted.{IsServer, IsInQuantum, IsHop, IsFlow, IsAccepted}
 use Rattle.net_model.proofs.Short.{all_of}

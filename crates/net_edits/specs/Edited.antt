@@ -1,10 +1,10 @@
 -- What an edit makes of a network, or the first reason why it makes none: names first, in the order of the row; then a
 -- name that is taken; then values; then numbers. Own choice.
 use Rattle.std.specs.Prelude.{ℕ, ℤ, pos, List, length, Option, Some, None, Ok, Err, Bool, true, false, not, ◌&&◌, nat_lt, string_bytes, slice_get}
-use Rattle.upp_limits.specs.rational.specs.Rational.{ℚ, lt_q, int}
-use Rattle.upp_limits.specs.min_plus.specs.Functions.{zero_q}
-use Rattle.upp_limits.specs.upp_curve.specs.Curve.{SpecCurve}
-use Rattle.upp_limits.specs.upp_curve.specs.Kinds.{bucket, stair, rate_latency}
+use Rattle.rational.specs.Rational.{ℚ, lt_q, int}
+use Rattle.min_plus.specs.Functions.{zero_q}
+use Rattle.upp_curve.specs.Curve.{SpecCurve}
+use Rattle.upp_curve.specs.Kinds.{bucket, stair, rate_latency}
 use Rattle.net_model.specs.declared.server.ServiceKind.{ServiceKind}
 use Rattle.net_model.specs.declared.server.ServiceKind.TheVariants.{Latency, Gate, Listed}
 use Rattle.net_model.specs.declared.edit.Edit.{Edit}

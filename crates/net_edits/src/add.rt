@@ -1,8 +1,8 @@
 //! One flow more.
 
 ghost use Rattle.std.specs.Prelude.{◌≡◌, IfOk};
-ghost use Rattle.upp_limits.specs.rational.specs.Rational.{◌≤ℚ◌};
-ghost use Rattle.upp_limits.specs.min_plus.specs.Functions.{zero_q};
+ghost use Rattle.rational.specs.Rational.{◌≤ℚ◌};
+ghost use Rattle.min_plus.specs.Functions.{zero_q};
 ghost use Rattle.net_model.specs.Views.{flow_of};
 ghost use Rattle.net_edits.specs.Edited as spec;
 ghost use Rattle.net_edits.specs.Replies.{IsReply};
@@ -14,9 +14,9 @@ use crate::numbers::{is_negative, length_of};
 use crate::quanta::fits_along;
 use crate::replacing::with_more;
 use crate::ways::{entry_queues, may_be_path};
+use fraction128::Frac;
 use net_model::{Flow, Network, PathEntry, is_name};
 use std::alloc::{AllocError, Global};
-use upp_limits::fraction128::Frac;
 
 const MOST_FLOWS: usize = 256;
 

@@ -1,9 +1,9 @@
 //! Edits of one flow.
 
 ghost use Rattle.std.specs.Prelude.{◌≡◌, pos, Some, IfOk};
-ghost use Rattle.upp_limits.specs.rational.specs.Rational.{int, ◌≤ℚ◌, ◌<ℚ◌};
-ghost use Rattle.upp_limits.specs.min_plus.specs.Functions.{zero_q};
-ghost use Rattle.upp_limits.specs.upp_curve.specs.Kinds as kinds;
+ghost use Rattle.rational.specs.Rational.{int, ◌≤ℚ◌, ◌<ℚ◌};
+ghost use Rattle.min_plus.specs.Functions.{zero_q};
+ghost use Rattle.upp_curve.specs.Kinds as kinds;
 ghost use Rattle.net_model.specs.Views.{flow_of};
 ghost use Rattle.net_edits.specs.Changed as changed;
 ghost use Rattle.net_edits.specs.Edited as spec;
@@ -16,11 +16,11 @@ use crate::replacing::{with_fitting_flow, with_flow};
 use crate::service::within_limits;
 use crate::ways::{entry_queues, may_be_path};
 use curve_library::{CurveFault, bucket, stair};
+use fraction128::Frac;
 use net_cells::{Cell, Kind};
 use net_model::{Flow, Network, PathEntry};
 use std::alloc::{AllocError, Global};
-use upp_limits::fraction128::Frac;
-use upp_limits::upp_curve::Curve;
+use upp_curve::Curve;
 
 /// A bucket of numbers that are not below 0.
 pub(crate) fn bucket_of(alloc: Global, burst: Frac, rate: Frac) -> Result<Curve, AllocError>

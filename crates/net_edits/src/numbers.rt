@@ -9,9 +9,9 @@ ghost use Rattle.net_edits.specs.Replies.{Tells};
 ghost use Rattle.net_edits.specs.Values as values;
 
 use crate::fault::EditFault;
+use fraction128::Frac;
 use net_model::Discipline;
 use std::cmp::Ordering;
-use upp_limits::fraction128::Frac;
 
 const MOST_BITS: i64 = 16_777_216;
 

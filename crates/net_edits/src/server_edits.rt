@@ -11,9 +11,9 @@ use crate::names::{server_at, server_number};
 use crate::numbers::{is_negative, is_positive, length_of, quantum_of};
 use crate::replacing::{with_fitting_server, with_server};
 use crate::service::{with_latency, with_rate};
+use fraction128::Frac;
 use net_model::{Network, Server, ServiceKind};
 use std::alloc::{AllocError, Global};
-use upp_limits::fraction128::Frac;
 
 /// Another rate.
 pub(crate) fn rate_edited(

@@ -1,10 +1,10 @@
 //! Curves that an edit makes, and the servers that have them.
 
 ghost use Rattle.std.specs.Prelude.{◌≡◌, Some};
-ghost use Rattle.upp_limits.specs.rational.specs.Rational.{◌≤ℚ◌, ◌<ℚ◌};
-ghost use Rattle.upp_limits.specs.min_plus.specs.Functions.{zero_q};
-ghost use Rattle.upp_limits.specs.upp_curve.specs.Curve.{SpecCurve};
-ghost use Rattle.upp_limits.specs.upp_curve.specs.Kinds as kinds;
+ghost use Rattle.rational.specs.Rational.{◌≤ℚ◌, ◌<ℚ◌};
+ghost use Rattle.min_plus.specs.Functions.{zero_q};
+ghost use Rattle.upp_curve.specs.Curve.{SpecCurve};
+ghost use Rattle.upp_curve.specs.Kinds as kinds;
 ghost use Rattle.curve_library.specs.Causes.{KeepsOwnLimits};
 ghost use Rattle.net_model.specs.Accepted.{IsServer};
 ghost use Rattle.net_model.specs.Views.{server_of};
@@ -14,12 +14,12 @@ ghost use Rattle.net_edits.specs.Replies.{Makes, MakesNone, IsMadeOver};
 
 use crate::fault::EditFault;
 use curve_library::{CurveFault, gate, rate_latency};
+use fraction128::Frac;
 use net_cells::{Cell, Kind};
 use net_model::{Server, ServiceKind};
 use std::alloc::Global;
+use upp_curve::Curve;
 use upp_limits::OverLimit;
-use upp_limits::fraction128::Frac;
-use upp_limits::upp_curve::Curve;
 
 /// The curve that was made, or the limit that it is over, at the cell that it counts as.
 pub(crate) fn within_limits(made: Result<Curve, CurveFault>, cell: Cell) -> Result<Curve, EditFault>

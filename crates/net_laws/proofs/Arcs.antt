@@ -1,7 +1,7 @@
 -- How a flow's servers hang together by the lists of next servers: arcs, roots, walks, and flows that come to each of their
 -- servers over arcs from the first.
 use Rattle.std.specs.Prelude.{◌≡◌, ◌≢◌, ◌<◌, ◌≤◌, ℕ, zero, suc, pos, true, List, [], ◌∷◌, length}
-use Rattle.min_plus.specs.rational.specs.Rational.{int, ◌≤ℚ◌}
+use Rattle.rational.specs.Rational.{int, ◌≤ℚ◌}
 use Rattle.run_laws.specs.Rounds.{count_of}
 use Rattle.run_laws.specs.Routes.{Hop, Routes, link_at, route_of, PassesServer, first_server}
 use Rattle.net_laws.specs.Multicast.{NextServers}

@@ -2,7 +2,7 @@
 use Rattle.std.specs.Prelude.{◌<◌, ◌≤◌, ℕ, List, [], ◌∷◌, ◌++◌, length, ◌≡◌, true}
 use Rattle.std.proofs.Common.{arith, sym, refl, subst, ap, ◌∙◌, inl, inr}
 use Rattle.std.proofs.lemmas.Bool.{eq-eqb, cases_eq}
-use Rattle.min_plus.specs.rational.specs.Rational.{ℚ, ◌+ℚ◌}
+use Rattle.rational.specs.Rational.{ℚ, ◌+ℚ◌}
 use Rattle.run_laws.specs.declared.steps.Step.{Step}
 use Rattle.run_laws.specs.declared.steps.Step.TheVariants.{Enter, Reach, Work, Leave, Visit}
 use Rattle.run_laws.specs.Rounds.{count_of}

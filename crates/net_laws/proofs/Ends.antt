@@ -2,12 +2,12 @@
 use Rattle.std.specs.Prelude.{◌≡◌, ◌<◌, ℕ, pos, ◌==◌, List, [], ◌∷◌, ◌++◌, length, All, ◌≤◌}
 use Rattle.std.proofs.Common.{arith, sym, ap, ◌∙◌, refl, inl, inr, subst}
 use Rattle.std.proofs.lemmas.Bool.{eqb-true, eq-eqb}
-use Rattle.min_plus.specs.rational.specs.Rational.{ℚ, int, ◌+ℚ◌, ◌-ℚ◌, ◌≤ℚ◌, ◌<ℚ◌}
-use Rattle.min_plus.specs.rational.specs.Extended.{Ext, ◌≤ₑ◌, ◌+ₑ◌}
-use Rattle.min_plus.specs.rational.specs.declared.Extended.TheVariants.{Fin, Inf}
-use Rattle.min_plus.specs.rational.proofs.Laws.{le_refl, le_trans, le_or_lt}
-use Rattle.min_plus.specs.rational.proofs.ExtendedOrder.{le_ext_trans}
-use Rattle.min_plus.specs.rational.proofs.Linear.{with2, with3, with4, with6, with7}
+use Rattle.rational.specs.Rational.{ℚ, int, ◌+ℚ◌, ◌-ℚ◌, ◌≤ℚ◌, ◌<ℚ◌}
+use Rattle.rational.specs.Extended.{Ext, ◌≤ₑ◌, ◌+ₑ◌}
+use Rattle.rational.specs.declared.Extended.TheVariants.{Fin, Inf}
+use Rattle.rational.proofs.Laws.{le_refl, le_trans, le_or_lt}
+use Rattle.rational.proofs.ExtendedOrder.{le_ext_trans}
+use Rattle.rational.proofs.Linear.{with2, with3, with4, with6, with7}
 use Rattle.min_plus.specs.Functions.{IsRising}
 use Rattle.min_plus.specs.Deviations.{IsHorizontalDeviation}
 use Rattle.run_laws.specs.declared.steps.Step.{Step}

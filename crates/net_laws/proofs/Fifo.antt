@@ -2,10 +2,10 @@
 use Rattle.std.specs.Prelude.{Option, Some, None, ◌≡◌, ℕ, pos, ◌==◌, Bool, true, false, ◌&&◌, List, [], ◌∷◌, ◌++◌}
 use Rattle.std.proofs.Common.{arith, sym, ap, ◌∙◌, refl, inl, inr, subst, append_assoc}
 use Rattle.std.proofs.lemmas.Bool.{cases_Bool, both_ways, eqb-true, eq-eqb, and_parts, and_from}
-use Rattle.min_plus.specs.rational.specs.Rational.{ℚ, int, ◌+ℚ◌, ◌≤ℚ◌, ◌<ℚ◌}
-use Rattle.min_plus.specs.rational.proofs.Over.{le_q_out, le_q_in, lt_q_in}
-use Rattle.min_plus.specs.rational.proofs.Laws.{le_refl, le_trans}
-use Rattle.min_plus.specs.rational.proofs.Linear.{with1, with2, with3, with5, with7}
+use Rattle.rational.specs.Rational.{ℚ, int, ◌+ℚ◌, ◌≤ℚ◌, ◌<ℚ◌}
+use Rattle.rational.proofs.Over.{le_q_out, le_q_in, lt_q_in}
+use Rattle.rational.proofs.Laws.{le_refl, le_trans}
+use Rattle.rational.proofs.Linear.{with1, with2, with3, with5, with7}
 use Rattle.run_laws.specs.declared.steps.Step.{Step}
 use Rattle.run_laws.specs.declared.steps.Step.TheVariants.{Enter, Reach, Work, Leave, Visit}
 use Rattle.run_laws.specs.Runs.{SpecRun}

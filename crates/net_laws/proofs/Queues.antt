@@ -1,10 +1,10 @@
 -- A flow in a queue of a server: how long it stays, and with what curve it leaves.
 use Rattle.std.specs.Prelude.{◌≡◌, ℕ, true, List, [], ◌∷◌}
 use Rattle.std.proofs.Common.{sym, inl, inr, subst}
-use Rattle.min_plus.specs.rational.specs.Rational.{ℚ, ◌-ℚ◌, ◌≤ℚ◌}
-use Rattle.min_plus.specs.rational.specs.Extended.{Ext, ◌≤ₑ◌, min_ext}
-use Rattle.min_plus.specs.rational.specs.declared.Extended.TheVariants.{Fin}
-use Rattle.min_plus.specs.rational.proofs.ExtendedOrder.{min_one, min_greatest}
+use Rattle.rational.specs.Rational.{ℚ, ◌-ℚ◌, ◌≤ℚ◌}
+use Rattle.rational.specs.Extended.{Ext, ◌≤ₑ◌, min_ext}
+use Rattle.rational.specs.declared.Extended.TheVariants.{Fin}
+use Rattle.rational.proofs.ExtendedOrder.{min_one, min_greatest}
 use Rattle.min_plus.specs.Pointwise.{packetised, shifted}
 use Rattle.min_plus.specs.Convolution.{IsDeconvolution}
 use Rattle.run_laws.specs.Cards.{Class, whole, ServerStep, Arrives, Works, Leaves, Visits}

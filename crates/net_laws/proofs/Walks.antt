@@ -1,12 +1,12 @@
 -- A walk serves its flow by what each hop serves it.
 use Rattle.std.specs.Prelude.{◌≡◌, ℕ, suc, pos, List, [], ◌∷◌, length}
 use Rattle.std.proofs.Common.{arith, ap, refl, subst}
-use Rattle.min_plus.specs.rational.specs.Rational.{ℚ, int, ◌+ℚ◌, ◌-ℚ◌, ◌≤ℚ◌}
-use Rattle.min_plus.specs.rational.specs.Extended.{Ext, ◌≤ₑ◌, ◌+ₑ◌}
-use Rattle.min_plus.specs.rational.specs.declared.Extended.TheVariants.{Fin, Inf}
-use Rattle.min_plus.specs.rational.proofs.Laws.{le_refl, le_trans}
-use Rattle.min_plus.specs.rational.proofs.ExtendedOrder.{le_ext_trans, add_le_ext, le_ext_refl}
-use Rattle.min_plus.specs.rational.proofs.Linear.{with2, with3, with4, with5, with6}
+use Rattle.rational.specs.Rational.{ℚ, int, ◌+ℚ◌, ◌-ℚ◌, ◌≤ℚ◌}
+use Rattle.rational.specs.Extended.{Ext, ◌≤ₑ◌, ◌+ₑ◌}
+use Rattle.rational.specs.declared.Extended.TheVariants.{Fin, Inf}
+use Rattle.rational.proofs.Laws.{le_refl, le_trans}
+use Rattle.rational.proofs.ExtendedOrder.{le_ext_trans, add_le_ext, le_ext_refl}
+use Rattle.rational.proofs.Linear.{with2, with3, with4, with5, with6}
 use Rattle.min_plus.specs.Functions.{IsNonnegative}
 use Rattle.min_plus.specs.Convolution.{AllNonneg, sum_of}
 use Rattle.run_laws.specs.Runs.{SpecRun}

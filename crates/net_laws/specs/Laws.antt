@@ -1,8 +1,8 @@
 -- What a flow keeps from one server of its path to the next.
 use Rattle.std.specs.Prelude.{Some, ◌≡◌, ◌≢◌, ℕ}
-use Rattle.min_plus.specs.rational.specs.Rational.{ℚ, ◌-ℚ◌, ◌≤ℚ◌}
-use Rattle.min_plus.specs.rational.specs.Extended.{Ext, ◌≤ₑ◌}
-use Rattle.min_plus.specs.rational.specs.declared.Extended.TheVariants.{Fin}
+use Rattle.rational.specs.Rational.{ℚ, ◌-ℚ◌, ◌≤ℚ◌}
+use Rattle.rational.specs.Extended.{Ext, ◌≤ₑ◌}
+use Rattle.rational.specs.declared.Extended.TheVariants.{Fin}
 use Rattle.run_laws.specs.Runs.{SpecRun}
 use Rattle.run_laws.specs.Cards.{of_flow}
 use Rattle.run_laws.specs.Counts.{arrived, departed, departed_in}

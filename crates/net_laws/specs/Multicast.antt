@@ -2,7 +2,7 @@
 -- is as in a lawful run over paths: what is recorded, what a server sees, when it allows a step, and what each step
 -- makes of it. (As the virtual links of ARINC 664, part 7, which go to several destinations; own choice.)
 use Rattle.std.specs.Prelude.{Option, Some, None, ℕ, ◌==◌, List, [], ◌∷◌, ◌++◌, set, All}
-use Rattle.min_plus.specs.rational.specs.Rational.{ℚ, ◌+ℚ◌, ◌-ℚ◌, ◌<ℚ◌}
+use Rattle.rational.specs.Rational.{ℚ, ◌+ℚ◌, ◌-ℚ◌, ◌<ℚ◌}
 use Rattle.run_laws.specs.Delays.{kept}
 use Rattle.run_laws.specs.FlowDelays.{delivered_at}
 use Rattle.run_laws.specs.declared.steps.Step.{Step}

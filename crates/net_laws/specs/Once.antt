@@ -1,9 +1,9 @@
 -- No packet arrives twice at a server of a lawful run over paths that pass no server twice; so a class of one queue, as
 -- a flow, leaves a server by the delays of its packets there. (Own choice.)
 use Rattle.std.specs.Prelude.{◌≡◌, ◌<◌, ℕ, pos, true, length}
-use Rattle.min_plus.specs.rational.specs.Rational.{ℚ, int, ◌-ℚ◌, ◌≤ℚ◌}
-use Rattle.min_plus.specs.rational.specs.Extended.{Ext, ◌≤ₑ◌}
-use Rattle.min_plus.specs.rational.specs.declared.Extended.TheVariants.{Fin}
+use Rattle.rational.specs.Rational.{ℚ, int, ◌-ℚ◌, ◌≤ℚ◌}
+use Rattle.rational.specs.Extended.{Ext, ◌≤ₑ◌}
+use Rattle.rational.specs.declared.Extended.TheVariants.{Fin}
 use Rattle.min_plus.specs.Pointwise.{shifted}
 use Rattle.run_laws.specs.Runs.{SpecRun}
 use Rattle.run_laws.specs.Cards.{Class}

@@ -1,9 +1,9 @@
 -- Networks without a cycle: what each server passes on is kept along every path. (Le Boudec and Thiran, feed-forward
 -- networks.)
 use Rattle.std.specs.Prelude.{Some, ◌≡◌, ◌<◌, ℕ, true}
-use Rattle.min_plus.specs.rational.specs.Rational.{ℚ, ◌-ℚ◌, ◌≤ℚ◌}
-use Rattle.min_plus.specs.rational.specs.Extended.{Ext, ◌≤ₑ◌}
-use Rattle.min_plus.specs.rational.specs.declared.Extended.TheVariants.{Fin}
+use Rattle.rational.specs.Rational.{ℚ, ◌-ℚ◌, ◌≤ℚ◌}
+use Rattle.rational.specs.Extended.{Ext, ◌≤ₑ◌}
+use Rattle.rational.specs.declared.Extended.TheVariants.{Fin}
 use Rattle.run_laws.specs.Runs.{SpecRun}
 use Rattle.run_laws.specs.Cards.{of_flow}
 use Rattle.run_laws.specs.Counts.{departed_in}

@@ -1,9 +1,9 @@
 -- A flow in a queue of a server: how long it stays, and with what curve it leaves. (Le Boudec and Thiran; that the
 -- lesser of two delays and of two curves is taken is our own choice.)
 use Rattle.std.specs.Prelude.{ℕ, List}
-use Rattle.min_plus.specs.rational.specs.Rational.{ℚ, ◌-ℚ◌, ◌≤ℚ◌}
-use Rattle.min_plus.specs.rational.specs.Extended.{Ext, ◌≤ₑ◌, min_ext}
-use Rattle.min_plus.specs.rational.specs.declared.Extended.TheVariants.{Fin}
+use Rattle.rational.specs.Rational.{ℚ, ◌-ℚ◌, ◌≤ℚ◌}
+use Rattle.rational.specs.Extended.{Ext, ◌≤ₑ◌, min_ext}
+use Rattle.rational.specs.declared.Extended.TheVariants.{Fin}
 use Rattle.min_plus.specs.Functions.{IsRising}
 use Rattle.min_plus.specs.Pointwise.{packetised, shifted}
 use Rattle.min_plus.specs.Convolution.{IsDeconvolution}

@@ -1,9 +1,9 @@
 -- Sums of arrival curves: those of some of the flows of a queue, or of the queues before one. (Le Boudec and Thiran,
 -- aggregate of flows.)
 use Rattle.std.specs.Prelude.{◌≡◌, ◌<◌, ℕ, zero, suc, pos, Bool, true, ◌==◌, List, if◌then◌else◌}
-use Rattle.min_plus.specs.rational.specs.Rational.{ℚ, int}
-use Rattle.min_plus.specs.rational.specs.Extended.{Ext, ◌+ₑ◌}
-use Rattle.min_plus.specs.rational.specs.declared.Extended.TheVariants.{Fin}
+use Rattle.rational.specs.Rational.{ℚ, int}
+use Rattle.rational.specs.Extended.{Ext, ◌+ₑ◌}
+use Rattle.rational.specs.declared.Extended.TheVariants.{Fin}
 use Rattle.run_laws.specs.Cards.{Card, Class, ServerStep}
 use Rattle.run_laws.specs.Premises.{EachArrival, KeepsArrivals}
 

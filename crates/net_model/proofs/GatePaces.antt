@@ -1,23 +1,23 @@
 -- The curve of a gate never falls and rises no faster than its rate.
 use Rattle.std.proofs.Common.{◌≡◌, ℕ, suc, pos, ◌≤◌, subst, ◌∙◌, arith, inl, inr, ap}
 use Rattle.std.proofs.lemmas.Bool.{cases_lt}
-use Rattle.upp_limits.specs.rational.specs.Rational.{ℚ, int, ◌+ℚ◌, ◌-ℚ◌, ◌*ℚ◌, ◌/ℚ◌, ◌≤ℚ◌, ◌<ℚ◌}
-use Rattle.upp_limits.specs.rational.specs.MinMax.{max_q}
-use Rattle.upp_limits.specs.rational.specs.Whole.{whole_part}
-use Rattle.upp_limits.specs.rational.specs.declared.Extended.TheVariants.{Fin}
-use Rattle.upp_limits.specs.rational.proofs.Laws.{le_refl, le_trans, le_of_lt, le_lt_trans, mul_le_mul, mul_le_mul_right, mul_sub, mul_add, mul_zero, zero_mul, not_zero}
-use Rattle.upp_limits.specs.rational.proofs.Integers.{nat_le, nat_lt_out}
-use Rattle.upp_limits.specs.rational.proofs.MinMax.{max_q_ge_left, max_q_ge_right, max_q_le, max_q_is_left}
-use Rattle.upp_limits.specs.rational.proofs.Quotients.{div_mono, div_le, div_nonneg, zero_div}
-use Rattle.upp_limits.specs.rational.proofs.Whole.{whole_le, whole_gt, whole_small}
-use Rattle.upp_limits.specs.rational.proofs.Linear.{with2, with3, with5, with6, with8}
-use Rattle.upp_limits.specs.min_plus.specs.Functions.{zero_q}
-use Rattle.upp_limits.specs.upp_curve.specs.Curve.{value_at}
-use Rattle.upp_limits.specs.upp_curve.specs.Kinds.{gate}
-use Rattle.upp_limits.specs.min_plus.specs.WholeUp.{whole_up}
+use Rattle.rational.specs.Rational.{ℚ, int, ◌+ℚ◌, ◌-ℚ◌, ◌*ℚ◌, ◌/ℚ◌, ◌≤ℚ◌, ◌<ℚ◌}
+use Rattle.rational.specs.MinMax.{max_q}
+use Rattle.rational.specs.Whole.{whole_part}
+use Rattle.rational.specs.declared.Extended.TheVariants.{Fin}
+use Rattle.rational.proofs.Laws.{le_refl, le_trans, le_of_lt, le_lt_trans, mul_le_mul, mul_le_mul_right, mul_sub, mul_add, mul_zero, zero_mul, not_zero}
+use Rattle.rational.proofs.Integers.{nat_le, nat_lt_out}
+use Rattle.rational.proofs.MinMax.{max_q_ge_left, max_q_ge_right, max_q_le, max_q_is_left}
+use Rattle.rational.proofs.Quotients.{div_mono, div_le, div_nonneg, zero_div}
+use Rattle.rational.proofs.Whole.{whole_le, whole_gt, whole_small}
+use Rattle.rational.proofs.Linear.{with2, with3, with5, with6, with8}
+use Rattle.min_plus.specs.Functions.{zero_q}
+use Rattle.upp_curve.specs.Curve.{value_at}
+use Rattle.upp_curve.specs.Kinds.{gate}
+use Rattle.min_plus.specs.WholeUp.{whole_up}
 use Rattle.upp_limits.proofs.Rounding.{whole_up_least, whole_up_most}
-use Rattle.upp_limits.specs.upp_curve.proofs.StairValues.{ratio_low}
-use Rattle.upp_limits.specs.upp_curve.proofs.GateValues.{gate_is}
+use Rattle.upp_curve.proofs.StairValues.{ratio_low}
+use Rattle.upp_curve.proofs.GateValues.{gate_is}
 use Rattle.net_model.proofs.Paces.{HasPace}
 
 -- the cycles that are over at t, and those that have begun before it

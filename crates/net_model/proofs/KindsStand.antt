@@ -1,18 +1,18 @@
 -- Which curves of a formula a network may have.
 use Rattle.std.proofs.Common.{◌≡◌, suc, pos, subst, sym, ◌∙◌, arith, ap}
-use Rattle.upp_limits.specs.rational.specs.Rational.{ℚ, int, ◌+ℚ◌, ◌-ℚ◌, ◌*ℚ◌, ◌/ℚ◌, ◌≤ℚ◌, ◌<ℚ◌}
-use Rattle.upp_limits.specs.rational.specs.Whole.{whole_part}
-use Rattle.upp_limits.specs.rational.specs.Extended.{Ext, ◌≤ₑ◌}
-use Rattle.upp_limits.specs.rational.specs.declared.Extended.TheVariants.{Fin}
-use Rattle.upp_limits.specs.rational.proofs.Laws.{le_refl, mul_le_mul, mul_nonneg, mul_zero}
-use Rattle.upp_limits.specs.rational.proofs.Integers.{nat_le, nat_nonneg}
-use Rattle.upp_limits.specs.rational.proofs.MinMax.{max_q_is_left}
-use Rattle.upp_limits.specs.rational.proofs.Linear.{with3, with4}
-use Rattle.upp_limits.specs.min_plus.specs.Functions.{zero_q}
-use Rattle.upp_limits.specs.upp_curve.specs.Curve.{SpecCurve, value_at}
-use Rattle.upp_limits.specs.upp_curve.specs.Kinds.{rate_latency, bucket, gate, stair}
-use Rattle.upp_limits.specs.upp_curve.proofs.KindValues.{service_is, bucket_is}
-use Rattle.upp_limits.specs.upp_curve.proofs.StairValues.{stair_is}
+use Rattle.rational.specs.Rational.{ℚ, int, ◌+ℚ◌, ◌-ℚ◌, ◌*ℚ◌, ◌/ℚ◌, ◌≤ℚ◌, ◌<ℚ◌}
+use Rattle.rational.specs.Whole.{whole_part}
+use Rattle.rational.specs.Extended.{Ext, ◌≤ₑ◌}
+use Rattle.rational.specs.declared.Extended.TheVariants.{Fin}
+use Rattle.rational.proofs.Laws.{le_refl, mul_le_mul, mul_nonneg, mul_zero}
+use Rattle.rational.proofs.Integers.{nat_le, nat_nonneg}
+use Rattle.rational.proofs.MinMax.{max_q_is_left}
+use Rattle.rational.proofs.Linear.{with3, with4}
+use Rattle.min_plus.specs.Functions.{zero_q}
+use Rattle.upp_curve.specs.Curve.{SpecCurve, value_at}
+use Rattle.upp_curve.specs.Kinds.{rate_latency, bucket, gate, stair}
+use Rattle.upp_curve.proofs.KindValues.{service_is, bucket_is}
+use Rattle.upp_curve.proofs.StairValues.{stair_is}
 use Rattle.net_model.specs.Accepted.{IsServiceCurve, IsArrivalCurve}
 use Rattle.net_model.specs.CurveKinds.{KindsMayStand}
 use Rattle.net_model.proofs.Paces.{HasPace, pace_finite, pace_rising, pace_continuous, service_pace, bucket_pace}

@@ -1,18 +1,18 @@
 -- A function that never falls and rises no faster than some rate has no jump.
 use Rattle.std.proofs.Common.{◌≡◌, pos, subst, sym, arith, inl, inr}
-use Rattle.upp_limits.specs.rational.specs.Rational.{ℚ, int, ◌+ℚ◌, ◌-ℚ◌, ◌*ℚ◌, ◌/ℚ◌, ◌≤ℚ◌, ◌<ℚ◌}
-use Rattle.upp_limits.specs.rational.specs.MinMax.{max_q}
-use Rattle.upp_limits.specs.rational.specs.Extended.{Ext, ◌≤ₑ◌}
-use Rattle.upp_limits.specs.rational.specs.declared.Extended.TheVariants.{Fin}
-use Rattle.upp_limits.specs.rational.proofs.Laws.{le_or_lt, le_of_lt, le_refl, mul_le_mul, mul_comm, div_mul, not_zero, mul_sub, mul_add, add_mul, one_mul}
-use Rattle.upp_limits.specs.rational.proofs.MinMax.{max_q_mono, max_q_ge_left, max_q_ge_right, max_q_le}
-use Rattle.upp_limits.specs.rational.proofs.Quotients.{div_pos}
-use Rattle.upp_limits.specs.rational.proofs.Linear.{with3, with4, with5, with6}
-use Rattle.upp_limits.specs.min_plus.specs.Functions.{zero_q, IsFinite, IsRising}
-use Rattle.upp_limits.specs.upp_curve.specs.Curve.{value_at}
-use Rattle.upp_limits.specs.upp_curve.specs.Kinds.{rate_latency, bucket}
-use Rattle.upp_limits.specs.upp_curve.proofs.KindValues.{service_is, bucket_is}
-use Rattle.upp_limits.specs.min_plus.specs.Continuity.{AreNear, IsContinuous}
+use Rattle.rational.specs.Rational.{ℚ, int, ◌+ℚ◌, ◌-ℚ◌, ◌*ℚ◌, ◌/ℚ◌, ◌≤ℚ◌, ◌<ℚ◌}
+use Rattle.rational.specs.MinMax.{max_q}
+use Rattle.rational.specs.Extended.{Ext, ◌≤ₑ◌}
+use Rattle.rational.specs.declared.Extended.TheVariants.{Fin}
+use Rattle.rational.proofs.Laws.{le_or_lt, le_of_lt, le_refl, mul_le_mul, mul_comm, div_mul, not_zero, mul_sub, mul_add, add_mul, one_mul}
+use Rattle.rational.proofs.MinMax.{max_q_mono, max_q_ge_left, max_q_ge_right, max_q_le}
+use Rattle.rational.proofs.Quotients.{div_pos}
+use Rattle.rational.proofs.Linear.{with3, with4, with5, with6}
+use Rattle.min_plus.specs.Functions.{zero_q, IsFinite, IsRising}
+use Rattle.upp_curve.specs.Curve.{value_at}
+use Rattle.upp_curve.specs.Kinds.{rate_latency, bucket}
+use Rattle.upp_curve.proofs.KindValues.{service_is, bucket_is}
+use Rattle.min_plus.specs.Continuity.{AreNear, IsContinuous}
 
 -- f is v, which rises by at most `rate` in a unit of time
 pub record HasPace (f : ℚ → Ext) (rate : ℚ) : Type 0 where

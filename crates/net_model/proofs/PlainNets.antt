@@ -11,14 +11,14 @@ use Rattle.net_model.specs.Views.{flow_of, flows_of}
 use Rattle.std.proofs.lemmas.List.{map-append, map_more, length-map, length-take-le, length-append, length-replicate, get_or-replicate, get_or_append_left, get_or_at}
 use Rattle.std.proofs.lemmas.List.Folds.{list_any_at, list_all_at}
 use Rattle.std.proofs.lemmas.Option.{slice_get-get_or}
-use Rattle.upp_limits.specs.rational.specs.Rational.{int, frac, den, ◌<ℚ◌}
-use Rattle.upp_limits.specs.rational.specs.Ratio.{IsSmall}
-use Rattle.upp_limits.specs.rational.specs.Gcd.{gcd, gcd_steps}
-use Rattle.upp_limits.specs.rational.proofs.Linear.{with2}
+use Rattle.rational.specs.Rational.{int, frac, den, ◌<ℚ◌}
+use Rattle.rational.specs.Ratio.{IsSmall}
+use Rattle.rational.specs.Gcd.{gcd, gcd_steps}
+use Rattle.rational.proofs.Linear.{with2}
 use Rattle.std.proofs.Common.{eq-eqb}
 use Rattle.std.proofs.lemmas.Bool.{not-true}
-use Rattle.upp_limits.specs.rational.proofs.Laws.{le_refl, le_of_lt}
-use Rattle.upp_limits.specs.min_plus.specs.Functions.{zero_q}
+use Rattle.rational.proofs.Laws.{le_refl, le_of_lt}
+use Rattle.min_plus.specs.Functions.{zero_q}
 use Rattle.net_model.specs.Networks.{NetServer, NetFlow}
 use Rattle.net_model.specs.Names.{IsName, is_name_byte, DifferInName}
 use Rattle.net_model.specs.Accepted.{IsServer, IsFlow, IsHop, IsAccepted}

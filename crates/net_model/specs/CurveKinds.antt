@@ -1,8 +1,8 @@
 -- Which curves of a formula a network may have: a rate after a latency and a gate at a server, a token bucket and a
 -- stair at a flow. (Le Boudec and Thiran.)
-use Rattle.upp_limits.specs.rational.specs.Rational.{ℚ, ◌≤ℚ◌, ◌<ℚ◌}
-use Rattle.upp_limits.specs.min_plus.specs.Functions.{zero_q}
-use Rattle.upp_limits.specs.upp_curve.specs.Kinds.{rate_latency, gate, bucket, stair}
+use Rattle.rational.specs.Rational.{ℚ, ◌≤ℚ◌, ◌<ℚ◌}
+use Rattle.min_plus.specs.Functions.{zero_q}
+use Rattle.upp_curve.specs.Kinds.{rate_latency, gate, bucket, stair}
 use Rattle.net_model.specs.Accepted.{IsServiceCurve, IsArrivalCurve}
 
 pub record KindsMayStand : Type 0 where

@@ -11,4 +11,3 @@ pub mod Traces
 pub mod NetRoutes
 pub mod net_graph
 pub mod stated_runs
-pub use Rattle.run_laws as run_laws

@@ -1,7 +1,7 @@
 -- What the laws of runs need to know of a network. (Le Boudec and Thiran; that work may be at any pace in version 1, and at
 -- most at the server's rate in version 2, is our own choice.)
 use Rattle.std.specs.Prelude.{ℕ, List, [], ◌∷◌, map, Option, Some, None, true, false, ◌==◌, if◌then◌else◌}
-use Rattle.upp_limits.specs.rational.specs.Rational.{ℚ}
+use Rattle.rational.specs.Rational.{ℚ}
 use Rattle.run_laws.specs.Servers.{Server}
 use Rattle.run_laws.specs.Routes.{Hop, Route, Routes}
 use Rattle.net_model.specs.Networks.{Net, NetServer, NetFlow}

@@ -1,7 +1,7 @@
 -- What contracts see of a network. (Own choice of the fields; the notions are those of Le Boudec and Thiran.)
 use Rattle.std.specs.Prelude.{ℕ, List, Option}
-use Rattle.upp_limits.specs.rational.specs.Rational.{ℚ}
-use Rattle.upp_limits.specs.upp_curve.specs.Curve.{SpecCurve}
+use Rattle.rational.specs.Rational.{ℚ}
+use Rattle.upp_curve.specs.Curve.{SpecCurve}
 use Rattle.run_laws.specs.Servers.{Discipline}
 use Rattle.net_model.specs.declared.server.ServiceKind.{ServiceKind}
 

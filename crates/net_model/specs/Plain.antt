@@ -2,9 +2,9 @@
 use Rattle.std.specs.Prelude.{ℕ, zero, suc, pos, ◌+◌, List, [], ◌∷◌, ◌++◌, length, map, replicate, Option, Some, None, Bool, true, not, ◌&&◌, nat_le, nat_lt, nat_eq}
 use Rattle.std.specs.Borrow.{Bor}
 use Rattle.std.specs.List.{list_all, list_any}
-use Rattle.upp_limits.specs.rational.specs.Rational.{ℚ, int}
-use Rattle.upp_limits.specs.min_plus.specs.Functions.{zero_q}
-use Rattle.upp_limits.specs.upp_curve.specs.Kinds.{bucket, rate_latency}
+use Rattle.rational.specs.Rational.{ℚ, int}
+use Rattle.min_plus.specs.Functions.{zero_q}
+use Rattle.upp_curve.specs.Kinds.{bucket, rate_latency}
 use Rattle.run_laws.specs.Servers as spec
 use Rattle.net_model.specs.declared.server.ServiceKind.TheVariants.{Latency}
 use Rattle.net_model.specs.Networks.{Net, NetServer, NetFlow}

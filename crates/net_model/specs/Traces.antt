@@ -1,7 +1,7 @@
 -- What every trace keeps. (The limits are our own choice.)
 use Rattle.std.specs.Prelude.{◌+◌, ◌≤◌, List, length, All, AllPairs}
-use Rattle.upp_limits.specs.rational.specs.Rational.{◌≤ℚ◌, ◌<ℚ◌}
-use Rattle.upp_limits.specs.min_plus.specs.Functions.{zero_q}
+use Rattle.rational.specs.Rational.{◌≤ℚ◌, ◌<ℚ◌}
+use Rattle.min_plus.specs.Functions.{zero_q}
 use Rattle.net_model.specs.declared.trace.TracePacket.{TracePacket}
 use Rattle.net_model.specs.declared.trace.Stall.{Stall}
 use Rattle.net_model.specs.Accepted.{IsLength}

@@ -1,6 +1,6 @@
 //! What a run breaks.
 
-use upp_limits::fraction128::Frac;
+use fraction128::Frac;
 
 /// Something that a run breaks. Packets are numbered within their flow, from 0, in the order in which they enter; flows
 /// and servers are those of a network, by their numbers. (Own choice.)

@@ -1,6 +1,6 @@
 //! Edits of networks, as they are asked for.
 
-use upp_limits::fraction128::Frac;
+use fraction128::Frac;
 
 /// One hop of a path: the name of a server, and a queue there, from 0.
 #[derive(Debug, Drop)]

@@ -1,7 +1,7 @@
 //! Flows.
 
 use std::alloc::AllocError;
-use upp_limits::upp_curve::Curve;
+use upp_curve::Curve;
 
 /// A flow: packets that go over the same servers in the same order.
 #[derive(Drop)]

@@ -23,6 +23,5 @@ pub use laws::kinds_may_stand;
 pub use names::{are_name_bytes, find_colon, is_name};
 pub use network::Network;
 pub use plain::plain_network;
-pub use run_laws;
 pub use server::{Discipline, Server, ServiceKind};
 pub use trace::{Stall, Trace, TracePacket};

@@ -2,9 +2,9 @@
 
 ghost use Rattle.std.specs.Prelude.{◌≡◌, ◌<◌, ◌≤◌, pos, length, IsTrue, IfOk};
 ghost use Rattle.std.specs.String.{string_bytes};
-ghost use Rattle.upp_limits.specs.rational.specs.Rational.{int};
-ghost use Rattle.upp_limits.specs.rational.specs.Ratio.{IsSmall};
-ghost use Rattle.upp_limits.specs.upp_curve.specs.Kinds.{bucket};
+ghost use Rattle.rational.specs.Rational.{int};
+ghost use Rattle.rational.specs.Ratio.{IsSmall};
+ghost use Rattle.upp_curve.specs.Kinds.{bucket};
 ghost use Rattle.net_model.specs.Views.{server_of, flow_of, servers_of, flows_of};
 ghost use Rattle.net_model.specs.Plain.{letter, plain_server, plain_flow, plain_servers, plain_flows};
 ghost use Rattle.net_model.specs.Plain.{plain_net, is_plain, contents};
@@ -12,11 +12,11 @@ ghost use Rattle.net_model.specs.Plain.{plain_net, is_plain, contents};
 use crate::flow::Flow;
 use crate::network::Network;
 use crate::server::{Discipline, Server, ServiceKind};
+use fraction128::Frac;
+use rational::Extended;
 use std::alloc::{AllocError, Global};
-use upp_limits::fraction128::Frac;
-use upp_limits::rational::Extended;
-use upp_limits::upp_curve::affine_segment::{Line, Piece};
-use upp_limits::upp_curve::{Curve, Tail};
+use upp_curve::affine_segment::{Line, Piece};
+use upp_curve::{Curve, Tail};
 
 fn letter_of(alloc: Global, number: usize) -> Result<String, AllocError>
     requires { number < 26 }

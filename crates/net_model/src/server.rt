@@ -1,8 +1,8 @@
 //! Servers.
 
+use fraction128::Frac;
 use std::alloc::AllocError;
-use upp_limits::fraction128::Frac;
-use upp_limits::upp_curve::Curve;
+use upp_curve::Curve;
 
 /// How the service curve of a server is given, besides its rate.
 #[derive(Debug, Clone, Copy)]

@@ -1,7 +1,7 @@
 //! Traces: which packets enter a network and when, and when its servers stall.
 
+use fraction128::Frac;
 use std::marker::Model;
-use upp_limits::fraction128::Frac;
 
 /// A packet that enters at the first server of its flow.
 #[derive(Debug, Clone, Copy)]

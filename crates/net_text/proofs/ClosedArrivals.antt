@@ -2,7 +2,7 @@
 use Rattle.std.specs.Prelude.{IfOk, IfErr}
 use Rattle.std.specs.String.{string_bytes}
 use Rattle.std.proofs.Common.{◌≡◌, refl, ℕ, Bool, true, false, List, Result, Ok, Err, subst, inr, true≢false, sym}
-use Rattle.upp_limits.specs.upp_curve.specs.Curve.{SpecCurve}
+use Rattle.upp_curve.specs.Curve.{SpecCurve}
 use Rattle.upp_limits.specs.declared.own_limits.OverLimit.{OverLimit}
 use Rattle.net_model.specs.Accepted.{IsArrivalCurve}
 use Rattle.net_model.specs.declared.fault.NetFault.{NetFault}

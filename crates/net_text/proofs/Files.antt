@@ -1,7 +1,7 @@
 -- The first fault of a file whose draft has none.
 use Rattle.std.specs.List.{AllZip}
 use Rattle.std.proofs.Common.{◌≡◌, ℕ, List, Ok, inr}
-use Rattle.upp_limits.specs.upp_curve.specs.Curve.{SpecCurve}
+use Rattle.upp_curve.specs.Curve.{SpecCurve}
 use Rattle.upp_limits.specs.declared.own_limits.OverLimit.{OverLimit}
 use Rattle.net_model.specs.Networks.{NetServer}
 use Rattle.net_draft.specs.declared.fault.DraftFault.{DraftFault}

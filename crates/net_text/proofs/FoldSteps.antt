@@ -1,6 +1,6 @@
 -- Steps of the closures of some flows, as a loop counts them.
 use Rattle.std.proofs.Common.{◌≡◌, ℕ, ◌+◌, ◌≤◌, ◌<◌, Bool, true, false, List, [], ◌∷◌, ◌++◌, length, map, get_or, take, Ok, refl, sym, ap, ◌∙◌, subst, arith, inl, inr, true≢false}
-use Rattle.upp_limits.specs.upp_curve.specs.Curve.{SpecCurve}
+use Rattle.upp_curve.specs.Curve.{SpecCurve}
 use Rattle.net_draft.specs.declared.flow_draft.FlowDraft.{FlowDraft}
 use Rattle.net_draft.specs.CurveTexts.{text_of}
 use Rattle.net_draft.specs.Drafts.{draft_of}

@@ -1,7 +1,7 @@
 -- A fold is over one limit at most, since it has one answer.
 use Rattle.std.specs.Prelude.{refl, Result, Err}
 use Rattle.std.proofs.Common.{subst}
-use Rattle.upp_limits.specs.upp_curve.specs.Curve.{SpecCurve}
+use Rattle.upp_curve.specs.Curve.{SpecCurve}
 use Rattle.upp_limits.specs.declared.own_limits.OverLimit.TheVariants as limits
 use Rattle.upp_limits.specs.declared.op_kind.OpFault.{OpFault}
 use Rattle.upp_limits.specs.declared.op_kind.OpFault.TheVariants as faults

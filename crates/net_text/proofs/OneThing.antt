@@ -2,10 +2,10 @@
 use Rattle.std.specs.List.{AllZip}
 use Rattle.std.proofs.Common.{◌≡◌, ℕ, ◌+◌, Bool, true, false, List, [], ◌∷◌, ◌++◌, Option, Some, Ok, Err, sym, ap, ◌∙◌, subst, inl, inr}
 use Rattle.rational.proofs.Bounds.{infimum_unique}
-use Rattle.upp_limits.specs.upp_curve.specs.Curve.{SpecCurve, value_at}
-use Rattle.upp_limits.specs.min_plus.specs.Convolution.{Parts, sum_at}
+use Rattle.upp_curve.specs.Curve.{SpecCurve, value_at}
+use Rattle.min_plus.specs.Convolution.{Parts, sum_at}
 use Rattle.upp_limits.specs.declared.own_limits.OverLimit.{OverLimit}
-use Rattle.upp_limits.specs.upp_curve.proofs.OneForm.{normal_unique}
+use Rattle.upp_curve.proofs.OneForm.{normal_unique}
 use Rattle.upp_limits.proofs.OneLimit.{one_limit}
 use Rattle.net_model.specs.Networks.{Net, NetServer, NetFlow}
 use Rattle.net_draft.specs.Faults.{Fault, Read}

@@ -1,7 +1,7 @@
 -- The network that is built of a draft. Own choice.
 use Rattle.std.specs.Prelude.{◌≡◌, map, Option, Some, Ok}
 use Rattle.std.specs.List.{AllZip}
-use Rattle.upp_limits.specs.upp_curve.specs.Curve.{SpecCurve}
+use Rattle.upp_curve.specs.Curve.{SpecCurve}
 use Rattle.upp_limits.specs.declared.own_limits.OverLimit.{OverLimit}
 use Rattle.net_model.specs.Networks.{Net, NetServer, NetFlow}
 use Rattle.net_draft.specs.Laws.{kind_of}

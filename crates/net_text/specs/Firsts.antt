@@ -1,7 +1,7 @@
 -- The first curve of a file that is over a limit: services of servers in order, then arrivals of flows in order, each
 -- curve before its closure. Own choice.
 use Rattle.std.specs.Prelude.{◌⊎◌, ◌+◌, ℕ, List, [], ◌∷◌, ◌++◌, Bool, false, codes, Ok}
-use Rattle.upp_limits.specs.upp_curve.specs.Curve.{SpecCurve}
+use Rattle.upp_curve.specs.Curve.{SpecCurve}
 use Rattle.upp_limits.specs.declared.own_limits.OverLimit.{OverLimit}
 use Rattle.net_draft.specs.declared.fault.DraftFault.{DraftFault}
 use Rattle.net_draft.specs.declared.fault.DraftFault.TheVariants as answers

@@ -1,6 +1,6 @@
 -- Which limit the fold that makes the closure of a curve is over. Own choice.
 use Rattle.std.specs.Prelude.{Err}
-use Rattle.upp_limits.specs.upp_curve.specs.Curve.{SpecCurve}
+use Rattle.upp_curve.specs.Curve.{SpecCurve}
 use Rattle.upp_limits.specs.declared.own_limits.OverLimit.{OverLimit}
 use Rattle.upp_limits.specs.declared.own_limits.OverLimit.TheVariants as limits
 use Rattle.upp_limits.specs.declared.op_kind.OpFault.TheVariants as faults

@@ -1,6 +1,6 @@
 -- What a file says is one thing: one network, or one first fault, and not both. Own choice.
 use Rattle.std.specs.Prelude.{◌≡◌, ℕ, List}
-use Rattle.upp_limits.specs.upp_curve.specs.Curve.{SpecCurve}
+use Rattle.upp_curve.specs.Curve.{SpecCurve}
 use Rattle.upp_limits.specs.declared.own_limits.OverLimit.{OverLimit}
 use Rattle.net_model.specs.Networks.{Net}
 use Rattle.net_draft.specs.Faults.{Fault}

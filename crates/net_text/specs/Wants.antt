@@ -2,7 +2,7 @@
 -- closure that was under way `close` says at which of its calls it stopped, within that call's limits. Own choice.
 use Rattle.std.specs.Prelude.{◌≡◌, ◌⊎◌, ℕ, ◌+◌, List, [], ◌∷◌, ◌++◌, Bool, true, false, Option, Ok}
 use Rattle.std.specs.List.{AllZip}
-use Rattle.upp_limits.specs.upp_curve.specs.Curve.{SpecCurve}
+use Rattle.upp_curve.specs.Curve.{SpecCurve}
 use Rattle.net_model.specs.Networks.{NetServer, NetFlow}
 use Rattle.net_draft.specs.Drafts.{draft_of}
 use Rattle.net_draft.specs.Made.{IsOverNone}

@@ -2,9 +2,9 @@
 
 ghost use Rattle.std.specs.Prelude.{◌≡◌, ◌≤◌, ◌+◌, Ok, Err, IfOk, IfErr};
 ghost use Rattle.std.specs.String.{string_bytes};
-ghost use Rattle.upp_limits.specs.upp_curve.specs.Curve.{value_at};
-ghost use Rattle.upp_limits.specs.upp_curve.specs.Curves.{IsCurve};
-ghost use Rattle.upp_limits.specs.min_plus.specs.Functions.{IsFinite, IsNonnegative};
+ghost use Rattle.upp_curve.specs.Curve.{value_at};
+ghost use Rattle.upp_curve.specs.Curves.{IsCurve};
+ghost use Rattle.min_plus.specs.Functions.{IsFinite, IsNonnegative};
 ghost use Rattle.net_draft.specs.CurveTexts.{text_of};
 ghost use Rattle.net_draft.specs.Kept.{IsArrivalDraft};
 ghost use Rattle.net_text.specs.Becoming.{Becomes, FailsAt};
@@ -22,7 +22,7 @@ use net_draft::{DraftFault, FlowDraft};
 use outcomes::Steps;
 use std::alloc::Global;
 use std::sync::ledger::Ledger;
-use upp_limits::upp_curve::Curve;
+use upp_curve::Curve;
 use upp_limits::{OpFault, OverLimit};
 
 /// The closure of the arrival curve at a place.

@@ -1,8 +1,8 @@
 //! The closures of files.
 
 ghost use Rattle.std.specs.Prelude.{◌≡◌, ◌≤◌, ◌+◌, Err, IfOk};
-ghost use Rattle.upp_limits.specs.upp_curve.specs.Curve.{value_at};
-ghost use Rattle.upp_limits.specs.min_plus.specs.Functions.{IsFinite, IsNonnegative};
+ghost use Rattle.upp_curve.specs.Curve.{value_at};
+ghost use Rattle.min_plus.specs.Functions.{IsFinite, IsNonnegative};
 ghost use Rattle.net_text.specs.Closing.{KeepsClosing};
 ghost use Rattle.net_text.specs.FoldLimits.{OverFold};
 ghost use Rattle.subadd_closure.specs.FoldMemory.{CloseWants};
@@ -12,8 +12,8 @@ use outcomes::Steps;
 use std::alloc::Global;
 use std::sync::ledger::Ledger;
 use subadd_closure::close;
+use upp_curve::Curve;
 use upp_limits::OpFault;
-use upp_limits::upp_curve::Curve;
 
 /// The subadditive closure of a finite curve that is nowhere below 0, by the fold of the closures of its parts, and
 /// then that fold is over no limit; refused for the limit that the fold is over, or where there is no memory, and then

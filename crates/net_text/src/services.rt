@@ -6,14 +6,14 @@ ghost use Rattle.net_draft.specs.CurveTexts.{text_of};
 ghost use Rattle.net_draft.specs.Kept.{IsMadeDraft};
 ghost use Rattle.net_draft.specs.Laws.{kind_of};
 ghost use Rattle.net_draft.specs.Made.{IsOverNone};
-ghost use Rattle.upp_limits.specs.upp_curve.specs.Curves.{IsCurve};
+ghost use Rattle.upp_curve.specs.Curves.{IsCurve};
 ghost use Rattle.net_text.specs.Becoming.{IsCurveOf, BecomesItself, FailsAt};
 
 use crate::limits::limit_fault;
 use net_draft::{CurveDraft, CurveText, DraftFault};
 use net_model::ServiceKind;
 use std::alloc::AllocError;
-use upp_limits::upp_curve::Curve;
+use upp_curve::Curve;
 
 /// How a service curve is given.
 pub(crate) fn kind_of(text: &CurveText) -> ServiceKind

@@ -2,13 +2,13 @@
 use Rattle.std.proofs.Common.{◌≡◌, ◌≢◌, ℕ, List, [], ◌∷◌, inl, inr, sym, ap, ◌∙◌}
 use Rattle.upp_limits.specs.declared.own_limits.OverLimit.TheVariants.{TooMany, TooWide}
 use Rattle.net_model.specs.Networks.{Net}
-use Rattle.report_text.specs.net_cells.specs.Meanings.{CellTable}
+use Rattle.net_cells.specs.Meanings.{CellTable}
 use Rattle.net_bounds.proofs.Kept.{table_bounds_every_run}
-use Rattle.commands.specs.command_replies.specs.Causes.{HasCause}
-use Rattle.commands.specs.command_replies.specs.Guarantee.{Guarantees}
-use Rattle.commands.specs.command_replies.specs.Replies.{Reply}
-use Rattle.commands.specs.command_replies.proofs.Causes.{with_reports}
-use Rattle.commands.specs.command_replies.proofs.OneRefusal.{equal}
+use Rattle.command_replies.specs.Causes.{HasCause}
+use Rattle.command_replies.specs.Guarantee.{Guarantees}
+use Rattle.command_replies.specs.Replies.{Reply}
+use Rattle.command_replies.proofs.Causes.{with_reports}
+use Rattle.command_replies.proofs.OneRefusal.{equal}
 use Rattle.report_text.specs.declared.json_report.form.Form.{Form}
 use Rattle.commands.specs.analyse.AnswerCounts.{CountsOn}
 use Rattle.commands.specs.analyse.OnFiles.{IsReportOf, IsReport}
@@ -19,12 +19,12 @@ use Rattle.commands.proofs.edit.Causes as edit_statuses
 use Rattle.commands.proofs.edit.OneReply as edited
 use Rattle.commands.proofs.edit.Promised.{reports_are_guaranteed, replies_are_complete}
 use Rattle.commands.specs.simulate.RunCounts as run_counts
-use Rattle.commands.specs.command_replies.specs.run_findings.Statuses.{IsOfReport}
+use Rattle.command_replies.specs.run_findings.Statuses.{IsOfReport}
 use Rattle.commands.proofs.simulate.Causes as run
 use Rattle.commands.proofs.simulate.OneReply as simulated
 use Rattle.commands.proofs.simulate.Status.{status_tells}
 use Rattle.commands.proofs.simulate.Within.{quiet_runs, guarantee}
-use Rattle.commands.specs.command_replies.specs.run_findings.CellCounts.{CountsOnCells}
+use Rattle.command_replies.specs.run_findings.CellCounts.{CountsOnCells}
 use Rattle.exercise_load.specs.Workloads.{network_of}
 use Rattle.commands.proofs.exercise.Causes as exercise
 use Rattle.commands.proofs.exercise.OneReply as exercised

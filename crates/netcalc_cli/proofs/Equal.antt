@@ -4,7 +4,7 @@ use Rattle.std.proofs.Common.{◌≡◌, ◌⊎◌, arith, ℕ, List, [], ◌∷
 use Rattle.std.proofs.lemmas.Bool.{cases_eq}
 use Rattle.outside.specs.Written.{Output, PutsWhole}
 use Rattle.report_text.specs.declared.json_report.form.Form.{Form}
-use Rattle.commands.specs.command_replies.specs.Replies.{Reply, AreSame, too_long}
+use Rattle.command_replies.specs.Replies.{Reply, AreSame, too_long}
 use Rattle.commands.specs.edit_report.EditReport.{edit_report_in}
 use Rattle.commands.specs.edit_report.Said.{EditSaid}
 use Rattle.commands.specs.edit.EditLaws.{AreSameReports, AreAlike}

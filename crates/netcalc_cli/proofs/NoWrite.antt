@@ -1,7 +1,7 @@
 -- No reply has the status of a write that failed.
 use Rattle.std.proofs.Common.{◌≡◌, ◌≢◌, ℕ, List, inl, inr, sym, ◌∙◌, arith}
-use Rattle.commands.specs.command_replies.specs.Replies.{Reply, cannot_read, too_long}
-use Rattle.commands.specs.command_replies.proofs.Statuses.{status_is as status_of}
+use Rattle.command_replies.specs.Replies.{Reply, cannot_read, too_long}
+use Rattle.command_replies.proofs.Statuses.{status_is as status_of}
 use Rattle.netcalc_cli.specs.Commands.{Command, files_of}
 use Rattle.netcalc_cli.specs.Files.{most_bytes, Told}
 use Rattle.netcalc_cli.specs.Reply.{MayReplyTo, FailedAt}

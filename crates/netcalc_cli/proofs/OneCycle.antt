@@ -6,9 +6,9 @@ use Rattle.net_model.specs.Walks.{IsCycle}
 use Rattle.net_model.proofs.net_graph.OneCycles as walks
 use Rattle.report_text.specs.CellWords.{server_name}
 use Rattle.report_text.specs.Refusals.{spaced}
-use Rattle.commands.specs.command_replies.specs.OnFiles.{HasCycle}
-use Rattle.commands.specs.command_replies.specs.Replies.{Reply, goes_round}
-use Rattle.commands.specs.command_replies.proofs.FirstFaults.{says}
+use Rattle.command_replies.specs.OnFiles.{HasCycle}
+use Rattle.command_replies.specs.Replies.{Reply, goes_round}
+use Rattle.command_replies.proofs.FirstFaults.{says}
 use Rattle.commands.specs.edit_report.Said.{EditSaid, Refused}
 use Rattle.commands.specs.edit.EditLaws.{TellCycles, AreSaidAlike}
 

@@ -7,9 +7,9 @@ use Rattle.upp_limits.proofs.SpanNumbers.{if_some_map}
 use Rattle.outside.specs.Fetching.{FetchesAll, FetchesUpTo}
 use Rattle.outside.specs.Written.{Output}
 use Rattle.outside.proofs.Fetches.{up_to_end}
-use Rattle.commands.specs.command_replies.specs.declared.answer.Answer.{Answer}
-use Rattle.commands.specs.command_replies.specs.Replies.{Reply, cannot_read, too_long}
-use Rattle.commands.specs.command_replies.specs.View.{code_of, reply_of, status_of}
+use Rattle.command_replies.specs.declared.answer.Answer.{Answer}
+use Rattle.command_replies.specs.Replies.{Reply, cannot_read, too_long}
+use Rattle.command_replies.specs.View.{code_of, reply_of, status_of}
 use Rattle.netcalc_cli.specs.Commands.{Command, files_of, AreSameTo, IsReplyTo, IsMalformed, IsOver, IsCyclic, TellsBreach, IsDone}
 use Rattle.netcalc_cli.specs.Commands.{Analyse, Edit, Simulate, Exercise, Check, Measure, Curve, IsAnswerable, IsAnswer, CountsTo}
 use Rattle.netcalc_cli.specs.Answered.{IsAnswered}

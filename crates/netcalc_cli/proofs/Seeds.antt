@@ -3,8 +3,8 @@ use Rattle.std.proofs.Common.{◌≡◌, ℕ, ◌^◌, ◌-◌, ◌≤◌, ◌<�
 use Rattle.std.proofs.Common.{refl, sym, ap, ◌∙◌, subst, arith}
 use Rattle.std.specs.Str.Parse.{digits_value}
 use Rattle.std.proofs.lemmas.Bool.Decides.{nat_tests}
-use Rattle.upp_limits.specs.rational.specs.Gauge.{cap}
-use Rattle.upp_limits.specs.fraction128.specs.Text.{is_numeral}
+use Rattle.rational.specs.Gauge.{cap}
+use Rattle.fraction128.specs.Text.{is_numeral}
 use Rattle.netcalc_cli.specs.Words.{in_64_bits, seed_of}
 
 pub within : (n : ℕ) → n < 2 ^ 64 → Some n ≡ in_64_bits n

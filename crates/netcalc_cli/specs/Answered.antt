@@ -1,8 +1,8 @@
 -- What stands of a command's answer, with the files that were asked for and the steps that it took.
 use Rattle.std.specs.Prelude.{ℕ, List, Option, Result, IfOk}
 use Rattle.outside.specs.Fetching.{FetchesAll, FetchesUpTo}
-use Rattle.commands.specs.command_replies.specs.declared.answer.Answer.{Answer}
-use Rattle.commands.specs.command_replies.specs.View.{reply_of, status_of}
+use Rattle.command_replies.specs.declared.answer.Answer.{Answer}
+use Rattle.command_replies.specs.View.{reply_of, status_of}
 use Rattle.netcalc_cli.specs.Commands.{Command, files_of}
 use Rattle.netcalc_cli.specs.Counts.{CountsOnCommand}
 use Rattle.netcalc_cli.specs.Reply.{StandsOnFiles, MayReplyTo}

@@ -1,18 +1,18 @@
 -- The commands, and what each answers on its files. A new command has one line in each definition.
 use Rattle.std.specs.Prelude.{◌≡◌, ◌⊎◌, ℕ, List, [], ◌∷◌, Option, Some, None}
-use Rattle.upp_limits.specs.rational.specs.Rational.{ℚ, ◌≤ℚ◌}
-use Rattle.upp_limits.specs.min_plus.specs.Functions.{zero_q}
-use Rattle.upp_limits.specs.upp_curve.specs.Curve.{SpecCurve}
+use Rattle.rational.specs.Rational.{ℚ, ◌≤ℚ◌}
+use Rattle.min_plus.specs.Functions.{zero_q}
+use Rattle.upp_curve.specs.Curve.{SpecCurve}
 use Rattle.upp_limits.specs.declared.own_limits.OverLimit.{OverLimit}
 use Rattle.upp_limits.specs.declared.own_limits.OverLimit.TheVariants.{TooMany, TooWide}
 use Rattle.net_model.specs.declared.trace.TracePacket.{TracePacket}
 use Rattle.net_model.specs.Networks.{Net}
-use Rattle.report_text.specs.net_cells.specs.Meanings.{CellTable}
+use Rattle.net_cells.specs.Meanings.{CellTable}
 use Rattle.net_bounds.specs.NetRuns.{IsRunOf}
 use Rattle.report_text.specs.declared.json_report.form.Form.{Form}
-use Rattle.commands.specs.command_replies.specs.Replies.{Reply, AreSame}
-use Rattle.commands.specs.command_replies.specs.Guarantee.{Guarantees}
-use Rattle.commands.specs.command_replies.specs.OnFiles.{IsBroken, IsOverLimit, HasCycle}
+use Rattle.command_replies.specs.Replies.{Reply, AreSame}
+use Rattle.command_replies.specs.Guarantee.{Guarantees}
+use Rattle.command_replies.specs.OnFiles.{IsBroken, IsOverLimit, HasCycle}
 use Rattle.commands.specs.analyse.OnFiles.{IsReplyOn, IsReportOf}
 use Rattle.commands.specs.analyse.AnswerCounts.{CountsOn}
 use Rattle.commands.specs.analyse.AnswerLaws.{IsWithinLimits}
@@ -25,8 +25,8 @@ use Rattle.commands.specs.simulate.OnTraces.{IsRunReply, IsRunReport, IsSimulati
 use Rattle.commands.specs.simulate.RunCounts as run_counts
 use Rattle.commands.specs.simulate.Laws as run_laws
 use Rattle.commands.specs.simulate.Laws.{IsQuietReport}
-use Rattle.commands.specs.command_replies.specs.run_findings.CellCounts.{CountsOnCells}
-use Rattle.commands.specs.command_replies.specs.run_findings.Statuses.{Keeps}
+use Rattle.command_replies.specs.run_findings.CellCounts.{CountsOnCells}
+use Rattle.command_replies.specs.run_findings.Statuses.{Keeps}
 use Rattle.exercise_load.specs.Workloads.{network_of}
 use Rattle.commands.specs.exercise.OnSeeds.{IsExerciseReply, IsSummarised, IsWide, IsCellOver}
 use Rattle.commands.specs.exercise.ExerciseLaws as exercise_laws

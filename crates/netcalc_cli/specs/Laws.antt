@@ -1,7 +1,7 @@
 -- What holds of the replies on files, and of calls.
 use Rattle.std.specs.Prelude.{◌≡◌, ◌≢◌, ℕ, List, Some}
 use Rattle.outside.specs.Written.{Output, PutsWhole}
-use Rattle.commands.specs.command_replies.specs.Replies.{Reply}
+use Rattle.command_replies.specs.Replies.{Reply}
 use Rattle.netcalc_cli.specs.Commands.{Command, files_of}
 use Rattle.netcalc_cli.specs.Files.{Told, all_told}
 use Rattle.netcalc_cli.specs.Reply.{IsReplyOnFiles, GivesOnTold}

@@ -4,7 +4,7 @@ use Rattle.outside.specs.Faults.{Rose}
 use Rattle.outside.specs.Fetching as fetching
 pub use Rattle.outside.specs.Fetching.{FailedAt}
 use Rattle.outside.specs.Written.{Output, output, PutsWhole, PutsFront}
-use Rattle.commands.specs.command_replies.specs.Replies.{Reply, usage, cannot_read, too_long}
+use Rattle.command_replies.specs.Replies.{Reply, usage, cannot_read, too_long}
 use Rattle.netcalc_cli.specs.Commands.{Command, files_of, IsReplyTo, IsAnswerable, IsAnswer}
 use Rattle.netcalc_cli.specs.Files.{Told, most_bytes, MayHoldAll, FirstIs, FirstLong, AllFit, all_told}
 

@@ -6,10 +6,10 @@ use Rattle.std.specs.declared.alloc.Global.{Global}
 use Rattle.std.specs.List.{list_all}
 use Rattle.std.specs.Str.{bytes_eq}
 use Rattle.std.specs.Str.Parse.{digits_value}
-use Rattle.upp_limits.specs.rational.specs.Rational.{ℚ, lt_q}
-use Rattle.upp_limits.specs.min_plus.specs.Functions.{zero_q}
-use Rattle.upp_limits.specs.fraction128.specs.declared.fault.FracText.{FracText}
-use Rattle.upp_limits.specs.fraction128.specs.Text.{is_numeral, parse_of}
+use Rattle.rational.specs.Rational.{ℚ, lt_q}
+use Rattle.min_plus.specs.Functions.{zero_q}
+use Rattle.fraction128.specs.declared.fault.FracText.{FracText}
+use Rattle.fraction128.specs.Text.{is_numeral, parse_of}
 use Rattle.report_text.specs.declared.json_report.form.Form.TheVariants.{Lines, Json}
 use Rattle.command_words.specs.Lines.{is_operand, operands_of, asks_json}
 use Rattle.netcalc_cli.specs.Commands.{Command, Analyse, Edit, Simulate, Exercise, Check, Measure, Curve}

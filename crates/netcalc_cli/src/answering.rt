@@ -1,27 +1,27 @@
 //! The answer of a command. Each has a function of its own, which fetches its files and answers on them.
 
-ghost use Rattle.upp_limits.specs.rational.specs.Rational.{◌≤ℚ◌};
-ghost use Rattle.upp_limits.specs.min_plus.specs.Functions.{zero_q};
+ghost use Rattle.rational.specs.Rational.{◌≤ℚ◌};
+ghost use Rattle.min_plus.specs.Functions.{zero_q};
 ghost use Rattle.netcalc_cli.specs.Answered.{IsAnswered};
 ghost use Rattle.netcalc_cli.specs.Commands as commands;
 ghost use Rattle.netcalc_cli.specs.View.{command_view};
 
 use crate::fetching::{fetch_one, fetch_two};
 use crate::words::Command;
+use command_replies::Answer;
 use commands::analyse::on_bytes;
 use commands::check::on_run;
-use commands::command_replies::Answer;
 use commands::curve::on_script;
 use commands::edit::on_edits;
 use commands::exercise::on_seed;
 use commands::measure::on_measure;
 use commands::simulate::on_trace;
+use fraction128::Frac;
 use outcomes::Steps;
 use outside::{Inputs, NoMemory};
 use report_text::json_report::Form;
 use std::alloc::Global;
 use std::sync::ledger::Ledger;
-use upp_limits::fraction128::Frac;
 
 fn on_network<I: Inputs, L: Ledger>(
     alloc: Global,

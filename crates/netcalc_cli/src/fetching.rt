@@ -2,11 +2,11 @@
 
 ghost use Rattle.std.specs.Prelude.{◌≡◌, ◌≤◌, ◌++◌, [], ◌∷◌, List, ℕ, length, IfOk, IfErr, OnOk, OnErr};
 ghost use Rattle.outside.specs.Fetching.{FetchesAll, FetchesUpTo};
-ghost use Rattle.commands.specs.command_replies.specs.View.{reply_of};
+ghost use Rattle.command_replies.specs.View.{reply_of};
 ghost use Rattle.netcalc_cli.specs.Files.{most_bytes, MayHold, MayHoldAll, AllFit, FirstIs};
 ghost use Rattle.netcalc_cli.specs.Reply.{EndsAt};
 
-use commands::command_replies::{Answer, cannot_read, too_long};
+use command_replies::{Answer, cannot_read, too_long};
 use outside::{FetchFault, Inputs, NoMemory};
 use std::alloc::Global;
 

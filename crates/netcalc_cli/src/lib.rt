@@ -8,6 +8,6 @@ mod laws;
 mod top_call;
 mod words;
 
-pub use commands::command_replies::Status;
+pub use command_replies::Status;
 pub use laws::{calls_are_determined, replies_are_determined};
 pub use top_call::{run, run_counted};

@@ -4,8 +4,8 @@ ghost use Rattle.std.specs.Prelude.{◌≡◌, ◌≢◌, ◌≤◌, ◌<◌, �
 ghost use Rattle.outside.specs.Fetching.{FetchesAll, FetchesUpTo};
 ghost use Rattle.outside.specs.Written.{output};
 ghost use Rattle.upp_limits.specs.declared.own_limits.OverLimit.TheVariants as limits;
-ghost use Rattle.commands.specs.command_replies.specs.Replies.{Reply, usage, cannot_read, too_long};
-ghost use Rattle.commands.specs.command_replies.specs.View.{code_of};
+ghost use Rattle.command_replies.specs.Replies.{Reply, usage, cannot_read, too_long};
+ghost use Rattle.command_replies.specs.View.{code_of};
 ghost use Rattle.netcalc_cli.specs.Commands.{files_of, names_of, IsMalformed, IsOver, IsCyclic, TellsBreach, IsDone};
 ghost use Rattle.netcalc_cli.specs.Counts.{Counts};
 ghost use Rattle.netcalc_cli.specs.Files.{IsTooLong, FirstIs};
@@ -15,7 +15,7 @@ ghost use Rattle.netcalc_cli.specs.Words.{texts, command_of};
 
 use crate::answering::answer_to;
 use crate::words::{parsed, taken};
-use commands::command_replies::Status;
+use command_replies::Status;
 use outcomes::Steps;
 use outside::{Inputs, Sink};
 use std::sync::ledger::{Blank, Ledger};

@@ -1,8 +1,8 @@
 //! The words of the command line.
 ghost use Rattle.std.specs.Prelude.{◌≡◌, ◌++◌, IfOk, IfSome, IfNone, IsSome, is_some, map, option_map};
 ghost use Rattle.std.specs.List.{list_all};
-ghost use Rattle.upp_limits.specs.rational.specs.Rational.{◌≤ℚ◌};
-ghost use Rattle.upp_limits.specs.min_plus.specs.Functions.{zero_q};
+ghost use Rattle.rational.specs.Rational.{◌≤ℚ◌};
+ghost use Rattle.min_plus.specs.Functions.{zero_q};
 ghost use Rattle.command_words.specs.Lines.{is_operand, operands_of, asks_json};
 ghost use Rattle.netcalc_cli.specs.Commands.{HasRate};
 ghost use Rattle.netcalc_cli.specs.View.{command_view};
@@ -10,10 +10,10 @@ ghost use Rattle.netcalc_cli.specs.Words.{texts, in_64_bits, seed_of, rate_of, o
 ghost use Rattle.netcalc_cli.specs.Words.{in_lines, in_json, called, command_on, command_of};
 
 use command_words::{around_json, is_operand, parse, word_of};
+use fraction128::{Frac, is_less, read_digits};
 use outside::NoMemory;
 use report_text::json_report::Form;
 use std::alloc::Global;
-use upp_limits::fraction128::{Frac, is_less, read_digits};
 
 /// What a command line asks for, with the names of its files, and with what its other words say.
 #[derive(Clone, Copy)]

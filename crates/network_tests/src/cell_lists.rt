@@ -1,8 +1,8 @@
 //! The cells of small networks, in words, worked out by hand.
 
+use net_cells::{Cell, Kind, cells, operands, work};
 use net_model::{Network, plain_network};
 use report_text::cell_text;
-use report_text::net_cells::{Cell, Kind, cells, operands, work};
 use std::alloc::Global;
 use std::test::Fail;
 

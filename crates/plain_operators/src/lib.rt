@@ -4,5 +4,3 @@
 
 pub mod pointwise;
 pub mod running;
-
-pub use curve_call;

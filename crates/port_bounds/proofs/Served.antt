@@ -6,12 +6,12 @@ use Rattle.std.proofs.Math.Nat.{div-mul-le_self}
 use Rattle.std.proofs.lemmas.Bool.{eq-eqb, ltb-true}
 use Rattle.std.proofs.lemmas.List.{get_or-map, get_or-drop, length-map, length-drop}
 use Rattle.std.proofs.lemmas.List.Sums.{sum-map}
-use Rattle.min_plus.specs.rational.specs.Rational.{ℚ, ◌+ℚ◌, ◌-ℚ◌, ◌*ℚ◌, ◌/ℚ◌, ◌≤ℚ◌}
-use Rattle.min_plus.specs.rational.specs.Extended.{Ext, ◌≤ₑ◌}
-use Rattle.min_plus.specs.rational.specs.declared.Extended.TheVariants.{Fin}
-use Rattle.min_plus.specs.rational.proofs.Laws.{le_refl, mul_zero}
-use Rattle.min_plus.specs.rational.proofs.Linear.{with2}
-use Rattle.min_plus.specs.rational.proofs.MinMax.{max_q_le}
+use Rattle.rational.specs.Rational.{ℚ, ◌+ℚ◌, ◌-ℚ◌, ◌*ℚ◌, ◌/ℚ◌, ◌≤ℚ◌}
+use Rattle.rational.specs.Extended.{Ext, ◌≤ₑ◌}
+use Rattle.rational.specs.declared.Extended.TheVariants.{Fin}
+use Rattle.rational.proofs.Laws.{le_refl, mul_zero}
+use Rattle.rational.proofs.Linear.{with2}
+use Rattle.rational.proofs.MinMax.{max_q_le}
 use Rattle.min_plus.specs.Functions.{zero_q, whole}
 use Rattle.min_plus.specs.Formulas.{bucket_value}
 use Rattle.min_plus.specs.Pointwise.{excess, scaled}

@@ -2,9 +2,9 @@
 -- the latency may be lost while it is open. (Le Boudec and Thiran, chapter 1: rate-latency service; the gate is our own.)
 use Rattle.std.specs.Prelude.{Option, Some, None, ◌≡◌, ◌+◌, ◌-◌, ◌*◌, ◌/◌, ◌^◌, ℕ}
 use Rattle.std.specs.Int.{div_ceil}
-use Rattle.min_plus.specs.rational.specs.Rational.{ℚ, ◌*ℚ◌}
-use Rattle.min_plus.specs.rational.specs.Extended.{Ext}
-use Rattle.min_plus.specs.rational.specs.declared.Extended.TheVariants.{Fin}
+use Rattle.rational.specs.Rational.{ℚ, ◌*ℚ◌}
+use Rattle.rational.specs.Extended.{Ext}
+use Rattle.rational.specs.declared.Extended.TheVariants.{Fin}
 use Rattle.min_plus.specs.Formulas.{rate_latency_value, gate_value}
 use Rattle.min_plus.specs.Pointwise.{excess}
 use Rattle.run_laws.specs.Servers as servers

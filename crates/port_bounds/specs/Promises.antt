@@ -2,9 +2,9 @@
 -- frame and whose work keeps the port's service curve, no packet of the queue stays longer than the delay, and the queue never holds more
 -- bits than the backlog.
 use Rattle.std.specs.Prelude.{Option, Some, ◌≡◌, ◌<◌, ℕ, List, length}
-use Rattle.min_plus.specs.rational.specs.Rational.{ℚ, ◌≤ℚ◌}
-use Rattle.min_plus.specs.rational.specs.Extended.{◌≤ₑ◌}
-use Rattle.min_plus.specs.rational.specs.declared.Extended.TheVariants.{Fin}
+use Rattle.rational.specs.Rational.{ℚ, ◌≤ℚ◌}
+use Rattle.rational.specs.Extended.{◌≤ₑ◌}
+use Rattle.rational.specs.declared.Extended.TheVariants.{Fin}
 use Rattle.run_laws.specs.Cards.{ServerStep, of_queue, whole}
 use Rattle.run_laws.specs.Allows.{IsLawfulView}
 use Rattle.run_laws.specs.Premises.{KeepsSizes, KeepsArrivals, KeepsService}

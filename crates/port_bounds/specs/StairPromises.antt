@@ -2,8 +2,8 @@
 -- longest frame and whose work keeps the port's service curve, no packet of the queue stays longer than the delay, and the queue never holds
 -- more bits than the backlog.
 use Rattle.std.specs.Prelude.{Some, ◌≡◌, ◌<◌, ℕ, List, length}
-use Rattle.min_plus.specs.rational.specs.Rational.{ℚ}
-use Rattle.min_plus.specs.rational.specs.declared.Extended.TheVariants.{Fin}
+use Rattle.rational.specs.Rational.{ℚ}
+use Rattle.rational.specs.declared.Extended.TheVariants.{Fin}
 use Rattle.run_laws.specs.Cards.{ServerStep, of_queue}
 use Rattle.run_laws.specs.Allows.{IsLawfulView}
 use Rattle.run_laws.specs.Premises.{KeepsSizes, KeepsArrivals, KeepsService}

@@ -4,7 +4,7 @@ use Rattle.std.specs.Prelude.{Option, ◌≢◌, ◌==◌, nat_le}
 use Rattle.std.proofs.lemmas.Bool.{cases_eq, cases_lt, cases_Bool, le-leb, lt-leb}
 use Rattle.std.proofs.lemmas.List.{get_or-set_same, get_or-set_other, get_or_past}
 use Rattle.std.proofs.Math.ListN.{length-set}
-use Rattle.upp_limits.specs.rational.specs.Rational.{ℚ}
+use Rattle.rational.specs.Rational.{ℚ}
 use Rattle.run_laws.specs.Cards.{Card, Arrives, Leaves, Visits}
 use Rattle.run_laws.specs.Servers.{Drr, Round, Under, ServerState, head_of, without_head, done_so_far}
 use Rattle.run_laws.specs.Next.{next, fits, to_tail, rotated, visit_on, left_round, arrived_round, worked_round, visited_round}

@@ -1,7 +1,7 @@
 -- What the calls of a scheduler ask for and give, in the words of the laws of runs. `StandsFor σ` says that the
 -- scheduler stands for a server in the state σ.
 use Rattle.std.specs.Prelude.{Option, Some, None, ◌≡◌, ◌≢◌, ℕ, ◌<◌, []}
-use Rattle.upp_limits.specs.rational.specs.Rational.{ℚ}
+use Rattle.rational.specs.Rational.{ℚ}
 use Rattle.run_laws.specs.Cards.{Card, Works, Leaves, Visits}
 use Rattle.run_laws.specs.Servers.{Discipline, queue_count, Under, ServerState}
 use Rattle.run_laws.specs.Next.{next}

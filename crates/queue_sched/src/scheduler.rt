@@ -1,7 +1,7 @@
 //! What a scheduler is.
 
 ghost use Rattle.std.specs.Prelude.{◌≡◌, ℕ, Some, None};
-ghost use Rattle.upp_limits.specs.rational.specs.Rational.{ℚ};
+ghost use Rattle.rational.specs.Rational.{ℚ};
 ghost use Rattle.run_laws.specs.Cards.{Card, Arrives, Works, Leaves};
 ghost use Rattle.run_laws.specs.Servers.{Discipline, ServerState, Under};
 ghost use Rattle.run_laws.specs.Next.{next};

@@ -6,7 +6,7 @@ use Rattle.std.specs.List.{flat_map, range_with_len}
 use Rattle.std.proofs.lemmas.Bool.{cases_lt, ltb-true, eqb-true, and_parts}
 use Rattle.std.proofs.lemmas.Option.{slice_get_past}
 use Rattle.rational.specs.Rational.{ℚ}
-use Rattle.net_model.specs.run_laws.specs.Servers.{queue_count}
+use Rattle.run_laws.specs.Servers.{queue_count}
 use Rattle.net_model.specs.Networks.{Net, NetServer, NetFlow}
 use Rattle.net_cells.specs.declared.cell.Kind.{Kind}
 use Rattle.net_cells.specs.declared.cell.Kind.TheVariants.{In, Cross, Total, Higher, QueueService, Theta, Residual, QueueDelay, QueueBacklog, HopDelay, ShiftOut, DeconvOut, Out, PathService, Tfa, Sfa, Bound}

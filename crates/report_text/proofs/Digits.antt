@@ -7,7 +7,7 @@ use Rattle.std.specs.Fmt.{decimal, digits, digits_onto, digit_glyph}
 use Rattle.std.specs.Str.Parse.{digits_value}
 use Rattle.std.proofs.lemmas.Bool.{cases_lt, ne_eqb, lt-ltb, cond-false}
 use Rattle.std.proofs.lemmas.Fmt.{decimal_is_IsNumeral_wide, length-decimal-le_wide}
-use Rattle.upp_curve.specs.fraction128.specs.Text.{text_over}
+use Rattle.fraction128.specs.Text.{text_over}
 use Rattle.report_text.proofs.Fronts.{lacks, same_front, same_back, not_lacking}
 
 -- ---- bytes from one value to that of the digit 9

@@ -5,7 +5,7 @@ use Rattle.rational.specs.Rational.{ℚ, frac}
 use Rattle.rational.specs.Ratio.{IsSmall}
 use Rattle.rational.specs.Fractions.{frac_self}
 use Rattle.rational.specs.declared.Extended.TheVariants.{Fin, Inf}
-use Rattle.upp_curve.specs.fraction128.specs.Text.{text_of}
+use Rattle.fraction128.specs.Text.{text_of}
 use Rattle.report_text.specs.Laws.{TextsTellNumbers, OnlyInfinityIsUnbounded}
 use Rattle.report_text.proofs.Digits.{AreFrom, text_bytes, same_over}
 

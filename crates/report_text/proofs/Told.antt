@@ -7,7 +7,7 @@ use Rattle.std.proofs.lemmas.Bool.{ltb-true, eqb-true, cases_lt, cond-false, ne_
 use Rattle.std.proofs.lemmas.Fmt.{decimal_is_IsNumeral_wide}
 use Rattle.std.proofs.lemmas.List.{get_or_past}
 use Rattle.std.proofs.lemmas.Option.{slice_get_within, get_or_from_slice_get}
-use Rattle.net_model.specs.run_laws.specs.Servers.{queue_count}
+use Rattle.run_laws.specs.Servers.{queue_count}
 use Rattle.net_model.specs.Networks.{Net, NetServer, NetFlow}
 use Rattle.net_model.specs.Names.{is_name_byte, DifferInName}
 use Rattle.net_model.specs.Accepted.{IsAccepted}

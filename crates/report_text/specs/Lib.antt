@@ -7,4 +7,3 @@ pub mod Refusals
 pub mod Laws
 pub mod json_report
 pub mod measure_report
-pub use Rattle.net_cells as net_cells

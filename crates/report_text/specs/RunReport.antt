@@ -3,7 +3,7 @@ use Rattle.std.specs.Prelude.{ℕ, List, [], ◌++◌, length, Option, Some, Non
 use Rattle.std.specs.Fmt.{decimal}
 use Rattle.std.specs.List.{flat_map, range_with_len}
 use Rattle.rational.specs.Rational.{ℚ}
-use Rattle.upp_curve.specs.fraction128.specs.Text.{text_of}
+use Rattle.fraction128.specs.Text.{text_of}
 use Rattle.net_model.specs.declared.breach.Breach.{Breach}
 use Rattle.net_model.specs.declared.breach.Breach.TheVariants.{Size, Arrival, Service}
 use Rattle.net_model.specs.Networks.{Net, NetFlow}

@@ -21,7 +21,6 @@ pub use laws::{
     only_infinity_is_unbounded, reports_agree, run_reports_agree, texts_tell_numbers,
     words_tell_cells,
 };
-pub use net_cells;
 pub use refusal::{Refusal, push_spaced, refusal_text};
 pub use report::{analysis_text, live_count, push_head};
 pub use run_found::RunFound;

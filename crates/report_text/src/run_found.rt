@@ -1,7 +1,7 @@
 //! What a report on a run tells.
 
+use fraction128::Frac;
 use net_model::Breach;
-use upp_curve::fraction128::Frac;
 
 /// What a simulation of a network found.
 #[derive(Debug, Drop)]

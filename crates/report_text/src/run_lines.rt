@@ -2,18 +2,18 @@
 
 ghost use Rattle.std.specs.Prelude.{◌≡◌, ◌++◌, codes, map, slice_get, OnOk};
 ghost use Rattle.std.specs.Fmt.{decimal};
-ghost use Rattle.upp_curve.specs.fraction128.specs.Text.{text_of};
+ghost use Rattle.fraction128.specs.Text.{text_of};
 ghost use Rattle.report_text.specs.RunReport as spec;
 
 use crate::cell_words::{flow_name, server_name};
 use crate::lines::push_number_after;
 use crate::shown::ShownValue;
 use crate::text::{push_after, push_decimal, push_text};
+use fraction128::Frac;
 use net_cells::Kind;
 use net_cells::cell_table::Table;
 use net_model::{Breach, Network};
 use std::alloc::AllocError;
-use upp_curve::fraction128::Frac;
 
 fn push_end(into: &mut Vec<u8>, end: &Frac) -> Result<(), AllocError>
     ensures { OnOk result (into.new.items ≡ into.old.items ++ (codes " end " ++ text_of end.now ++ codes "\n")) }

@@ -9,11 +9,11 @@ use crate::report::push_head;
 use crate::run_found::RunFound;
 use crate::run_lines::{push_breach_line, push_peak_line, push_run_line, push_worst_line};
 use crate::shown::ShownValue;
+use fraction128::Frac;
 use net_cells::cell_table::Table;
 use net_cells::{live_flow, queues};
 use net_model::Network;
 use std::alloc::{AllocError, Global};
-use upp_curve::fraction128::Frac;
 
 // The line of a flow, where it is live.
 fn push_live_worst<V: ShownValue, T: Table<V>>(

@@ -3,8 +3,8 @@
 ghost use Rattle.std.specs.Prelude.{◌≡◌, option_copied};
 ghost use Rattle.report_text.specs.Shown.{number_in};
 
+use fraction128::Ext;
 use net_cells::cell_table::{CellValue, Value};
-use upp_curve::fraction128::Ext;
 
 /// A value of a cell whose number can be read.
 pub trait ShownValue: CellValue {

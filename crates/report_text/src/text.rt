@@ -4,10 +4,10 @@ ghost use Rattle.std.specs.Prelude.{◌≡◌, ◌++◌, OnOk};
 ghost use Rattle.std.specs.Fmt.{decimal};
 ghost use Rattle.input_texts.specs.plain_text.Numbers.{number_text};
 
+use fraction128::Ext;
 use itoa::Buffer;
 use rational::Extended;
 use std::alloc::AllocError;
-use upp_curve::fraction128::Ext;
 
 /// Appends a text.
 pub fn push_text(into: &mut Vec<u8>, text: &str) -> Result<(), AllocError>

@@ -4,8 +4,8 @@ use Rattle.std.specs.Prelude.{Option, Some, None, ◌≡◌, ◌≢◌, ◌≤�
 use Rattle.std.proofs.Common.{arith, sym, ap, ◌∙◌, refl, inl, inr, subst}
 use Rattle.std.proofs.lemmas.Bool.{cases_Bool, cases_eq, eqb-true, eq-eqb, both_ways}
 use Rattle.std.proofs.lemmas.List.{get_or-set_same, length-set}
-use Rattle.min_plus.specs.rational.specs.Rational.{ℚ, int, ◌+ℚ◌}
-use Rattle.min_plus.specs.rational.proofs.Linear.{with1, with2, with3, with8}
+use Rattle.rational.specs.Rational.{ℚ, int, ◌+ℚ◌}
+use Rattle.rational.proofs.Linear.{with1, with2, with3, with8}
 use Rattle.run_laws.specs.Cards.{Card, size, whole, ServerStep, Arrives, Works, Leaves, Visits, time_of, of_queue}
 use Rattle.run_laws.specs.Servers.{Discipline, Drr, Server, Round, Under, ServerState, head_of, without_head}
 use Rattle.run_laws.specs.Next.{next, next_under, next_inside, next_visits, next_round, after, fits, visit_on, left_round, arrived_round, worked_round, visited_round}

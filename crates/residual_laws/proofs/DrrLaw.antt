@@ -3,14 +3,14 @@ use Rattle.std.specs.Prelude.{◌≡◌, ◌≢◌, ◌≤◌, ◌<◌, ◌+◌,
 use Rattle.std.proofs.Common.{arith, sym, ap, ap₂, ◌∙◌, refl, inl, inr, subst}
 use Rattle.std.proofs.lemmas.Bool.{cases_Bool, cases_eq, cases_lt, eqb-true, eqb-false, ltb-true, ltb-false, lt-ltb, le-ltb, le-leb, lt-leb}
 use Rattle.std.proofs.lemmas.List.Sums.{sum_by-cons}
-use Rattle.min_plus.specs.rational.specs.Rational.{ℚ, int, ◌+ℚ◌, ◌-ℚ◌, ◌*ℚ◌, ◌≤ℚ◌, ◌<ℚ◌}
-use Rattle.min_plus.specs.rational.specs.Extended.{Ext, ◌≤ₑ◌, ◌+ₑ◌}
-use Rattle.min_plus.specs.rational.specs.declared.Extended.TheVariants.{Fin, Inf}
-use Rattle.min_plus.specs.rational.proofs.Laws.{le_refl, le_trans, le_of_lt, le_or_lt, mul_le_mul, mul_le_mul_right, mul_add, add_mul, mul_sub, sub_mul, mul_comm, mul_assoc, mul_one}
-use Rattle.min_plus.specs.rational.proofs.MinMax.{max_q_le}
-use Rattle.min_plus.specs.rational.proofs.ExtendedOrder.{le_ext_trans, le_ext_refl, add_le_ext}
-use Rattle.min_plus.specs.rational.proofs.Whole.{le_of_mul}
-use Rattle.min_plus.specs.rational.proofs.Linear.{with1, with2, with3, with4, with5, with6, with7, with8}
+use Rattle.rational.specs.Rational.{ℚ, int, ◌+ℚ◌, ◌-ℚ◌, ◌*ℚ◌, ◌≤ℚ◌, ◌<ℚ◌}
+use Rattle.rational.specs.Extended.{Ext, ◌≤ₑ◌, ◌+ₑ◌}
+use Rattle.rational.specs.declared.Extended.TheVariants.{Fin, Inf}
+use Rattle.rational.proofs.Laws.{le_refl, le_trans, le_of_lt, le_or_lt, mul_le_mul, mul_le_mul_right, mul_add, add_mul, mul_sub, sub_mul, mul_comm, mul_assoc, mul_one}
+use Rattle.rational.proofs.MinMax.{max_q_le}
+use Rattle.rational.proofs.ExtendedOrder.{le_ext_trans, le_ext_refl, add_le_ext}
+use Rattle.rational.proofs.Whole.{le_of_mul}
+use Rattle.rational.proofs.Linear.{with1, with2, with3, with4, with5, with6, with7, with8}
 use Rattle.min_plus.specs.Pointwise.{excess, scaled}
 use Rattle.run_laws.specs.Cards.{Class, all, of_queue, before_queue, whole, ServerStep, Arrives, Works, Leaves, Visits}
 use Rattle.run_laws.proofs.Always.{AreAlwaysParts, always_all}

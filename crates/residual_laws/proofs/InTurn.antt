@@ -2,15 +2,15 @@
 -- and of what any server leaves.
 use Rattle.std.specs.Prelude.{◌≡◌, ℕ, pos, List}
 use Rattle.std.proofs.Common.{arith, refl, inl, inr, subst}
-use Rattle.min_plus.specs.rational.specs.Rational.{ℚ, int, ◌+ℚ◌, ◌-ℚ◌, ◌≤ℚ◌, ◌<ℚ◌}
-use Rattle.min_plus.specs.rational.specs.MinMax.{max_q}
-use Rattle.min_plus.specs.rational.specs.Extended.{Ext, ◌≤ₑ◌, ◌+ₑ◌}
-use Rattle.min_plus.specs.rational.specs.declared.Extended.TheVariants.{Fin, Inf}
-use Rattle.min_plus.specs.rational.proofs.MinMax.{max_q_le}
-use Rattle.min_plus.specs.rational.proofs.Bounds.{smallest}
-use Rattle.min_plus.specs.rational.proofs.ExtendedOrder.{le_ext_trans, le_ext_refl, add_le_ext}
-use Rattle.min_plus.specs.rational.proofs.Laws.{le_refl, le_trans, le_of_lt, le_or_lt, antisym}
-use Rattle.min_plus.specs.rational.proofs.Linear.{with1, with2, with3, with4, with6, with7, with8}
+use Rattle.rational.specs.Rational.{ℚ, int, ◌+ℚ◌, ◌-ℚ◌, ◌≤ℚ◌, ◌<ℚ◌}
+use Rattle.rational.specs.MinMax.{max_q}
+use Rattle.rational.specs.Extended.{Ext, ◌≤ₑ◌, ◌+ₑ◌}
+use Rattle.rational.specs.declared.Extended.TheVariants.{Fin, Inf}
+use Rattle.rational.proofs.MinMax.{max_q_le}
+use Rattle.rational.proofs.Bounds.{smallest}
+use Rattle.rational.proofs.ExtendedOrder.{le_ext_trans, le_ext_refl, add_le_ext}
+use Rattle.rational.proofs.Laws.{le_refl, le_trans, le_of_lt, le_or_lt, antisym}
+use Rattle.rational.proofs.Linear.{with1, with2, with3, with4, with6, with7, with8}
 use Rattle.min_plus.specs.Pointwise.{excess}
 use Rattle.run_laws.specs.Cards.{whole, Class, all, ServerStep}
 use Rattle.run_laws.proofs.Always.{AreAlwaysParts}

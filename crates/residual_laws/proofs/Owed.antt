@@ -3,10 +3,10 @@
 use Rattle.std.specs.Prelude.{◌<◌, ◌≤◌, ℕ, List, length, get_or, sum}
 use Rattle.std.proofs.Common.{arith}
 use Rattle.std.proofs.lemmas.List.Sums.{get_or-le-sum_by}
-use Rattle.min_plus.specs.rational.specs.Rational.{ℚ, ◌+ℚ◌, ◌-ℚ◌, ◌*ℚ◌, ◌≤ℚ◌}
-use Rattle.min_plus.specs.rational.proofs.Laws.{mul_nonneg}
-use Rattle.min_plus.specs.rational.proofs.Linear.{with2, sub_nonneg}
-use Rattle.min_plus.specs.rational.proofs.Quotients.{div_nonneg}
+use Rattle.rational.specs.Rational.{ℚ, ◌+ℚ◌, ◌-ℚ◌, ◌*ℚ◌, ◌≤ℚ◌}
+use Rattle.rational.proofs.Laws.{mul_nonneg}
+use Rattle.rational.proofs.Linear.{with2, sub_nonneg}
+use Rattle.rational.proofs.Quotients.{div_nonneg}
 use Rattle.min_plus.specs.Functions.{zero_q}
 use Rattle.run_laws.specs.Cards.{whole}
 use Rattle.run_laws.proofs.Sizes.{whole_nonneg, whole_le, whole_lt}

@@ -2,11 +2,11 @@
 use Rattle.std.specs.Prelude.{Option, Some, None, ◌≡◌, ◌≤◌, ◌<◌, ℕ, zero, suc, pos, ◌==◌, ltb, leb, true, false, ◌&&◌, ◌||◌, List, ◌∷◌, ◌++◌}
 use Rattle.std.proofs.Common.{arith, sym, ap, ◌∙◌, refl, inl, inr, subst, append_assoc}
 use Rattle.std.proofs.lemmas.Bool.{cases_Bool, cases_eq, eqb-true, leb-true, le-ltb, ltb-true, lt-ltb, le-leb, lt-leb, leb-false, eqb-false, ltb-false}
-use Rattle.min_plus.specs.rational.specs.Rational.{ℚ, int, ◌+ℚ◌, ◌≤ℚ◌, ◌<ℚ◌}
-use Rattle.min_plus.specs.rational.proofs.Over.{le_q_in, lt_q_in}
-use Rattle.min_plus.specs.rational.proofs.MinMax.{lt_q_not}
-use Rattle.min_plus.specs.rational.proofs.Laws.{le_refl, le_trans, le_of_lt}
-use Rattle.min_plus.specs.rational.proofs.Linear.{with4, with7}
+use Rattle.rational.specs.Rational.{ℚ, int, ◌+ℚ◌, ◌≤ℚ◌, ◌<ℚ◌}
+use Rattle.rational.proofs.Over.{le_q_in, lt_q_in}
+use Rattle.rational.proofs.MinMax.{lt_q_not}
+use Rattle.rational.proofs.Laws.{le_refl, le_trans, le_of_lt}
+use Rattle.rational.proofs.Linear.{with4, with7}
 use Rattle.run_laws.specs.Cards.{Card, Class, all, of_queue, before_queue, after_queue, ServerStep, Works, time_of}
 use Rattle.run_laws.proofs.Always.{AreAlwaysParts}
 use Rattle.run_laws.specs.Servers.{Discipline, Priority, Server, Round, ServerState, head_of, start}

@@ -1,15 +1,15 @@
 -- A class of packets is served by what all others leave: it is the law of classes in turn with none after the two.
 use Rattle.std.specs.Prelude.{◌≡◌, pos, false, List, [], ◌∷◌}
 use Rattle.std.proofs.Common.{arith, sym, ap, ◌∙◌, refl}
-use Rattle.min_plus.specs.rational.specs.Rational.{ℚ, int, ◌+ℚ◌, ◌-ℚ◌, ◌≤ℚ◌}
-use Rattle.min_plus.specs.rational.specs.MinMax.{max_q}
-use Rattle.min_plus.specs.rational.specs.Extended.{Ext}
-use Rattle.min_plus.specs.rational.specs.declared.Extended.TheVariants.{Fin, Inf}
-use Rattle.min_plus.specs.rational.proofs.Bounds.{same_supremum}
-use Rattle.min_plus.specs.rational.proofs.ExtendedOrder.{same_le_ext}
-use Rattle.min_plus.specs.rational.proofs.Laws.{le_refl}
-use Rattle.min_plus.specs.rational.proofs.Linear.{with1, with2}
-use Rattle.min_plus.specs.rational.proofs.MinMax.{max_q_right, max_q_ge_left}
+use Rattle.rational.specs.Rational.{ℚ, int, ◌+ℚ◌, ◌-ℚ◌, ◌≤ℚ◌}
+use Rattle.rational.specs.MinMax.{max_q}
+use Rattle.rational.specs.Extended.{Ext}
+use Rattle.rational.specs.declared.Extended.TheVariants.{Fin, Inf}
+use Rattle.rational.proofs.Bounds.{same_supremum}
+use Rattle.rational.proofs.ExtendedOrder.{same_le_ext}
+use Rattle.rational.proofs.Laws.{le_refl}
+use Rattle.rational.proofs.Linear.{with1, with2}
+use Rattle.rational.proofs.MinMax.{max_q_right, max_q_ge_left}
 use Rattle.min_plus.specs.Functions.{UpTo}
 use Rattle.min_plus.specs.Pointwise.{excess}
 use Rattle.run_laws.specs.Cards.{Class, all, whole, ServerStep, Arrives, Works, Leaves, Visits}

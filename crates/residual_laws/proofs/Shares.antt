@@ -4,17 +4,17 @@ use Rattle.std.proofs.Common.{arith, sym, ap, ◌∙◌, refl, inl, inr, subst, 
 use Rattle.std.proofs.lemmas.Bool.{cases_Bool, cases_eq, eqb-true, ne_eqb}
 use Rattle.std.proofs.lemmas.List.{length-map}
 use native.Mathlib.Nat.{mul-le-mul_right}
-use Rattle.min_plus.specs.rational.specs.Rational.{ℚ, int, ◌+ℚ◌, ◌-ℚ◌, ◌≤ℚ◌, ◌<ℚ◌}
-use Rattle.min_plus.specs.rational.proofs.Laws.{le_refl, le_trans, le_of_lt}
-use Rattle.min_plus.specs.rational.proofs.Linear.{with2, with3, with6, with7, with8}
+use Rattle.rational.specs.Rational.{ℚ, int, ◌+ℚ◌, ◌-ℚ◌, ◌≤ℚ◌, ◌<ℚ◌}
+use Rattle.rational.proofs.Laws.{le_refl, le_trans, le_of_lt}
+use Rattle.rational.proofs.Linear.{with2, with3, with6, with7, with8}
 use Rattle.run_laws.specs.Cards.{Card, Class, size, whole, ServerStep, Arrives, Works, Leaves, Visits, time_of, of_queue}
 use Rattle.run_laws.specs.Servers.{Discipline, Drr, Server, Round, Under, ServerState, start, head_of}
 use Rattle.run_laws.specs.Next.{next, next_round, next_inside, next_under, after}
 use Rattle.run_laws.specs.Allows.{AllAllowed, IsLawfulView}
 use Rattle.run_laws.specs.Counts.{total, arrives, leaves, works, before, upto, arrived, worked, departed}
 use Rattle.run_laws.specs.Premises.{KeepsSizes}
-use Rattle.min_plus.specs.rational.proofs.Over.{le_q_in, lt_q_in}
-use Rattle.min_plus.specs.rational.proofs.MinMax.{lt_q_not}
+use Rattle.rational.proofs.Over.{le_q_in, lt_q_in}
+use Rattle.rational.proofs.MinMax.{lt_q_not}
 use Rattle.run_laws.proofs.Sums.{when_true, when_false, when_most, Each, each_map, each-append, total-append}
 use Rattle.run_laws.proofs.Sizes.{size_nonneg, whole_nonneg, whole_sum, whole_le}
 use Rattle.run_laws.proofs.Counts.{upto_before, worked_rises}

@@ -1,8 +1,8 @@
 -- What a queue of a priority server is served. (Le Boudec and Thiran, non-preemptive priority.)
 use Rattle.std.specs.Prelude.{◌≡◌, ℕ, pos, List}
-use Rattle.min_plus.specs.rational.specs.Rational.{ℚ, int, ◌≤ℚ◌}
-use Rattle.min_plus.specs.rational.specs.Extended.{Ext}
-use Rattle.min_plus.specs.rational.specs.declared.Extended.TheVariants.{Fin}
+use Rattle.rational.specs.Rational.{ℚ, int, ◌≤ℚ◌}
+use Rattle.rational.specs.Extended.{Ext}
+use Rattle.rational.specs.declared.Extended.TheVariants.{Fin}
 use Rattle.min_plus.specs.Pointwise.{excess}
 use Rattle.min_plus.specs.Running.{IsRunningSupremum}
 use Rattle.run_laws.specs.Cards.{whole, of_queue, before_queue, after_queue, ServerStep}

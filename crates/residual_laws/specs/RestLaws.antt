@@ -3,8 +3,8 @@
 -- server is empty: where the class alone has nothing there, others may wait, and nothing bounds the work on what they
 -- brought. (Le Boudec and Thiran, section 6.2: blind multiplexing.)
 use Rattle.std.specs.Prelude.{pos, not, List}
-use Rattle.min_plus.specs.rational.specs.Rational.{ℚ, int, ◌≤ℚ◌, ◌<ℚ◌}
-use Rattle.min_plus.specs.rational.specs.Extended.{Ext}
+use Rattle.rational.specs.Rational.{ℚ, int, ◌≤ℚ◌, ◌<ℚ◌}
+use Rattle.rational.specs.Extended.{Ext}
 use Rattle.min_plus.specs.Pointwise.{excess}
 use Rattle.min_plus.specs.Running.{IsRunningSupremum}
 use Rattle.run_laws.specs.Cards.{Class, all, ServerStep}

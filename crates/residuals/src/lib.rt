@@ -7,6 +7,3 @@ pub mod fifo;
 pub mod left;
 pub mod packetiser;
 pub mod priority;
-
-pub use plain_operators::curve_call;
-pub use residual_laws;

@@ -3,18 +3,18 @@
 use Rattle.std.specs.Prelude.{◌≡◌, ℕ, suc, ◌<◌, ◌≤◌, pos, Bool, true, false, cond}
 use Rattle.std.proofs.Common.{arith, refl, sym, ap, ◌∙◌, subst, inl, inr}
 use Rattle.std.proofs.lemmas.Bool.{cases_lt}
-use Rattle.min_plus.specs.rational.specs.Rational.{ℚ, int, ◌+ℚ◌, ◌-ℚ◌, ◌*ℚ◌, ◌/ℚ◌, ◌≤ℚ◌, ◌<ℚ◌, le_q}
-use Rattle.min_plus.specs.rational.specs.MinMax.{max_q}
-use Rattle.min_plus.specs.rational.specs.Extended.{Ext, ◌≤ₑ◌}
-use Rattle.min_plus.specs.rational.specs.declared.Extended.TheVariants.{Fin}
-use Rattle.min_plus.specs.rational.specs.Whole.{whole_part}
-use Rattle.min_plus.specs.rational.proofs.Integers.{nat_le, nat_lt_out, nat_nonneg}
-use Rattle.min_plus.specs.rational.proofs.Laws.{div_mul, not_zero, le_or_lt, le_of_lt, le_trans, le_lt_trans, le_refl, le_of_mul, mul_zero, mul_sub, mul_le_mul, mul_le_mul_right}
-use Rattle.min_plus.specs.rational.proofs.Linear.{with2, with3, with4, with5}
-use Rattle.min_plus.specs.rational.proofs.MinMax.{max_q_ge_left, max_q_ge_right, max_q_le, max_q_mono}
-use Rattle.min_plus.specs.rational.proofs.Over.{le_q_in}
-use Rattle.min_plus.specs.rational.proofs.Quotients.{div_mono, div_nonneg}
-use Rattle.min_plus.specs.rational.proofs.Whole.{whole_le, whole_gt, whole_small}
+use Rattle.rational.specs.Rational.{ℚ, int, ◌+ℚ◌, ◌-ℚ◌, ◌*ℚ◌, ◌/ℚ◌, ◌≤ℚ◌, ◌<ℚ◌, le_q}
+use Rattle.rational.specs.MinMax.{max_q}
+use Rattle.rational.specs.Extended.{Ext, ◌≤ₑ◌}
+use Rattle.rational.specs.declared.Extended.TheVariants.{Fin}
+use Rattle.rational.specs.Whole.{whole_part}
+use Rattle.rational.proofs.Integers.{nat_le, nat_lt_out, nat_nonneg}
+use Rattle.rational.proofs.Laws.{div_mul, not_zero, le_or_lt, le_of_lt, le_trans, le_lt_trans, le_refl, le_of_mul, mul_zero, mul_sub, mul_le_mul, mul_le_mul_right}
+use Rattle.rational.proofs.Linear.{with2, with3, with4, with5}
+use Rattle.rational.proofs.MinMax.{max_q_ge_left, max_q_ge_right, max_q_le, max_q_mono}
+use Rattle.rational.proofs.Over.{le_q_in}
+use Rattle.rational.proofs.Quotients.{div_mono, div_nonneg}
+use Rattle.rational.proofs.Whole.{whole_le, whole_gt, whole_small}
 use Rattle.min_plus.specs.Formulas.{stair_value, rate_latency_value, gate_value}
 use Rattle.min_plus.specs.Functions.{zero_q}
 use Rattle.min_plus.specs.Pointwise.{excess}

@@ -1,7 +1,7 @@
 -- A run that is lawful over servers is lawful over servers of the same disciplines that are as fast or faster.
 use Rattle.std.specs.Prelude.{Some, None, ◌≡◌, ℕ, zero, suc, ◌<◌, List, [], ◌∷◌, All, length, map, get_or, set}
 use Rattle.std.proofs.Common.{refl, ap, ◌∙◌, subst, arith}
-use Rattle.min_plus.specs.rational.specs.Rational.{ℚ, ◌<ℚ◌}
+use Rattle.rational.specs.Rational.{ℚ, ◌<ℚ◌}
 use Rattle.run_laws.specs.Allows.{Allows, MayArrive, MayWork, MayVisit, KeepsPace, next_card, IsComplete}
 use Rattle.run_laws.specs.Cards.{ServerStep, Arrives, Works, Leaves, Visits}
 use Rattle.run_laws.specs.Lawful.{RunState, AllowsInRun, run_start, state_at}

@@ -7,10 +7,10 @@ use Rattle.std.proofs.lemmas.List.Elements.{All-get_or}
 use Rattle.std.proofs.lemmas.Option.{slice_get-get_or}
 use Rattle.std.proofs.lemmas.Nat.{div-add-mod', mod_below}
 use Rattle.std.proofs.Math.Nat.{mul-le-mul_left}
-use Rattle.min_plus.specs.rational.specs.Rational.{ℚ, ◌*ℚ◌, ◌≤ℚ◌}
-use Rattle.min_plus.specs.rational.specs.Extended.{◌≤ₑ◌}
-use Rattle.min_plus.specs.rational.proofs.ExtendedOrder.{le_inf}
-use Rattle.min_plus.specs.rational.proofs.Integers.{nat_nonneg}
+use Rattle.rational.specs.Rational.{ℚ, ◌*ℚ◌, ◌≤ℚ◌}
+use Rattle.rational.specs.Extended.{◌≤ₑ◌}
+use Rattle.rational.proofs.ExtendedOrder.{le_inf}
+use Rattle.rational.proofs.Integers.{nat_nonneg}
 use Rattle.min_plus.specs.Formulas.{stair_value}
 use Rattle.run_laws.proofs.Weaker.{weaker_premises_kept}
 use Rattle.run_laws.specs.Cards.{whole}

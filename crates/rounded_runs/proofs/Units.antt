@@ -5,10 +5,10 @@ use Rattle.std.proofs.lemmas.Bool.{cases_lt}
 use Rattle.std.proofs.lemmas.Int.{ints}
 use Rattle.std.proofs.lemmas.Nat.{div-add-mod', mod_below}
 use Rattle.std.proofs.Math.Nat.{mul-le-mul_left}
-use Rattle.min_plus.specs.rational.specs.Rational.{ℚ, frac, ◌*ℚ◌, ◌≤ℚ◌, ◌<ℚ◌}
-use Rattle.min_plus.specs.rational.proofs.Integers.{mul_whole}
-use Rattle.min_plus.specs.rational.proofs.Over.{le_frac, lt_frac}
-use Rattle.min_plus.specs.rational.proofs.Laws.{antisym}
+use Rattle.rational.specs.Rational.{ℚ, frac, ◌*ℚ◌, ◌≤ℚ◌, ◌<ℚ◌}
+use Rattle.rational.proofs.Integers.{mul_whole}
+use Rattle.rational.proofs.Over.{le_frac, lt_frac}
+use Rattle.rational.proofs.Laws.{antisym}
 use Rattle.min_plus.specs.Functions.{zero_q, whole}
 use Rattle.arrival_lines.specs.Grid.{grain_a_second, picosecond, speed, micros}
 use Rattle.table_cells.specs.declared.amount.Amount.{Amount}

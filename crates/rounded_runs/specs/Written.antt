@@ -1,8 +1,8 @@
 -- Runs of the network that the rows of tables write, exact, and networks that have its numbers rounded to their grid.
 use Rattle.std.specs.Prelude.{Option, Some, None, ◌≡◌, ℕ, pos, pred, List, All, map, get_or, slice_get}
-use Rattle.min_plus.specs.rational.specs.Rational.{ℚ, frac, ◌*ℚ◌}
-use Rattle.min_plus.specs.rational.specs.Extended.{Ext}
-use Rattle.min_plus.specs.rational.specs.declared.Extended.TheVariants.{Fin}
+use Rattle.rational.specs.Rational.{ℚ, frac, ◌*ℚ◌}
+use Rattle.rational.specs.Extended.{Ext}
+use Rattle.rational.specs.declared.Extended.TheVariants.{Fin}
 use Rattle.min_plus.specs.Formulas.{stair_value, rate_latency_value, gate_value}
 use Rattle.min_plus.specs.Pointwise.{excess}
 use Rattle.run_laws.specs.Cards.{whole}

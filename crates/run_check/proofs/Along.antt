@@ -2,12 +2,12 @@
 use Rattle.std.proofs.Common.{◌≡◌, ℕ, zero, suc, ◌≤◌, ◌+◌, List, [], ◌∷◌, ◌++◌, length, take, sym, ap, ◌∙◌, subst, arith, Some, None, append_assoc, take_all}
 use Rattle.std.specs.Prelude.{Option, slice_get, Result, Ok, Err, IfOk}
 use Rattle.std.proofs.lemmas.Option.{slice_get_within}
-use Rattle.upp_limits.specs.rational.specs.Rational.{ℚ}
-use Rattle.net_model.specs.run_laws.specs.declared.steps.Step.{Step}
-use Rattle.net_model.specs.run_laws.specs.Runs.{SpecRun}
-use Rattle.net_model.specs.run_laws.specs.Routes.{Routes}
-use Rattle.net_model.specs.run_laws.specs.Lawful.{RunState, next_run, run_start, after_run}
-use Rattle.net_model.specs.run_laws.proofs.Views.{after_more}
+use Rattle.rational.specs.Rational.{ℚ}
+use Rattle.run_laws.specs.declared.steps.Step.{Step}
+use Rattle.run_laws.specs.Runs.{SpecRun}
+use Rattle.run_laws.specs.Routes.{Routes}
+use Rattle.run_laws.specs.Lawful.{RunState, next_run, run_start, after_run}
+use Rattle.run_laws.proofs.Views.{after_more}
 use Rattle.run_check.specs.declared.broken_laws.law.Law.{Law}
 use Rattle.run_check.specs.broken_laws.Recorded.{IsRecordedStep, AreRecorded}
 use Rattle.run_check.specs.broken_laws.FirstBroken.{BreaksNone, NoneBreaks, state_before}

@@ -3,15 +3,15 @@ use Rattle.std.proofs.Common.{◌≡◌, ℕ, zero, suc, ◌<◌, List, [], ◌�
 use Rattle.std.specs.Prelude.{Option, slice_get, Bool, IsTrue, not, ◌↔◌, true, false}
 use Rattle.std.specs.List.{Any, All}
 use Rattle.std.proofs.lemmas.Option.{slice_get-get_or, get_or_from_slice_get}
-use Rattle.upp_limits.specs.rational.specs.Rational.{ℚ, ◌≤ℚ◌, ◌<ℚ◌}
-use Rattle.upp_limits.specs.rational.proofs.Laws.{le_of_not_lt, lt_irrefl, lt_le_trans}
-use Rattle.upp_limits.specs.rational.proofs.Linear.{with3}
-use Rattle.net_model.specs.run_laws.specs.declared.steps.Step.{Step}
-use Rattle.net_model.specs.run_laws.specs.Cards.{size}
-use Rattle.net_model.specs.run_laws.specs.Servers.{ServerState, Under, Fifo, start, done}
-use Rattle.net_model.specs.run_laws.specs.Allows.{IsComplete}
-use Rattle.net_model.specs.run_laws.specs.Routes.{Routes}
-use Rattle.net_model.specs.run_laws.specs.Lawful.{Due, RunState, state_at}
+use Rattle.rational.specs.Rational.{ℚ, ◌≤ℚ◌, ◌<ℚ◌}
+use Rattle.rational.proofs.Laws.{le_of_not_lt, lt_irrefl, lt_le_trans}
+use Rattle.rational.proofs.Linear.{with3}
+use Rattle.run_laws.specs.declared.steps.Step.{Step}
+use Rattle.run_laws.specs.Cards.{size}
+use Rattle.run_laws.specs.Servers.{ServerState, Under, Fifo, start, done}
+use Rattle.run_laws.specs.Allows.{IsComplete}
+use Rattle.run_laws.specs.Routes.{Routes}
+use Rattle.run_laws.specs.Lawful.{Due, RunState, state_at}
 use Rattle.net_model.proofs.stated_runs.Lists.{at_in, in_contains}
 use Rattle.run_check.specs.declared.broken_laws.place.Place.{Place}
 use Rattle.run_check.specs.declared.broken_laws.place.Place.TheVariants.{At, OnLink, Gone}

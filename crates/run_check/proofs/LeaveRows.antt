@@ -2,15 +2,15 @@
 use Rattle.std.proofs.Common.{◌≡◌, ℕ, ◌<◌, ◌≤◌, List, length, set, get_or, refl, sym, ap, ◌∙◌, subst, arith, inl, inr, Some, None, true, false}
 use Rattle.std.specs.Prelude.{Option, ◌↔◌, Bool, IsTrue}
 use Rattle.std.proofs.lemmas.List.{get_or-map, length-map}
-use Rattle.upp_limits.specs.rational.specs.Rational.{ℚ, ◌+ℚ◌}
-use Rattle.net_model.specs.run_laws.specs.declared.steps.Step.{Step}
-use Rattle.net_model.specs.run_laws.specs.declared.steps.Step.TheVariants.{Leave}
-use Rattle.net_model.specs.run_laws.specs.Cards.{Card, size}
-use Rattle.net_model.specs.run_laws.specs.Servers.{Under}
-use Rattle.net_model.specs.run_laws.specs.Allows.{MayLeave}
-use Rattle.net_model.specs.run_laws.specs.Routes.{Routes, server_at, route_of, link_at, server_after}
-use Rattle.net_model.specs.run_laws.specs.Views.{Entry, entry_of, card_of}
-use Rattle.net_model.specs.run_laws.specs.Lawful.{RunState, state_at}
+use Rattle.rational.specs.Rational.{ℚ, ◌+ℚ◌}
+use Rattle.run_laws.specs.declared.steps.Step.{Step}
+use Rattle.run_laws.specs.declared.steps.Step.TheVariants.{Leave}
+use Rattle.run_laws.specs.Cards.{Card, size}
+use Rattle.run_laws.specs.Servers.{Under}
+use Rattle.run_laws.specs.Allows.{MayLeave}
+use Rattle.run_laws.specs.Routes.{Routes, server_at, route_of, link_at, server_after}
+use Rattle.run_laws.specs.Views.{Entry, entry_of, card_of}
+use Rattle.run_laws.specs.Lawful.{RunState, state_at}
 use Rattle.run_check.specs.declared.broken_laws.law.Law.{Law}
 use Rattle.run_check.specs.declared.broken_laws.law.Law.TheVariants.{L1, L2, L3, L4, L5, L6, L7, L8, L9}
 use Rattle.run_check.specs.broken_laws.FirstBroken.{number_of, BreaksNone, BreaksFirst}

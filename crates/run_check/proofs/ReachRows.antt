@@ -2,15 +2,15 @@
 use Rattle.std.proofs.Common.{◌≡◌, ℕ, zero, suc, ◌<◌, ◌≤◌, List, [], ◌∷◌, ◌++◌, length, set, get_or, refl, sym, ap, ◌∙◌, subst, arith, inl, inr, ◌⊎◌, Some, None, true, false}
 use Rattle.std.specs.Prelude.{◌≢◌, ◌↔◌, slice_get, Bool, IsTrue}
 use Rattle.std.proofs.lemmas.List.{map_push}
-use Rattle.upp_limits.specs.rational.specs.Rational.{ℚ, ◌<ℚ◌}
-use Rattle.net_model.specs.run_laws.specs.declared.steps.Step.{Step}
-use Rattle.net_model.specs.run_laws.specs.declared.steps.Step.TheVariants.{Enter, Reach}
-use Rattle.net_model.specs.run_laws.specs.Cards.{Card}
-use Rattle.net_model.specs.run_laws.specs.Servers.{queue_count}
-use Rattle.net_model.specs.run_laws.specs.Routes.{Routes, server_at, route_of, queue_at, first_server}
-use Rattle.net_model.specs.run_laws.specs.Views.{Entry, card_of}
-use Rattle.net_model.specs.run_laws.specs.Lawful.{RunState, state_at}
-use Rattle.net_model.specs.run_laws.proofs.Entries.{entry_last}
+use Rattle.rational.specs.Rational.{ℚ, ◌<ℚ◌}
+use Rattle.run_laws.specs.declared.steps.Step.{Step}
+use Rattle.run_laws.specs.declared.steps.Step.TheVariants.{Enter, Reach}
+use Rattle.run_laws.specs.Cards.{Card}
+use Rattle.run_laws.specs.Servers.{queue_count}
+use Rattle.run_laws.specs.Routes.{Routes, server_at, route_of, queue_at, first_server}
+use Rattle.run_laws.specs.Views.{Entry, card_of}
+use Rattle.run_laws.specs.Lawful.{RunState, state_at}
+use Rattle.run_laws.proofs.Entries.{entry_last}
 use Rattle.queue_sched.specs.Turns.{IsCard}
 use Rattle.queue_sched.specs.Waiting.{HasPacket}
 use Rattle.net_model.proofs.stated_runs.Lists.{In, contains_in, in_contains}

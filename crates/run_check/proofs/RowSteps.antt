@@ -2,16 +2,16 @@
 use Rattle.std.proofs.Common.{◌≡◌, ℕ, refl, sym, ap, ◌∙◌, subst, arith, inl, inr, ◌⊎◌, Some, None, true, false}
 use Rattle.std.specs.Prelude.{Option, ◌≢◌, ◌↔◌, Bool, IsTrue, pos}
 use Rattle.std.proofs.lemmas.Bool.{cases_eq}
-use Rattle.upp_limits.specs.rational.specs.Rational.{ℚ, int, neg_ℚ, ◌+ℚ◌, ◌-ℚ◌, ◌/ℚ◌, ◌≤ℚ◌, ◌<ℚ◌}
-use Rattle.upp_limits.specs.rational.specs.Ratio.{SumFits}
-use Rattle.upp_limits.specs.rational.proofs.Laws.{le_of_not_lt, lt_of_not_le, lt_irrefl}
-use Rattle.upp_limits.specs.rational.proofs.Linear.{with2, with3, with4, with5}
-use Rattle.upp_limits.specs.rational.proofs.Quotients.{lt_div}
-use Rattle.net_model.specs.run_laws.specs.Cards.{Card, size, Works}
-use Rattle.net_model.specs.run_laws.specs.Servers.{Discipline, Under, ServerState, done, done_so_far}
-use Rattle.net_model.specs.run_laws.specs.Next.{next}
-use Rattle.net_model.specs.run_laws.specs.Allows.{next_card}
-use Rattle.net_model.specs.run_laws.proofs.Heads.{same_some}
+use Rattle.rational.specs.Rational.{ℚ, int, neg_ℚ, ◌+ℚ◌, ◌-ℚ◌, ◌/ℚ◌, ◌≤ℚ◌, ◌<ℚ◌}
+use Rattle.rational.specs.Ratio.{SumFits}
+use Rattle.rational.proofs.Laws.{le_of_not_lt, lt_of_not_le, lt_irrefl}
+use Rattle.rational.proofs.Linear.{with2, with3, with4, with5}
+use Rattle.rational.proofs.Quotients.{lt_div}
+use Rattle.run_laws.specs.Cards.{Card, size, Works}
+use Rattle.run_laws.specs.Servers.{Discipline, Under, ServerState, done, done_so_far}
+use Rattle.run_laws.specs.Next.{next}
+use Rattle.run_laws.specs.Allows.{next_card}
+use Rattle.run_laws.proofs.Heads.{same_some}
 use Rattle.net_model.specs.stated_runs.TimeGrids.{HasRoom, IsTime}
 use Rattle.net_model.proofs.stated_runs.GridTimes.{difference_fits, rest_is_time}
 use Rattle.sim_servers.specs.Queues.{served_by, StandFor, work_goes_on}

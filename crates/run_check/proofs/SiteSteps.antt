@@ -2,14 +2,14 @@
 use Rattle.std.proofs.Common.{◌≡◌, ℕ, [], refl, sym, ap, ◌∙◌, subst, inl, inr, Some, None, true, false}
 use Rattle.std.specs.Prelude.{Option, ◌≢◌, ◌↔◌, Bool, ◌==◌, IsTrue, pos}
 use Rattle.std.proofs.lemmas.Bool.{cases_eq, eq-eqb, ne_eqb}
-use Rattle.upp_limits.specs.rational.specs.Rational.{ℚ, int, ◌≤ℚ◌, ◌<ℚ◌}
-use Rattle.upp_limits.specs.rational.proofs.Laws.{lt_irrefl, lt_le_trans}
-use Rattle.upp_limits.specs.rational.proofs.Compared.{not_less_out}
-use Rattle.net_model.specs.run_laws.specs.Cards.{Card, Works, Visits}
-use Rattle.net_model.specs.run_laws.specs.Servers.{Discipline, Under, ServerState}
-use Rattle.net_model.specs.run_laws.specs.Next.{next}
-use Rattle.net_model.specs.run_laws.specs.Allows.{pick, MayVisit}
-use Rattle.net_model.specs.run_laws.proofs.Heads.{pick_is_head}
+use Rattle.rational.specs.Rational.{ℚ, int, ◌≤ℚ◌, ◌<ℚ◌}
+use Rattle.rational.proofs.Laws.{lt_irrefl, lt_le_trans}
+use Rattle.rational.proofs.Compared.{not_less_out}
+use Rattle.run_laws.specs.Cards.{Card, Works, Visits}
+use Rattle.run_laws.specs.Servers.{Discipline, Under, ServerState}
+use Rattle.run_laws.specs.Next.{next}
+use Rattle.run_laws.specs.Allows.{pick, MayVisit}
+use Rattle.run_laws.proofs.Heads.{pick_is_head}
 use Rattle.queue_sched.specs.Turns.{Starts as Begins, Sends}
 use Rattle.queue_sched.specs.declared.turn.Turn.TheVariants.{Visit}
 use Rattle.net_model.proofs.stated_runs.Unique.{no_visit, not_idle, visit_once}

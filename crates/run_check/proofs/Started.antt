@@ -4,13 +4,13 @@ use Rattle.std.specs.Prelude.{Option, ◌≢◌, pos, slice_get, AllPairs, if◌
 use Rattle.std.proofs.lemmas.Bool.{eq-eqb, ne_eqb}
 use Rattle.std.proofs.lemmas.List.{length-map, length_push}
 use Rattle.std.proofs.lemmas.Option.{slice_get_within, get_or_from_slice_get}
-use Rattle.upp_limits.specs.rational.specs.Rational.{ℚ, int, ◌≤ℚ◌}
-use Rattle.upp_limits.specs.rational.proofs.Laws.{le_refl}
-use Rattle.net_model.specs.run_laws.specs.Runs.{SpecRun}
-use Rattle.net_model.specs.run_laws.specs.Servers.{Fifo, Server, start}
-use Rattle.net_model.specs.run_laws.specs.Routes.{Route, server_at, PassesServer}
-use Rattle.net_model.specs.run_laws.specs.Lawful.{run_start}
-use Rattle.net_model.specs.run_laws.proofs.Views.{start_state}
+use Rattle.rational.specs.Rational.{ℚ, int, ◌≤ℚ◌}
+use Rattle.rational.proofs.Laws.{le_refl}
+use Rattle.run_laws.specs.Runs.{SpecRun}
+use Rattle.run_laws.specs.Servers.{Fifo, Server, start}
+use Rattle.run_laws.specs.Routes.{Route, server_at, PassesServer}
+use Rattle.run_laws.specs.Lawful.{run_start}
+use Rattle.run_laws.proofs.Views.{start_state}
 use Rattle.net_model.specs.Networks.{Net, NetServer, NetFlow}
 use Rattle.net_model.specs.NetRoutes.{routes_of, route_for, pace_for, server_for, hops_along}
 use Rattle.net_model.specs.Accepted.{IsAccepted}

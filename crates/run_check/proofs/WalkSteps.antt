@@ -4,17 +4,17 @@ use Rattle.std.specs.Prelude.{Option, ◌≢◌, slice_get}
 use Rattle.std.proofs.lemmas.Bool.{cases_eq}
 use Rattle.std.proofs.lemmas.List.{length_push, length-set}
 use Rattle.std.proofs.lemmas.Option.{slice_get_within}
-use Rattle.upp_limits.specs.rational.specs.Rational.{ℚ, ◌<ℚ◌}
-use Rattle.net_model.specs.run_laws.specs.declared.steps.Step.{Step}
-use Rattle.net_model.specs.run_laws.specs.declared.steps.Step.TheVariants.{Enter, Reach, Work, Leave, Visit}
-use Rattle.net_model.specs.run_laws.specs.Cards.{whole}
-use Rattle.net_model.specs.run_laws.specs.Servers.{ServerState}
-use Rattle.net_model.specs.run_laws.specs.Next.{next}
-use Rattle.net_model.specs.run_laws.specs.Routes.{Routes, server_at}
-use Rattle.net_model.specs.run_laws.specs.Views.{Entry, entry_of, entered_after, server_of, seen}
-use Rattle.net_model.specs.run_laws.specs.Lawful.{RunState, state_at, next_run}
-use Rattle.net_model.specs.run_laws.proofs.Entries.{entry_before, entry_last}
-use Rattle.net_model.specs.run_laws.proofs.Views.{own_state, other_state}
+use Rattle.rational.specs.Rational.{ℚ, ◌<ℚ◌}
+use Rattle.run_laws.specs.declared.steps.Step.{Step}
+use Rattle.run_laws.specs.declared.steps.Step.TheVariants.{Enter, Reach, Work, Leave, Visit}
+use Rattle.run_laws.specs.Cards.{whole}
+use Rattle.run_laws.specs.Servers.{ServerState}
+use Rattle.run_laws.specs.Next.{next}
+use Rattle.run_laws.specs.Routes.{Routes, server_at}
+use Rattle.run_laws.specs.Views.{Entry, entry_of, entered_after, server_of, seen}
+use Rattle.run_laws.specs.Lawful.{RunState, state_at, next_run}
+use Rattle.run_laws.proofs.Entries.{entry_before, entry_last}
+use Rattle.run_laws.proofs.Views.{own_state, other_state}
 use Rattle.net_model.specs.stated_runs.TimeGrids.{IsTime}
 use Rattle.sim_servers.proofs.sim_states.Kept.{set_same, set_other}
 use Rattle.run_check.specs.declared.broken_laws.law.Law.{Law}
@@ -126,7 +126,7 @@ timely σ end t n (inr (inl l)) = n (inr l)
 timely σ end t n (inr (inr l)) = l
 
 visit_none : (net : Routes) (end : ℚ) (before : List Step) (r : RunState) (s q : ℕ) (t : ℚ) → ¬ IsOut (state_at r s) end t
-    → Rattle.net_model.specs.run_laws.specs.Allows.MayVisit (server_at net s).discipline (state_at r s) q → BreaksNone net end before r (Visit s q t)
+    → Rattle.run_laws.specs.Allows.MayVisit (server_at net s).discipline (state_at r s) q → BreaksNone net end before r (Visit s q t)
 visit_none net end before r s q t n m L1 k = timely (state_at r s) end t n k
 visit_none net end before r s q t n m L2 k = k
 visit_none net end before r s q t n m L3 k = k

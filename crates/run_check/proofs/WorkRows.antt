@@ -2,20 +2,20 @@
 use Rattle.std.proofs.Common.{◌≡◌, ℕ, ◌<◌, ◌≤◌, List, length, get_or, refl, sym, ap, ◌∙◌, subst, arith, inl, inr, ◌⊎◌, Some, None, true, false}
 use Rattle.std.specs.Prelude.{Option, pos, slice_get, Bool, ◌||◌, nat_le}
 use Rattle.std.proofs.lemmas.Bool.{cases_eq}
-use Rattle.upp_limits.specs.rational.specs.Rational.{ℚ, int, ◌-ℚ◌, ◌<ℚ◌}
-use Rattle.upp_limits.specs.rational.proofs.Grid.{whole_int}
-use Rattle.upp_limits.specs.rational.proofs.Laws.{le_refl}
-use Rattle.upp_limits.specs.rational.proofs.Linear.{with1, with4}
-use Rattle.net_model.specs.run_laws.specs.declared.steps.Step.{Step}
-use Rattle.net_model.specs.run_laws.specs.Cards.{whole, size, Works}
-use Rattle.net_model.specs.run_laws.specs.Counts.{when}
-use Rattle.net_model.specs.run_laws.specs.Servers.{ServerState, Under, done}
-use Rattle.net_model.specs.run_laws.specs.Next.{next}
-use Rattle.net_model.specs.run_laws.specs.Allows.{next_card}
-use Rattle.net_model.specs.run_laws.specs.Routes.{Routes, server_at, route_of}
-use Rattle.net_model.specs.run_laws.specs.Views.{entry_of, card_of, hops_of}
-use Rattle.net_model.specs.run_laws.specs.Lawful.{RunState, state_at}
-use Rattle.net_model.specs.run_laws.proofs.Heads.{pick_is_head}
+use Rattle.rational.specs.Rational.{ℚ, int, ◌-ℚ◌, ◌<ℚ◌}
+use Rattle.rational.proofs.Grid.{whole_int}
+use Rattle.rational.proofs.Laws.{le_refl}
+use Rattle.rational.proofs.Linear.{with1, with4}
+use Rattle.run_laws.specs.declared.steps.Step.{Step}
+use Rattle.run_laws.specs.Cards.{whole, size, Works}
+use Rattle.run_laws.specs.Counts.{when}
+use Rattle.run_laws.specs.Servers.{ServerState, Under, done}
+use Rattle.run_laws.specs.Next.{next}
+use Rattle.run_laws.specs.Allows.{next_card}
+use Rattle.run_laws.specs.Routes.{Routes, server_at, route_of}
+use Rattle.run_laws.specs.Views.{entry_of, card_of, hops_of}
+use Rattle.run_laws.specs.Lawful.{RunState, state_at}
+use Rattle.run_laws.proofs.Heads.{pick_is_head}
 use Rattle.net_model.specs.stated_runs.TimeGrids.{HasRoom, IsTime}
 use Rattle.net_model.proofs.stated_runs.Lists.{head_in}
 use Rattle.run_check.specs.declared.broken_laws.law.Law.{Law}

@@ -1,5 +1,5 @@
 -- What is left at the end of a recorded run.
-use Rattle.upp_limits.specs.rational.specs.Rational.{ℚ, ◌≤ℚ◌}
+use Rattle.rational.specs.Rational.{ℚ, ◌≤ℚ◌}
 use Rattle.run_check.specs.declared.broken_laws.place.Place.{Place}
 use Rattle.run_check.specs.declared.broken_laws.place.Place.TheVariants.{At, OnLink, Gone}
 

@@ -1,6 +1,6 @@
 -- The sites of servers at which nothing has been.
 use Rattle.std.specs.Prelude.{Some, None, ◌≡◌, ℕ, List, length, slice_get}
-use Rattle.net_model.specs.run_laws.specs.Servers.{start}
+use Rattle.run_laws.specs.Servers.{start}
 use Rattle.net_model.specs.Networks.{NetServer}
 use Rattle.run_check.specs.declared.site.Site.{Site}
 use Rattle.run_check.specs.Sites.{IsSite}

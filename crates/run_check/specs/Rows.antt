@@ -1,9 +1,9 @@
 -- What one row does to the sites of all servers: that of its server changes.
 use Rattle.std.specs.Prelude.{Option, Some, None, ◌≡◌, ℕ, Bool, List, set, slice_get}
-use Rattle.upp_limits.specs.rational.specs.Rational.{ℚ}
-use Rattle.net_model.specs.run_laws.specs.Cards.{Card, Arrives}
-use Rattle.net_model.specs.run_laws.specs.Servers.{Discipline, ServerState}
-use Rattle.net_model.specs.run_laws.specs.Next.{next}
+use Rattle.rational.specs.Rational.{ℚ}
+use Rattle.run_laws.specs.Cards.{Card, Arrives}
+use Rattle.run_laws.specs.Servers.{Discipline, ServerState}
+use Rattle.run_laws.specs.Next.{next}
 use Rattle.queue_sched.specs.Turns.{IsCard}
 use Rattle.run_check.specs.declared.broken_laws.law.Law.{Law}
 use Rattle.run_check.specs.declared.site.Piece.{Piece}

@@ -1,11 +1,11 @@
 -- One server of a recorded run, as the walk over its rows keeps it.
 use Rattle.std.specs.Prelude.{Option, Some, None, ◌≡◌, ◌≢◌, ◌⊎◌, ℕ, pos, ◌<◌, Bool, true, false}
-use Rattle.upp_limits.specs.rational.specs.Rational.{ℚ, int, neg_ℚ, ◌-ℚ◌, ◌/ℚ◌, ◌≤ℚ◌, ◌<ℚ◌}
-use Rattle.upp_limits.specs.rational.specs.Ratio.{IsSmall, SumFits}
-use Rattle.net_model.specs.run_laws.specs.Cards.{Card, size, Works, Leaves, Visits}
-use Rattle.net_model.specs.run_laws.specs.Servers.{Discipline, queue_count, Under, ServerState, done}
-use Rattle.net_model.specs.run_laws.specs.Next.{next}
-use Rattle.net_model.specs.run_laws.specs.Allows.{pick, next_card, MayLeave, MayVisit}
+use Rattle.rational.specs.Rational.{ℚ, int, neg_ℚ, ◌-ℚ◌, ◌/ℚ◌, ◌≤ℚ◌, ◌<ℚ◌}
+use Rattle.rational.specs.Ratio.{IsSmall, SumFits}
+use Rattle.run_laws.specs.Cards.{Card, size, Works, Leaves, Visits}
+use Rattle.run_laws.specs.Servers.{Discipline, queue_count, Under, ServerState, done}
+use Rattle.run_laws.specs.Next.{next}
+use Rattle.run_laws.specs.Allows.{pick, next_card, MayLeave, MayVisit}
 use Rattle.queue_sched.specs.Waiting.{HasPacket}
 use Rattle.net_model.specs.stated_runs.TimeGrids.{HasRoom, IsTime}
 use Rattle.sim_servers.specs.Queues.{served_by, room_of, StandFor}

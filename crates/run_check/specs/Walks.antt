@@ -2,14 +2,14 @@
 -- next.
 use Rattle.std.specs.Prelude.{Option, Some, None, ◌≡◌, ℕ, pos, ◌<◌, ◌≤◌, List, [], ◌∷◌, ◌++◌, length, map, slice_get}
 use Rattle.std.specs.Prelude.{Bool, ◌||◌, nat_le, get_or, set, if◌then◌else◌}
-use Rattle.upp_limits.specs.rational.specs.Rational.{ℚ, int, ◌+ℚ◌, ◌<ℚ◌}
-use Rattle.upp_limits.specs.rational.specs.Ratio.{SumFits}
-use Rattle.net_model.specs.run_laws.specs.declared.steps.Step.{Step}
-use Rattle.net_model.specs.run_laws.specs.declared.steps.Step.TheVariants.{Enter, Reach, Work, Leave, Visit}
-use Rattle.net_model.specs.run_laws.specs.Cards.{whole}
-use Rattle.net_model.specs.run_laws.specs.Routes.{Routes, server_at, link_at, route_of, server_after}
-use Rattle.net_model.specs.run_laws.specs.Views.{entry_of}
-use Rattle.net_model.specs.run_laws.specs.Lawful.{RunState, state_at, next_run}
+use Rattle.rational.specs.Rational.{ℚ, int, ◌+ℚ◌, ◌<ℚ◌}
+use Rattle.rational.specs.Ratio.{SumFits}
+use Rattle.run_laws.specs.declared.steps.Step.{Step}
+use Rattle.run_laws.specs.declared.steps.Step.TheVariants.{Enter, Reach, Work, Leave, Visit}
+use Rattle.run_laws.specs.Cards.{whole}
+use Rattle.run_laws.specs.Routes.{Routes, server_at, link_at, route_of, server_after}
+use Rattle.run_laws.specs.Views.{entry_of}
+use Rattle.run_laws.specs.Lawful.{RunState, state_at, next_run}
 use Rattle.net_model.specs.stated_runs.TimeGrids.{HasRoom, IsTime}
 use Rattle.run_check.specs.declared.broken_laws.law.Law.{Law}
 use Rattle.run_check.specs.declared.broken_laws.place.Place.{Place}

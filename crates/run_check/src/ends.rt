@@ -8,7 +8,7 @@ ghost use Rattle.run_check.specs.Sites.{is_worked_off};
 
 use crate::broken_laws::Place;
 use crate::site::Site;
-use upp_limits::fraction128::{Frac, is_less};
+use fraction128::{Frac, is_less};
 
 /// Whether a packet in this place is on a link, and due by a time.
 fn is_late(place: &Place, end: Frac) -> bool

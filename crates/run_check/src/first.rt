@@ -1,7 +1,7 @@
 //! The first law that a recorded run breaks.
 
 ghost use Rattle.std.specs.Prelude.{◌<◌, ◌-◌, ◌^◌, [], IfOk, MatchOption, length};
-ghost use Rattle.net_model.specs.run_laws.specs.Lawful.{IsLawful};
+ghost use Rattle.run_laws.specs.Lawful.{IsLawful};
 ghost use Rattle.net_model.specs.NetRoutes.{routes_of};
 ghost use Rattle.run_check.specs.broken_laws.Recorded.{AreRecorded};
 ghost use Rattle.run_check.specs.broken_laws.FirstBroken.{IsFirstBroken};
@@ -12,7 +12,7 @@ use crate::broken_laws::Law;
 use crate::site::Site;
 use crate::walk::Walk;
 use net_model::Network;
-use net_model::run_laws::Run;
+use run_laws::Run;
 use std::alloc::{AllocError, Global};
 
 /// A law that a recorded run breaks, and the row at which it does. Rows are counted from 1, and the run's end is the

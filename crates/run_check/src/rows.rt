@@ -1,14 +1,14 @@
 //! What one row does to the site of its server.
 
 ghost use Rattle.std.specs.Prelude.{◌≡◌, ◌<◌, ◌↔◌, ◌⊎◌, ℕ, None, Some, length, slice_get, IsTrue};
-ghost use Rattle.upp_limits.specs.rational.specs.Rational.{◌<ℚ◌};
+ghost use Rattle.rational.specs.Rational.{◌<ℚ◌};
 ghost use Rattle.run_check.specs.declared.site.Site.{Site as SpecSite};
 ghost use Rattle.run_check.specs.Sites.{KeepsSome, MayTake, WorkRoom};
 ghost use Rattle.run_check.specs.Rows.{ChangesAt, Visited, Left, Worked, Arrived};
 
 use crate::broken_laws::Law;
 use crate::site::{Piece, Site};
-use upp_limits::fraction128::Frac;
+use fraction128::Frac;
 
 /// Whether a time is before the last step of a server, or after the end of the run.
 pub(crate) fn is_out_at(sites: &[Site], server: u32, end: Frac, time: Frac) -> bool

@@ -1,11 +1,11 @@
 //! One server of a recorded run, after some of its rows.
 
 ghost use Rattle.std.specs.Prelude.{◌≡◌, ◌↔◌, ◌⊎◌, ℕ, None, IfOk, IsTrue};
-ghost use Rattle.upp_limits.specs.rational.specs.Rational.{ℚ, ◌<ℚ◌};
-ghost use Rattle.net_model.specs.run_laws.specs.Cards.{Card, Arrives, Leaves};
-ghost use Rattle.net_model.specs.run_laws.specs.Servers.{Discipline as SpecDiscipline, ServerState, start};
-ghost use Rattle.net_model.specs.run_laws.specs.Next.{next};
-ghost use Rattle.net_model.specs.run_laws.specs.Allows.{MayLeave};
+ghost use Rattle.rational.specs.Rational.{ℚ, ◌<ℚ◌};
+ghost use Rattle.run_laws.specs.Cards.{Card, Arrives, Leaves};
+ghost use Rattle.run_laws.specs.Servers.{Discipline as SpecDiscipline, ServerState, start};
+ghost use Rattle.run_laws.specs.Next.{next};
+ghost use Rattle.run_laws.specs.Allows.{MayLeave};
 ghost use Rattle.queue_sched.specs.Turns.{IsCard};
 ghost use Rattle.net_model.specs.Accepted.{HasFewQueues};
 ghost use Rattle.net_model.specs.Views.{discipline_of};
@@ -15,11 +15,11 @@ ghost use Rattle.run_check.specs.Sites.{IsSite, KeepsSome, IsOther, MayLose, May
 ghost use Rattle.run_check.specs.Sites.{IsWrong, MayTake, Turns, Starts, is_worked_off};
 
 use crate::broken_laws::Law;
+use fraction128::{Frac, difference, is_less, quotient};
 use net_model::Discipline;
 use queue_sched::{Scheduler, Turn};
 use sim_servers::ServerQueues;
 use std::alloc::{AllocError, Global};
-use upp_limits::fraction128::{Frac, difference, is_less, quotient};
 
 /// The packet under way at a server: the bits of it that are yet to be worked, and when its last work ends.
 #[derive(Debug, Clone, Copy)]

@@ -1,13 +1,13 @@
 //! The walk over the rows of a recorded run.
 
 ghost use Rattle.std.specs.Prelude.{◌≡◌, ◌<◌, ◌↔◌, ◌++◌, ◌∷◌, [], ℕ, List, IsTrue, IfOk, OnOk, length, get_or, set};
-ghost use Rattle.upp_limits.specs.rational.specs.Rational.{ℚ};
-ghost use Rattle.upp_limits.specs.rational.specs.Ratio.{SumFits};
-ghost use Rattle.net_model.specs.run_laws.specs.Lawful.{RunState};
-ghost use Rattle.net_model.specs.run_laws.specs.declared.steps.Step.{Step as SpecStep};
+ghost use Rattle.rational.specs.Rational.{ℚ};
+ghost use Rattle.rational.specs.Ratio.{SumFits};
+ghost use Rattle.run_laws.specs.Lawful.{RunState};
+ghost use Rattle.run_laws.specs.declared.steps.Step.{Step as SpecStep};
 ghost use Rattle.run_check.specs.broken_laws.FirstBroken.{IsUnfinished};
-ghost use Rattle.net_model.specs.run_laws.specs.Routes.{Routes, link_at};
-ghost use Rattle.net_model.specs.run_laws.specs.declared.steps.Step.TheVariants as steps;
+ghost use Rattle.run_laws.specs.Routes.{Routes, link_at};
+ghost use Rattle.run_laws.specs.declared.steps.Step.TheVariants as steps;
 ghost use Rattle.net_model.specs.NetRoutes.{routes_of};
 ghost use Rattle.run_check.specs.broken_laws.Tracked.{place_of};
 ghost use Rattle.run_check.specs.Following.{Follows, Goes};
@@ -18,11 +18,11 @@ use crate::ends::{some_complete, some_late};
 use crate::rows::{arrive_row, is_out_at, leave_row, visit_row, work_row};
 use crate::site::{Piece, Site};
 use crate::ways::{destination, has_left, pace_of};
+use fraction128::Frac;
 use net_model::Network;
-use net_model::run_laws::{Run, Step, whole};
+use run_laws::{Run, Step, whole};
 use simulator::sim_routes::{entrance, queue_of};
 use std::alloc::AllocError;
-use upp_limits::fraction128::Frac;
 
 /// What is known after some rows: the flow and the bits of each packet that has entered, where it is, and the site of
 /// each server.

@@ -1,17 +1,17 @@
 //! Where the packets of a recorded run go.
 
 ghost use Rattle.std.specs.Prelude.{◌≡◌, ℕ, List, length};
-ghost use Rattle.upp_limits.specs.rational.specs.Rational.{◌+ℚ◌};
-ghost use Rattle.upp_limits.specs.rational.specs.Ratio.{SumFits};
-ghost use Rattle.net_model.specs.run_laws.specs.Routes.{route_of, link_at, server_after, server_at};
+ghost use Rattle.rational.specs.Rational.{◌+ℚ◌};
+ghost use Rattle.rational.specs.Ratio.{SumFits};
+ghost use Rattle.run_laws.specs.Routes.{route_of, link_at, server_after, server_at};
 ghost use Rattle.net_model.specs.NetRoutes.{routes_of, hops_along};
 ghost use Rattle.run_check.specs.broken_laws.Tracked.{is_on, is_before, has_left as spec_has_left, place_after};
 
 use crate::broken_laws::Place;
+use fraction128::{Frac, sum};
+use net_cells::{live_flow, server};
 use net_model::Network;
-use report_text::net_cells::{live_flow, server};
 use simulator::sim_routes::{link_of, next_server};
-use upp_limits::fraction128::{Frac, sum};
 
 /// How many bits a unit of time a server works at most, where that is limited: its rate in version 2.
 pub(crate) fn pace_of(net: &Network, number: u32) -> Option<Frac>

@@ -2,14 +2,14 @@
 use Rattle.std.specs.Prelude.{◌≡◌, ℕ, ◌==◌, Bool, ◌&&◌, List, [], ◌∷◌, pos}
 use Rattle.std.proofs.Common.{arith, inl, inr, subst}
 use Rattle.std.proofs.lemmas.Bool.{and_parts, and_from}
-use Rattle.min_plus.specs.rational.specs.Rational.{ℚ, int, ◌+ℚ◌, ◌-ℚ◌, ◌≤ℚ◌, le_q}
-use Rattle.min_plus.specs.rational.specs.Extended.{Ext, ◌≤ₑ◌, ◌+ₑ◌}
-use Rattle.min_plus.specs.rational.specs.declared.Extended.TheVariants.{Fin}
-use Rattle.min_plus.specs.rational.proofs.Laws.{le_refl, le_of_lt, le_or_lt}
-use Rattle.min_plus.specs.rational.proofs.Bounds.{greatest}
-use Rattle.min_plus.specs.rational.proofs.ExtendedOrder.{le_ext_trans, add_le_ext}
-use Rattle.min_plus.specs.rational.proofs.Linear.{with1, with2, with3, with6, with8}
-use Rattle.min_plus.specs.rational.proofs.Over.{le_q_out}
+use Rattle.rational.specs.Rational.{ℚ, int, ◌+ℚ◌, ◌-ℚ◌, ◌≤ℚ◌, le_q}
+use Rattle.rational.specs.Extended.{Ext, ◌≤ₑ◌, ◌+ₑ◌}
+use Rattle.rational.specs.declared.Extended.TheVariants.{Fin}
+use Rattle.rational.proofs.Laws.{le_refl, le_of_lt, le_or_lt}
+use Rattle.rational.proofs.Bounds.{greatest}
+use Rattle.rational.proofs.ExtendedOrder.{le_ext_trans, add_le_ext}
+use Rattle.rational.proofs.Linear.{with1, with2, with3, with6, with8}
+use Rattle.rational.proofs.Over.{le_q_out}
 use Rattle.min_plus.specs.Functions.{zero_q}
 use Rattle.min_plus.specs.Convolution.{Parts, AllNonneg, sum_of, sum_at}
 use Rattle.min_plus.proofs.TimeSums.{nonneg_total}

@@ -1,8 +1,8 @@
 -- A run that ends in the middle of work, and packets of flows on which none may enter.
 use Rattle.std.specs.Prelude.{◌≡◌, ℕ, zero, suc, Bool, true, false, [], ◌∷◌, All}
 use Rattle.std.proofs.Common.{arith, ap, refl, inl}
-use Rattle.min_plus.specs.rational.specs.Rational.{ℚ}
-use Rattle.min_plus.specs.rational.proofs.Linear.{with1}
+use Rattle.rational.specs.Rational.{ℚ}
+use Rattle.rational.proofs.Linear.{with1}
 use Rattle.run_laws.specs.Cards.{whole}
 use Rattle.run_laws.specs.Servers.{ServerState}
 use Rattle.run_laws.specs.Allows.{IsComplete}

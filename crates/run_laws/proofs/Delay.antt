@@ -2,11 +2,11 @@
 use Rattle.std.specs.Prelude.{◌≡◌, ℕ, pos, ◌==◌, Bool, true, false, List, [], ◌∷◌, ◌++◌}
 use Rattle.std.proofs.Common.{arith, sym, ap, ◌∙◌, refl, inl, inr, subst, append_assoc}
 use Rattle.std.proofs.lemmas.Bool.{cases_Bool, and_from}
-use Rattle.min_plus.specs.rational.specs.Rational.{ℚ, int, ◌+ℚ◌, ◌-ℚ◌, ◌≤ℚ◌, ◌<ℚ◌}
-use Rattle.min_plus.specs.rational.specs.Extended.{Ext, ◌≤ₑ◌, ◌+ₑ◌}
-use Rattle.min_plus.specs.rational.specs.declared.Extended.TheVariants.{Fin, Inf}
-use Rattle.min_plus.specs.rational.proofs.Laws.{le_refl, le_trans, le_of_lt, le_or_lt, between}
-use Rattle.min_plus.specs.rational.proofs.Linear.{with2, with3, with4, with5}
+use Rattle.rational.specs.Rational.{ℚ, int, ◌+ℚ◌, ◌-ℚ◌, ◌≤ℚ◌, ◌<ℚ◌}
+use Rattle.rational.specs.Extended.{Ext, ◌≤ₑ◌, ◌+ₑ◌}
+use Rattle.rational.specs.declared.Extended.TheVariants.{Fin, Inf}
+use Rattle.rational.proofs.Laws.{le_refl, le_trans, le_of_lt, le_or_lt, between}
+use Rattle.rational.proofs.Linear.{with2, with3, with4, with5}
 use Rattle.run_laws.specs.Cards.{Card, size, Class, ServerStep, Arrives, Works, Leaves, Visits}
 use Rattle.run_laws.proofs.Always.{IsAlwaysOfQueue}
 use Rattle.run_laws.specs.Servers.{Server, ServerState, start}
@@ -18,10 +18,10 @@ use Rattle.min_plus.specs.Functions.{IsRising}
 use Rattle.run_laws.specs.Delays.{gone_at, kept, hop_delays, AreAtMost}
 use Rattle.min_plus.proofs.Deviations.{Within, within_deviation, deviation_nonneg}
 use Rattle.run_laws.proofs.Levels.{finite_below}
-use Rattle.min_plus.specs.rational.proofs.ExtendedOrder.{le_ext_trans}
+use Rattle.rational.proofs.ExtendedOrder.{le_ext_trans}
 use Rattle.min_plus.specs.Deviations.{IsHorizontalDeviation}
 use Rattle.run_laws.specs.Serves.{Serves}
-use Rattle.min_plus.specs.rational.proofs.Over.{le_q_out}
+use Rattle.rational.proofs.Over.{le_q_out}
 use Rattle.run_laws.proofs.Sums.{when_true, total-append}
 use Rattle.run_laws.proofs.Counts.{arrived_in_is, upto_arrived, arrivals_nonneg}
 use Rattle.run_laws.proofs.Orders.{left_worked}

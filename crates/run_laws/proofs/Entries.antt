@@ -2,14 +2,14 @@
 use Rattle.std.specs.Prelude.{Option, Some, None, true, ◌≡◌, ◌<◌, ℕ, zero, suc, ◌==◌, List, [], ◌∷◌, ◌++◌, length, slice_index_or}
 use Rattle.std.proofs.Common.{arith, sym, ap, ◌∙◌, refl, inl, inr, subst}
 use Rattle.std.proofs.lemmas.Bool.{cases_Bool, eq-eqb}
-use Rattle.min_plus.specs.rational.specs.Rational.{ℚ, ◌+ℚ◌}
+use Rattle.rational.specs.Rational.{ℚ, ◌+ℚ◌}
 use Rattle.run_laws.specs.declared.steps.Step.{Step}
 use Rattle.run_laws.specs.declared.steps.Step.TheVariants.{Enter, Reach, Work, Leave, Visit}
 use Rattle.run_laws.specs.Routes.{Hop, Routes, route_of, link_at, queue_at, PassesServer, first_of, server_after}
 use Rattle.run_laws.specs.Views.{Entry, entry_of, hops_of, entered_after}
 use Rattle.run_laws.specs.Lawful.{Due, RunState, same_due, without, sent, next_due, IsKnown}
-use Rattle.min_plus.specs.rational.proofs.Over.{le_q_out}
-use Rattle.min_plus.specs.rational.proofs.Laws.{le_refl}
+use Rattle.rational.proofs.Over.{le_q_out}
+use Rattle.rational.proofs.Laws.{le_refl}
 
 -- ---- a packet that is due
 pub same_due_self : (d : Due) → same_due d d ≡ true

@@ -2,9 +2,9 @@
 use Rattle.std.specs.Prelude.{◌≡◌, ◌<◌, pos, ◌==◌, false, not, List, [], ◌∷◌}
 use Rattle.std.proofs.Common.{arith, ap, subst}
 use Rattle.std.proofs.lemmas.Bool.{eq-eqb}
-use Rattle.min_plus.specs.rational.specs.Rational.{ℚ, int, ◌-ℚ◌, ◌≤ℚ◌}
-use Rattle.min_plus.specs.rational.specs.Extended.{Ext}
-use Rattle.min_plus.specs.rational.proofs.Linear.{with3, with4, with6}
+use Rattle.rational.specs.Rational.{ℚ, int, ◌-ℚ◌, ◌≤ℚ◌}
+use Rattle.rational.specs.Extended.{Ext}
+use Rattle.rational.proofs.Linear.{with3, with4, with6}
 use Rattle.run_laws.specs.Cards.{Card, Class, all, of_queue, ServerStep, Arrives, Works, Leaves, Visits}
 use Rattle.run_laws.proofs.Always.{AreAlwaysParts, always_all}
 use Rattle.run_laws.specs.Servers.{Discipline, Fifo, Server, ServerState, start, queue_count}

@@ -2,10 +2,10 @@
 use Rattle.std.specs.Prelude.{Option, Some, None, ◌≡◌, ℕ, pos, true, List, [], ◌∷◌, ◌++◌}
 use Rattle.std.proofs.Common.{arith, sym, ap, ◌∙◌, refl, inl, inr, subst, append_assoc}
 use Rattle.std.proofs.lemmas.Bool.{cases_Bool}
-use Rattle.min_plus.specs.rational.specs.Rational.{ℚ, int, ◌+ℚ◌, ◌-ℚ◌, ◌≤ℚ◌, ◌<ℚ◌}
-use Rattle.min_plus.specs.rational.specs.Extended.{Ext}
-use Rattle.min_plus.specs.rational.proofs.Laws.{le_trans}
-use Rattle.min_plus.specs.rational.proofs.Linear.{with1, with2, with3, with4, with5, with7, with8}
+use Rattle.rational.specs.Rational.{ℚ, int, ◌+ℚ◌, ◌-ℚ◌, ◌≤ℚ◌, ◌<ℚ◌}
+use Rattle.rational.specs.Extended.{Ext}
+use Rattle.rational.proofs.Laws.{le_trans}
+use Rattle.rational.proofs.Linear.{with1, with2, with3, with4, with5, with7, with8}
 use Rattle.run_laws.specs.Cards.{Card, size, Class, ServerStep, Arrives, Works, Leaves, Visits}
 use Rattle.run_laws.proofs.Always.{IsAlwaysOfQueue, IsAlwaysPart}
 use Rattle.run_laws.specs.Servers.{Server, Under, ServerState, start}
@@ -14,7 +14,7 @@ use Rattle.run_laws.specs.Allows.{AllAllowed, IsLawfulView, IsComplete}
 use Rattle.run_laws.specs.Counts.{total, arrives, leaves, works, before, upto, arrived, departed, worked}
 use Rattle.run_laws.specs.Premises.{KeepsArrivals}
 use Rattle.run_laws.specs.Serves.{Serves}
-use Rattle.min_plus.specs.rational.proofs.Over.{lt_q_out}
+use Rattle.rational.proofs.Over.{lt_q_out}
 use Rattle.run_laws.proofs.Sums.{total-append}
 use Rattle.run_laws.proofs.Counts.{left_le, arrived_rises, upto_before}
 use Rattle.run_laws.proofs.Heads.{sum_of}

@@ -1,12 +1,12 @@
 -- A service of a rate after a latency promises nothing at once, and does not fall.
 use Rattle.std.specs.Prelude.{◌≡◌}
 use Rattle.std.proofs.Common.{arith, ap, ◌∙◌}
-use Rattle.min_plus.specs.rational.specs.Rational.{ℚ, ◌-ℚ◌, ◌*ℚ◌, ◌≤ℚ◌}
-use Rattle.min_plus.specs.rational.specs.MinMax.{max_q}
-use Rattle.min_plus.specs.rational.proofs.Laws.{le_refl, le_trans, mul_le_mul, mul_zero}
-use Rattle.min_plus.specs.rational.proofs.MinMax.{max_q_is_left, max_q_mono}
-use Rattle.min_plus.specs.rational.proofs.Linear.{with1, with3}
-use Rattle.min_plus.specs.rational.specs.Extended.{Ext}
+use Rattle.rational.specs.Rational.{ℚ, ◌-ℚ◌, ◌*ℚ◌, ◌≤ℚ◌}
+use Rattle.rational.specs.MinMax.{max_q}
+use Rattle.rational.proofs.Laws.{le_refl, le_trans, mul_le_mul, mul_zero}
+use Rattle.rational.proofs.MinMax.{max_q_is_left, max_q_mono}
+use Rattle.rational.proofs.Linear.{with1, with3}
+use Rattle.rational.specs.Extended.{Ext}
 use Rattle.min_plus.specs.Functions.{zero_q, IsRising}
 use Rattle.min_plus.specs.Formulas.{IsService}
 use Rattle.run_laws.specs.Premises.{IsZeroAtStart}

@@ -2,17 +2,17 @@
 use Rattle.std.specs.Prelude.{Option, Some, None, ◌≡◌, ◌⊎◌, ◌≤◌, ℕ, pos, Bool, true, false, List, [], ◌∷◌, ◌++◌, if◌then◌else◌}
 use Rattle.std.proofs.Common.{arith, sym, ap, ◌∙◌, refl, inl, inr, subst, append_assoc, append-nil}
 use Rattle.std.proofs.lemmas.Bool.{cases_Bool, both_ways}
-use Rattle.min_plus.specs.rational.specs.Rational.{ℚ, int, ◌+ℚ◌, ◌≤ℚ◌, ◌<ℚ◌}
-use Rattle.min_plus.specs.rational.proofs.Laws.{le_refl}
-use Rattle.min_plus.specs.rational.proofs.Linear.{with3, with4, with5}
+use Rattle.rational.specs.Rational.{ℚ, int, ◌+ℚ◌, ◌≤ℚ◌, ◌<ℚ◌}
+use Rattle.rational.proofs.Laws.{le_refl}
+use Rattle.rational.proofs.Linear.{with3, with4, with5}
 use Rattle.run_laws.specs.Cards.{Card, size, Class, ServerStep, Arrives, Works, Leaves, Visits}
 use Rattle.run_laws.proofs.Always.{IsAlwaysOfQueue, IsAlwaysPart}
 use Rattle.run_laws.specs.Servers.{Server, Under, ServerState, start, without_head}
 use Rattle.run_laws.specs.Next.{next, after}
 use Rattle.run_laws.specs.Allows.{AllAllowed, IsLawfulView}
 use Rattle.run_laws.specs.Counts.{when, total, arrives, leaves, before, upto, arrived, arrived_upto, worked, departed}
-use Rattle.min_plus.specs.rational.proofs.Over.{le_q_out, lt_q_in}
-use Rattle.min_plus.specs.rational.proofs.MinMax.{lt_q_not}
+use Rattle.rational.proofs.Over.{le_q_out, lt_q_in}
+use Rattle.rational.proofs.MinMax.{lt_q_not}
 use Rattle.run_laws.proofs.Sums.{when_true, when_false, when_nonneg, when_le, Each, each_map, each_all, each-append, total-append, total_nonneg, total_none, add_nothing}
 use Rattle.run_laws.proofs.Counts.{arrived_le, before_upto, arrives_nonneg}
 use Rattle.run_laws.proofs.Heads.{sum_of}

@@ -3,9 +3,9 @@ use Rattle.run_laws.proofs.Entries.{queue_of_hop}
 use Rattle.std.specs.Prelude.{Some, None, ◌≡◌, ◌≤◌, ℕ, ◌==◌, true, [], ◌∷◌}
 use Rattle.std.proofs.Common.{sym, ap, ◌∙◌, refl, inl, inr, subst}
 use Rattle.std.proofs.lemmas.Bool.{cases_Bool, eq-eqb}
-use Rattle.min_plus.specs.rational.specs.Rational.{ℚ, ◌-ℚ◌}
-use Rattle.min_plus.specs.rational.specs.Extended.{Ext, ◌≤ₑ◌, ◌+ₑ◌}
-use Rattle.min_plus.specs.rational.specs.declared.Extended.TheVariants.{Fin}
+use Rattle.rational.specs.Rational.{ℚ, ◌-ℚ◌}
+use Rattle.rational.specs.Extended.{Ext, ◌≤ₑ◌, ◌+ₑ◌}
+use Rattle.rational.specs.declared.Extended.TheVariants.{Fin}
 use Rattle.min_plus.specs.Deviations.{IsHorizontalDeviation, IsVerticalDeviation}
 use Rattle.min_plus.specs.Pointwise.{packetised}
 use Rattle.run_laws.specs.Runs.{SpecRun}

@@ -1,13 +1,13 @@
 -- One flow of 12000 bits over one server of rate 100 and latency 10: the run keeps its curves, and the bound of 130 is met with equality.
 use Rattle.std.specs.Prelude.{◌≡◌, ◌<◌, ℕ, zero, suc, true, ◌==◌, ◌&&◌, List, [], ◌∷◌}
 use Rattle.std.proofs.Common.{arith, ap, ◌∙◌, refl, subst, inl, inr}
-use Rattle.min_plus.specs.rational.specs.Rational.{ℚ, ◌+ℚ◌, ◌-ℚ◌, ◌*ℚ◌, ◌/ℚ◌, ◌≤ℚ◌, ◌<ℚ◌, lt_q}
-use Rattle.min_plus.specs.rational.specs.MinMax.{max_q}
-use Rattle.min_plus.specs.rational.specs.Extended.{Ext, ◌≤ₑ◌}
-use Rattle.min_plus.specs.rational.specs.declared.Extended.TheVariants.{Fin}
-use Rattle.min_plus.specs.rational.proofs.MinMax.{max_q_left, max_q_right, lt_q_not, le_q_not}
-use Rattle.min_plus.specs.rational.proofs.Laws.{le_refl, le_or_lt, between, mul_sub, mul_comm}
-use Rattle.min_plus.specs.rational.proofs.Linear.{with1, with2, with3, with4, with5}
+use Rattle.rational.specs.Rational.{ℚ, ◌+ℚ◌, ◌-ℚ◌, ◌*ℚ◌, ◌/ℚ◌, ◌≤ℚ◌, ◌<ℚ◌, lt_q}
+use Rattle.rational.specs.MinMax.{max_q}
+use Rattle.rational.specs.Extended.{Ext, ◌≤ₑ◌}
+use Rattle.rational.specs.declared.Extended.TheVariants.{Fin}
+use Rattle.rational.proofs.MinMax.{max_q_left, max_q_right, lt_q_not, le_q_not}
+use Rattle.rational.proofs.Laws.{le_refl, le_or_lt, between, mul_sub, mul_comm}
+use Rattle.rational.proofs.Linear.{with1, with2, with3, with4, with5}
 use Rattle.min_plus.specs.Deviations.{IsHorizontalDeviation}
 use Rattle.min_plus.specs.Formulas.{IsBucket, IsService}
 use Rattle.min_plus.proofs.BucketDelay.{horizontal_finite}
@@ -19,7 +19,7 @@ use Rattle.run_laws.specs.Routes.{route_of, PassesServer}
 use Rattle.run_laws.specs.Views.{view}
 use Rattle.run_laws.specs.RunPremises.{entered_in}
 use Rattle.run_laws.specs.Examples.{one_server, one_packet, OnePacketReachesItsBound}
-use Rattle.min_plus.specs.rational.proofs.Over.{le_q_out}
+use Rattle.rational.proofs.Over.{le_q_out}
 use Rattle.run_laws.proofs.Sums.{when_true, when_false, when_most}
 use Rattle.run_laws.proofs.Clips.{clip_early, quotient}
 use Rattle.run_laws.proofs.Small.{le_t, lt_t}

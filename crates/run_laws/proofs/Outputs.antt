@@ -2,12 +2,12 @@
 use Rattle.std.specs.Prelude.{◌≡◌, ℕ, pos, List, [], ◌∷◌}
 use Rattle.std.proofs.Common.{arith, subst, inl, inr}
 use Rattle.std.proofs.lemmas.Bool.{and_left}
-use Rattle.min_plus.specs.rational.specs.Rational.{ℚ, int, ◌+ℚ◌, ◌-ℚ◌, ◌≤ℚ◌, ◌<ℚ◌, le_q}
-use Rattle.min_plus.specs.rational.specs.Extended.{Ext, ◌≤ₑ◌, ◌-ₑ◌}
-use Rattle.min_plus.specs.rational.specs.declared.Extended.TheVariants.{Fin}
-use Rattle.min_plus.specs.rational.proofs.Laws.{le_refl, le_trans, le_of_lt, le_or_lt}
-use Rattle.min_plus.specs.rational.proofs.ExtendedOrder.{le_ext_trans}
-use Rattle.min_plus.specs.rational.proofs.Linear.{with1, with2, with3, with4, with7}
+use Rattle.rational.specs.Rational.{ℚ, int, ◌+ℚ◌, ◌-ℚ◌, ◌≤ℚ◌, ◌<ℚ◌, le_q}
+use Rattle.rational.specs.Extended.{Ext, ◌≤ₑ◌, ◌-ₑ◌}
+use Rattle.rational.specs.declared.Extended.TheVariants.{Fin}
+use Rattle.rational.proofs.Laws.{le_refl, le_trans, le_of_lt, le_or_lt}
+use Rattle.rational.proofs.ExtendedOrder.{le_ext_trans}
+use Rattle.rational.proofs.Linear.{with1, with2, with3, with4, with7}
 use Rattle.min_plus.specs.Pointwise.{packetised}
 use Rattle.min_plus.specs.Convolution.{IsDeconvolution}
 use Rattle.run_laws.specs.Cards.{size, whole, Class, ServerStep, Arrives, Works, Leaves, Visits, time_of}
@@ -17,7 +17,7 @@ use Rattle.run_laws.specs.Allows.{IsLawfulView, AllAllowed}
 use Rattle.run_laws.specs.Counts.{leaves, before, upto, within, arrived, arrived_upto, arrived_in, departed, departed_in}
 use Rattle.run_laws.specs.Premises.{KeepsArrivals, KeepsSizes}
 use Rattle.run_laws.specs.Serves.{Serves}
-use Rattle.min_plus.specs.rational.proofs.MinMax.{le_q_not}
+use Rattle.rational.proofs.MinMax.{le_q_not}
 use Rattle.run_laws.proofs.Levels.{finite_below, minus_le}
 use Rattle.run_laws.proofs.Sums.{each_all, total_sum, Each, total_none, nothing}
 use Rattle.run_laws.proofs.Counts.{arrived_le, arrived_nonneg, before_upto, arrived_in_is, window_nonneg, window_term, departed_upto}

@@ -1,16 +1,16 @@
 -- A packet on a link between two servers.
 use Rattle.std.specs.Prelude.{None, ◌≡◌, zero, suc, [], ◌∷◌, All}
 use Rattle.std.proofs.Common.{arith, ap, refl, inl, inr}
-use Rattle.min_plus.specs.rational.specs.Rational.{ℚ, ◌+ℚ◌, ◌<ℚ◌}
-use Rattle.min_plus.specs.rational.proofs.Laws.{le_refl}
-use Rattle.min_plus.specs.rational.proofs.Linear.{with1}
+use Rattle.rational.specs.Rational.{ℚ, ◌+ℚ◌, ◌<ℚ◌}
+use Rattle.rational.proofs.Laws.{le_refl}
+use Rattle.rational.proofs.Linear.{with1}
 use Rattle.run_laws.specs.Cards.{whole}
 use Rattle.run_laws.specs.Servers.{ServerState}
 use Rattle.run_laws.specs.Allows.{IsComplete}
 use Rattle.run_laws.specs.FlowDelays.{delays}
 use Rattle.run_laws.specs.Lawful.{Due, IsLawful, run_start, after_run, AllAllowedInRun}
 use Rattle.run_laws.specs.Examples.{ends_at, two_servers, first_hop, both_hops, OverALink}
-use Rattle.min_plus.specs.rational.proofs.Over.{le_q_out}
+use Rattle.rational.proofs.Over.{le_q_out}
 use Rattle.run_laws.proofs.Small.{le_t, lt_t, sum_t, enters, works, leaves}
 
 first_allowed : AllAllowedInRun two_servers (whole 14) (run_start two_servers) first_hop

@@ -1,8 +1,8 @@
 -- The counts of a class are the sums of its parts'.
 use Rattle.std.specs.Prelude.{◌≡◌, Bool, true, false, ◌&&◌, ◌||◌, List}
 use Rattle.std.proofs.Common.{arith}
-use Rattle.min_plus.specs.rational.specs.Rational.{ℚ, ◌+ℚ◌}
-use Rattle.min_plus.specs.rational.proofs.Linear.{with1}
+use Rattle.rational.specs.Rational.{ℚ, ◌+ℚ◌}
+use Rattle.rational.proofs.Linear.{with1}
 use Rattle.run_laws.specs.Cards.{size, Class, ServerStep, Arrives, Works, Leaves, Visits}
 use Rattle.run_laws.proofs.Always.{AreAlwaysParts}
 use Rattle.run_laws.specs.Servers.{clip}

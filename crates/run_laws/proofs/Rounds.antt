@@ -3,7 +3,7 @@ use Rattle.std.specs.Prelude.{Option, Some, None, ◌≡◌, ◌≢◌, ◌≤�
 use Rattle.std.proofs.Common.{arith, sym, ap, ◌∙◌, refl, inl, inr, subst}
 use Rattle.std.proofs.lemmas.Bool.{cases_Bool, cases_eq, eqb-true, eq-eqb, ne_eqb, leb-true, leb-false}
 use Rattle.std.proofs.lemmas.List.{get_or-set_other}
-use Rattle.min_plus.specs.rational.specs.Rational.{ℚ}
+use Rattle.rational.specs.Rational.{ℚ}
 use Rattle.run_laws.specs.Cards.{Card, ServerStep, Arrives, Works, Leaves, Visits, of_queue}
 use Rattle.run_laws.specs.Servers.{Discipline, Drr, Server, Round, Under, ServerState, head_of, without_head, Fifo, Priority}
 use Rattle.run_laws.specs.Next.{next_inside, next_under, next_visits, fits, to_tail, left_round, arrived_round, worked_round, visited_round}

@@ -1,13 +1,13 @@
 -- A server's curve serves it as a whole, and less one packet it serves whole packets.
 use Rattle.std.specs.Prelude.{◌≡◌, ℕ, pos, List}
 use Rattle.std.proofs.Common.{arith, inl, inr, subst}
-use Rattle.min_plus.specs.rational.specs.Rational.{ℚ, int, ◌+ℚ◌, ◌-ℚ◌, ◌≤ℚ◌}
-use Rattle.min_plus.specs.rational.specs.MinMax.{max_q}
-use Rattle.min_plus.specs.rational.specs.Extended.{Ext, ◌≤ₑ◌}
-use Rattle.min_plus.specs.rational.specs.declared.Extended.TheVariants.{Fin}
-use Rattle.min_plus.specs.rational.proofs.MinMax.{max_q_left, max_q_right}
-use Rattle.min_plus.specs.rational.proofs.Laws.{le_refl, le_trans, le_of_lt, le_or_lt}
-use Rattle.min_plus.specs.rational.proofs.Linear.{with1, with2, with5}
+use Rattle.rational.specs.Rational.{ℚ, int, ◌+ℚ◌, ◌-ℚ◌, ◌≤ℚ◌}
+use Rattle.rational.specs.MinMax.{max_q}
+use Rattle.rational.specs.Extended.{Ext, ◌≤ₑ◌}
+use Rattle.rational.specs.declared.Extended.TheVariants.{Fin}
+use Rattle.rational.proofs.MinMax.{max_q_left, max_q_right}
+use Rattle.rational.proofs.Laws.{le_refl, le_trans, le_of_lt, le_or_lt}
+use Rattle.rational.proofs.Linear.{with1, with2, with5}
 use Rattle.min_plus.specs.Pointwise.{packetised}
 use Rattle.run_laws.specs.Cards.{Class, all, whole, ServerStep}
 use Rattle.run_laws.specs.Servers.{Server}

@@ -2,12 +2,12 @@
 use Rattle.std.specs.Prelude.{Option, Some, None, ◌≡◌, ◌≢◌, ℕ, pos, ◌==◌, Bool, true, false, ◌&&◌, List, [], ◌∷◌, ◌++◌}
 use Rattle.std.proofs.Common.{arith, sym, ap, ◌∙◌, refl, inl, inr, subst}
 use Rattle.std.proofs.lemmas.Bool.{cases_Bool, eq-eqb, ne_eqb, and_left, and_right, and_from, and_parts}
-use Rattle.min_plus.specs.rational.specs.Rational.{ℚ, int, ◌+ℚ◌, ◌-ℚ◌, ◌≤ℚ◌, ◌<ℚ◌}
-use Rattle.min_plus.specs.rational.specs.Extended.{Ext, ◌≤ₑ◌}
-use Rattle.min_plus.specs.rational.specs.declared.Extended.TheVariants.{Fin, Inf}
-use Rattle.min_plus.specs.rational.proofs.Laws.{le_refl, le_trans, le_or_lt}
-use Rattle.min_plus.specs.rational.proofs.ExtendedOrder.{le_ext_trans}
-use Rattle.min_plus.specs.rational.proofs.Linear.{with1, with2, with3, with4, with5, with6, with8}
+use Rattle.rational.specs.Rational.{ℚ, int, ◌+ℚ◌, ◌-ℚ◌, ◌≤ℚ◌, ◌<ℚ◌}
+use Rattle.rational.specs.Extended.{Ext, ◌≤ₑ◌}
+use Rattle.rational.specs.declared.Extended.TheVariants.{Fin, Inf}
+use Rattle.rational.proofs.Laws.{le_refl, le_trans, le_or_lt}
+use Rattle.rational.proofs.ExtendedOrder.{le_ext_trans}
+use Rattle.rational.proofs.Linear.{with1, with2, with3, with4, with5, with6, with8}
 use Rattle.min_plus.specs.Pointwise.{shifted}
 use Rattle.min_plus.specs.Functions.{IsRising}
 use Rattle.min_plus.specs.Deviations.{IsHorizontalDeviation}
@@ -20,7 +20,7 @@ use Rattle.run_laws.specs.Counts.{when, total, arrives, leaves, before, upto, ar
 use Rattle.run_laws.specs.Premises.{EachArrival, KeepsArrivals, NoneTwice}
 use Rattle.run_laws.specs.Serves.{Serves}
 use Rattle.run_laws.specs.Delays.{gone_at, hop_delays, AreAtMost}
-use Rattle.min_plus.specs.rational.proofs.Over.{lt_q_out}
+use Rattle.rational.proofs.Over.{lt_q_out}
 use Rattle.run_laws.proofs.Sums.{when_true, when_false, when_most, when_rises, total-append}
 use Rattle.run_laws.proofs.Counts.{arrived_rises, arrived_in_is, upto_arrived, window_nonneg, departed_upto}
 use Rattle.run_laws.proofs.Heads.{sum_of}

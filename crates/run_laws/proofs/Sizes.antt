@@ -2,9 +2,9 @@
 use Rattle.std.specs.Prelude.{◌≡◌, ℕ, suc, ◌+◌, ◌*◌, ◌≤◌, pos}
 use Rattle.std.proofs.Common.{arith, sym}
 use native.Mathlib.Nat.{mul-le-mul_right}
-use Rattle.min_plus.specs.rational.specs.Rational.{int, ◌+ℚ◌, ◌*ℚ◌, ◌≤ℚ◌, ◌<ℚ◌}
-use Rattle.min_plus.specs.rational.proofs.Linear.{with1, with2, with3}
-use Rattle.min_plus.specs.rational.proofs.Integers.{int_mul}
+use Rattle.rational.specs.Rational.{int, ◌+ℚ◌, ◌*ℚ◌, ◌≤ℚ◌, ◌<ℚ◌}
+use Rattle.rational.proofs.Linear.{with1, with2, with3}
+use Rattle.rational.proofs.Integers.{int_mul}
 use Rattle.run_laws.specs.Cards.{Card, whole, size}
 
 pub whole_nonneg : (n : ℕ) → int (pos 0) ≤ℚ whole n

@@ -2,8 +2,8 @@
 use Rattle.std.specs.Prelude.{Some, ◌≡◌, ◌<◌, ℕ, ◌+◌, leb, ltb, true, ◌&&◌, [], ◌∷◌, ◌++◌, length}
 use Rattle.std.proofs.Common.{sym, arith}
 use Rattle.std.proofs.lemmas.Bool.{leb-true, ltb-true, and_parts}
-use Rattle.min_plus.specs.rational.specs.Rational.{◌+ℚ◌, ◌≤ℚ◌, ◌<ℚ◌}
-use Rattle.min_plus.specs.rational.proofs.Linear.{with2}
+use Rattle.rational.specs.Rational.{◌+ℚ◌, ◌≤ℚ◌, ◌<ℚ◌}
+use Rattle.rational.proofs.Linear.{with2}
 use Rattle.run_laws.specs.declared.steps.Step.TheVariants.{Enter, Work, Leave, Visit}
 use Rattle.run_laws.specs.Cards.{Card, whole}
 use Rattle.run_laws.specs.Servers.{Server, ServerState, done_so_far}

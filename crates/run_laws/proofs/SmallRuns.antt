@@ -1,8 +1,8 @@
 -- Small runs, lawful and not.
 use Rattle.std.specs.Prelude.{Option, Some, None, ◌≡◌, ℕ, zero, suc, [], ◌∷◌, All}
 use Rattle.std.proofs.Common.{arith, ap, refl, inl}
-use Rattle.min_plus.specs.rational.specs.Rational.{ℚ, ◌<ℚ◌}
-use Rattle.min_plus.specs.rational.proofs.Linear.{with1}
+use Rattle.rational.specs.Rational.{ℚ, ◌<ℚ◌}
+use Rattle.rational.proofs.Linear.{with1}
 use Rattle.run_laws.specs.Cards.{Card, whole}
 use Rattle.run_laws.specs.Servers.{Fifo, ServerState, start}
 use Rattle.run_laws.specs.Allows.{IsComplete}

@@ -1,7 +1,7 @@
 -- What is true of each of some times.
 use Rattle.std.specs.Prelude.{List, [], ◌∷◌, ◌++◌}
 use Rattle.std.proofs.Common.{subst, sym, inl, inr}
-use Rattle.min_plus.specs.rational.specs.Rational.{ℚ}
+use Rattle.rational.specs.Rational.{ℚ}
 use Rattle.run_laws.specs.Times.{EachTime, Among}
 
 pub each_time_map : (P Q : ℚ → Type 0) → ((t : ℚ) → P t → Q t) → (ts : List ℚ) → EachTime P ts → EachTime Q ts

@@ -2,9 +2,9 @@
 use Rattle.std.specs.Prelude.{Option, Some, None, ◌≡◌, ◌≤◌, ℕ, pos, ◌==◌, Bool, true, false, List, [], ◌∷◌, ◌++◌, if◌then◌else◌}
 use Rattle.std.proofs.Common.{arith, sym, ap, ◌∙◌, refl, inl, inr, subst, append_assoc}
 use Rattle.std.proofs.lemmas.Bool.{cases_Bool, both_ways, eq-eqb, and_from, and_left}
-use Rattle.min_plus.specs.rational.specs.Rational.{ℚ, int, ◌+ℚ◌, ◌≤ℚ◌, ◌<ℚ◌}
-use Rattle.min_plus.specs.rational.proofs.Laws.{le_refl, le_trans, le_or_lt, add_zero}
-use Rattle.min_plus.specs.rational.proofs.Linear.{with2, with3, with4, with5, with7}
+use Rattle.rational.specs.Rational.{ℚ, int, ◌+ℚ◌, ◌≤ℚ◌, ◌<ℚ◌}
+use Rattle.rational.proofs.Laws.{le_refl, le_trans, le_or_lt, add_zero}
+use Rattle.rational.proofs.Linear.{with2, with3, with4, with5, with7}
 use Rattle.run_laws.specs.Cards.{Card, size, Class, ServerStep, Arrives, Works, Leaves, Visits, time_of}
 use Rattle.run_laws.proofs.Always.{IsAlwaysOfQueue}
 use Rattle.run_laws.specs.Servers.{Server, Under, ServerState, done, start, clip, head_of, without_head}
@@ -12,7 +12,7 @@ use Rattle.run_laws.specs.Next.{next, after}
 use Rattle.run_laws.specs.Allows.{Allows, AllAllowed, IsLawfulView, IsComplete}
 use Rattle.run_laws.specs.Counts.{total, arrives, leaves, works, upto, worked}
 use Rattle.run_laws.specs.Delays.{gone_at}
-use Rattle.min_plus.specs.rational.proofs.Over.{le_q_out, le_q_in}
+use Rattle.rational.proofs.Over.{le_q_out, le_q_in}
 use Rattle.run_laws.proofs.Clips.{clip_strict, clip_late}
 use Rattle.run_laws.proofs.Sums.{when_true, when_false, Each, each_map, total-append}
 use Rattle.run_laws.proofs.Heads.{same_some, sum_of}

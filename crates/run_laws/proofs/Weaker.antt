@@ -1,12 +1,12 @@
 -- What a curve promises, each weaker one does.
 use Rattle.std.specs.Prelude.{pos}
 use Rattle.std.proofs.Common.{arith}
-use Rattle.min_plus.specs.rational.specs.Rational.{ℚ, int, ◌-ℚ◌, ◌≤ℚ◌}
-use Rattle.min_plus.specs.rational.specs.Extended.{Ext, ◌≤ₑ◌, ◌+ₑ◌}
-use Rattle.min_plus.specs.rational.specs.declared.Extended.TheVariants.{Fin}
-use Rattle.min_plus.specs.rational.proofs.ExtendedOrder.{le_ext_trans, le_ext_refl, add_le_ext}
-use Rattle.min_plus.specs.rational.proofs.Laws.{le_of_lt}
-use Rattle.min_plus.specs.rational.proofs.Linear.{with2}
+use Rattle.rational.specs.Rational.{ℚ, int, ◌-ℚ◌, ◌≤ℚ◌}
+use Rattle.rational.specs.Extended.{Ext, ◌≤ₑ◌, ◌+ₑ◌}
+use Rattle.rational.specs.declared.Extended.TheVariants.{Fin}
+use Rattle.rational.proofs.ExtendedOrder.{le_ext_trans, le_ext_refl, add_le_ext}
+use Rattle.rational.proofs.Laws.{le_of_lt}
+use Rattle.rational.proofs.Linear.{with2}
 use Rattle.run_laws.specs.Cards.{all}
 use Rattle.run_laws.specs.Counts.{arrived, arrived_in, worked, departed}
 use Rattle.run_laws.specs.Views.{view}

@@ -1,6 +1,6 @@
 -- A backlogged period of a class of packets at a server. (Le Boudec and Thiran: backlogged period.)
 use Rattle.std.specs.Prelude.{List}
-use Rattle.min_plus.specs.rational.specs.Rational.{ℚ, ◌≤ℚ◌, ◌<ℚ◌}
+use Rattle.rational.specs.Rational.{ℚ, ◌≤ℚ◌, ◌<ℚ◌}
 use Rattle.run_laws.specs.Cards.{Class, ServerStep}
 use Rattle.run_laws.specs.Counts.{arrived, worked}
 

@@ -1,8 +1,8 @@
 -- What numbers promise of a run: no packet stays longer, and no more is there.
 use Rattle.std.specs.Prelude.{Some, ◌≡◌, ◌≢◌, ◌<◌, ℕ, pos, true, [], ◌∷◌, length}
-use Rattle.min_plus.specs.rational.specs.Rational.{ℚ, int, ◌≤ℚ◌}
-use Rattle.min_plus.specs.rational.specs.Extended.{Ext, ◌≤ₑ◌}
-use Rattle.min_plus.specs.rational.specs.declared.Extended.TheVariants.{Fin}
+use Rattle.rational.specs.Rational.{ℚ, int, ◌≤ℚ◌}
+use Rattle.rational.specs.Extended.{Ext, ◌≤ₑ◌}
+use Rattle.rational.specs.declared.Extended.TheVariants.{Fin}
 use Rattle.run_laws.specs.Runs.{SpecRun}
 use Rattle.run_laws.specs.Cards.{of_queue}
 use Rattle.run_laws.specs.Delays.{hop_delays, AreAtMost, backlog}

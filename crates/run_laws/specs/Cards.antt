@@ -1,6 +1,6 @@
 -- What one server sees: packets that arrive, work on them, packets that leave, and visits of its queues.
 use Rattle.std.specs.Prelude.{ℕ, Bool, true, ◌==◌, ltb}
-use Rattle.min_plus.specs.rational.specs.Rational.{ℚ}
+use Rattle.rational.specs.Rational.{ℚ}
 pub use Rattle.min_plus.specs.Functions.{whole}
 
 -- a packet at a server, with the queue that it joins there

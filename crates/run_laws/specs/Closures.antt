@@ -1,8 +1,8 @@
 -- Who keeps a curve in every closed window keeps its subadditive closure there too: a window is cut into windows, and
 -- what arrives in it arrives in these. (Le Boudec and Thiran, section 1.2: an arrival curve may be taken subadditive.)
 use Rattle.std.specs.Prelude.{ℕ, List}
-use Rattle.min_plus.specs.rational.specs.Rational.{ℚ, ◌≤ℚ◌}
-use Rattle.min_plus.specs.rational.specs.Extended.{Ext}
+use Rattle.rational.specs.Rational.{ℚ, ◌≤ℚ◌}
+use Rattle.rational.specs.Extended.{Ext}
 use Rattle.min_plus.specs.Functions.{zero_q}
 use Rattle.min_plus.specs.Convolution.{IsSubadditiveClosure}
 use Rattle.run_laws.specs.Runs.{SpecRun}

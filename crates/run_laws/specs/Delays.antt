@@ -1,8 +1,8 @@
 -- How long packets stay at a server, and how much is there.
 use Rattle.std.specs.Prelude.{ℕ, Bool, true, false, ◌==◌, List, [], ◌∷◌, if◌then◌else◌}
-use Rattle.min_plus.specs.rational.specs.Rational.{ℚ, ◌-ℚ◌}
-use Rattle.min_plus.specs.rational.specs.Extended.{Ext, ◌≤ₑ◌}
-use Rattle.min_plus.specs.rational.specs.declared.Extended.TheVariants.{Fin}
+use Rattle.rational.specs.Rational.{ℚ, ◌-ℚ◌}
+use Rattle.rational.specs.Extended.{Ext, ◌≤ₑ◌}
+use Rattle.rational.specs.declared.Extended.TheVariants.{Fin}
 use Rattle.run_laws.specs.Cards.{Class, ServerStep, Arrives, Works, Leaves, Visits}
 use Rattle.run_laws.specs.Counts.{arrived_upto, departed}
 

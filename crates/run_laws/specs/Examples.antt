@@ -1,8 +1,8 @@
 -- Small runs, lawful and not, and what is said of each.
 use Rattle.std.specs.Prelude.{Some, None, ◌≡◌, ℕ, true, false, List, [], ◌∷◌}
-use Rattle.min_plus.specs.rational.specs.Rational.{ℚ, ◌+ℚ◌}
-use Rattle.min_plus.specs.rational.specs.Extended.{Ext}
-use Rattle.min_plus.specs.rational.specs.declared.Extended.TheVariants.{Fin}
+use Rattle.rational.specs.Rational.{ℚ, ◌+ℚ◌}
+use Rattle.rational.specs.Extended.{Ext}
+use Rattle.rational.specs.declared.Extended.TheVariants.{Fin}
 use Rattle.min_plus.specs.Functions.{IsRising}
 use Rattle.min_plus.specs.Formulas.{IsBucket, IsService}
 use Rattle.min_plus.specs.Deviations.{IsHorizontalDeviation}

@@ -1,6 +1,6 @@
 -- The delay of a packet from where it enters to where its flow ends.
 use Rattle.std.specs.Prelude.{ℕ, ◌&&◌, ◌==◌, List, [], ◌∷◌, if◌then◌else◌}
-use Rattle.min_plus.specs.rational.specs.Rational.{ℚ, ◌+ℚ◌, ◌-ℚ◌}
+use Rattle.rational.specs.Rational.{ℚ, ◌+ℚ◌, ◌-ℚ◌}
 use Rattle.run_laws.specs.declared.steps.Step.{Step}
 use Rattle.run_laws.specs.declared.steps.Step.TheVariants.{Enter, Reach, Work, Leave, Visit}
 use Rattle.run_laws.specs.Runs.{SpecRun}

@@ -1,6 +1,6 @@
 -- Which runs of a network are lawful. (Non-preemptive disciplines; deficit round robin is Shreedhar and Varghese's.)
 use Rattle.std.specs.Prelude.{Option, Some, None, ◌≡◌, ℕ, ◌<◌, Bool, true, ◌&&◌, ◌==◌, List, [], ◌∷◌, ◌++◌, length, get_or, set, map, Contains, All, if◌then◌else◌}
-use Rattle.min_plus.specs.rational.specs.Rational.{ℚ, le_q, ◌+ℚ◌, ◌<ℚ◌}
+use Rattle.rational.specs.Rational.{ℚ, le_q, ◌+ℚ◌, ◌<ℚ◌}
 use Rattle.run_laws.specs.declared.steps.Step.{Step}
 use Rattle.run_laws.specs.declared.steps.Step.TheVariants.{Enter, Reach, Work, Leave, Visit}
 use Rattle.run_laws.specs.Runs.{SpecRun}

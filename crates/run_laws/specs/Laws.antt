@@ -1,9 +1,9 @@
 -- The laws of one server, of every discipline and over every lawful view; and what they say of a whole run.
 -- Curves are functions of time; an infinite bound says nothing. (Le Boudec and Thiran, chapter 1.)
 use Rattle.std.specs.Prelude.{◌≡◌, ◌<◌, ◌≤◌, ℕ, pos, true, List, length}
-use Rattle.min_plus.specs.rational.specs.Rational.{ℚ, int, ◌-ℚ◌, ◌≤ℚ◌}
-use Rattle.min_plus.specs.rational.specs.Extended.{Ext, ◌≤ₑ◌, ◌+ₑ◌}
-use Rattle.min_plus.specs.rational.specs.declared.Extended.TheVariants.{Fin}
+use Rattle.rational.specs.Rational.{ℚ, int, ◌-ℚ◌, ◌≤ℚ◌}
+use Rattle.rational.specs.Extended.{Ext, ◌≤ₑ◌, ◌+ₑ◌}
+use Rattle.rational.specs.declared.Extended.TheVariants.{Fin}
 use Rattle.min_plus.specs.Convolution.{IsDeconvolution}
 use Rattle.min_plus.specs.Deviations.{IsHorizontalDeviation, IsVerticalDeviation}
 use Rattle.min_plus.specs.Pointwise.{packetised, shifted}

@@ -2,9 +2,9 @@
 -- A curve is known by its values, and is asked for them at times from 0 on. (Le Boudec and Thiran; closed windows are
 -- our own choice.)
 use Rattle.std.specs.Prelude.{◌≡◌, ◌≢◌, ℕ, true, ◌≤◌, List, [], ◌∷◌, pos}
-use Rattle.min_plus.specs.rational.specs.Rational.{ℚ, int, ◌-ℚ◌, ◌≤ℚ◌, ◌<ℚ◌}
-use Rattle.min_plus.specs.rational.specs.Extended.{Ext, ◌≤ₑ◌, ◌+ₑ◌}
-use Rattle.min_plus.specs.rational.specs.declared.Extended.TheVariants.{Fin}
+use Rattle.rational.specs.Rational.{ℚ, int, ◌-ℚ◌, ◌≤ℚ◌, ◌<ℚ◌}
+use Rattle.rational.specs.Extended.{Ext, ◌≤ₑ◌, ◌+ₑ◌}
+use Rattle.rational.specs.declared.Extended.TheVariants.{Fin}
 use Rattle.run_laws.specs.Cards.{Card, Class, all, ServerStep, Arrives, Works, Leaves, Visits}
 use Rattle.run_laws.specs.Counts.{arrived, arrived_in, worked}
 

@@ -1,6 +1,6 @@
 -- What runs need to know of a network: its servers and links, and each flow's path.
 use Rattle.std.specs.Prelude.{Option, Some, None, ◌≡◌, ◌⊎◌, ℕ, pos, Bool, false, ◌==◌, List, [], ◌∷◌, get_or, if◌then◌else◌}
-use Rattle.min_plus.specs.rational.specs.Rational.{ℚ, int}
+use Rattle.rational.specs.Rational.{ℚ, int}
 use Rattle.run_laws.specs.Servers.{Fifo, Server}
 
 -- a server of a path, and the queue there

@@ -1,6 +1,6 @@
 -- What each step keeps of a server's state: the packet under way is the first of its queue.
 use Rattle.std.specs.Prelude.{◌≡◌, Option, Some, None, pos, List}
-use Rattle.min_plus.specs.rational.specs.Rational.{ℚ, int, ◌≤ℚ◌, ◌<ℚ◌}
+use Rattle.rational.specs.Rational.{ℚ, int, ◌≤ℚ◌, ◌<ℚ◌}
 use Rattle.run_laws.specs.Cards.{Card, size}
 use Rattle.run_laws.specs.Servers.{Span, Under, done, ServerState, head_of}
 

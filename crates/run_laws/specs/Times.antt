@@ -1,6 +1,6 @@
 -- Lists of times. Own choice.
 use Rattle.std.specs.Prelude.{◌≡◌, ◌⊎◌, List, [], ◌∷◌}
-use Rattle.min_plus.specs.rational.specs.Rational.{ℚ}
+use Rattle.rational.specs.Rational.{ℚ}
 
 -- each of these times is of a kind
 abbrev pub EachTime : (ℚ → Type 0) → List ℚ → Type 0

@@ -1,8 +1,8 @@
 -- What a curve promises, each weaker one promises too: an arrival curve that is nowhere lower, a service curve that is
 -- nowhere higher. So a curve may be rounded to its safe side. (Le Boudec and Thiran, chapter 1.)
 use Rattle.std.specs.Prelude.{◌≡◌, ◌<◌, ℕ, true, List, length}
-use Rattle.min_plus.specs.rational.specs.Rational.{ℚ, ◌≤ℚ◌}
-use Rattle.min_plus.specs.rational.specs.Extended.{Ext, ◌≤ₑ◌}
+use Rattle.rational.specs.Rational.{ℚ, ◌≤ℚ◌}
+use Rattle.rational.specs.Extended.{Ext, ◌≤ₑ◌}
 use Rattle.min_plus.specs.Functions.{zero_q}
 use Rattle.run_laws.specs.Runs.{SpecRun}
 use Rattle.run_laws.specs.Cards.{Class, ServerStep}

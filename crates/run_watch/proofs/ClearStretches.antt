@@ -1,17 +1,17 @@
 -- A stretch whose own turns, and times as far from one as a piece starts, show no short window has no idle one.
 use Rattle.std.specs.Prelude.{◌≡◌, false, List, [], ◌∷◌, Option, None, IfSome}
 use Rattle.std.proofs.Common.{arith, refl, sym, subst, inl, inr}
-use Rattle.upp_limits.specs.rational.specs.Rational.{ℚ, ◌+ℚ◌, ◌-ℚ◌, ◌≤ℚ◌, ◌<ℚ◌}
-use Rattle.upp_limits.specs.rational.specs.Extended.{◌<ₑ◌, ◌+ₑ◌}
-use Rattle.upp_limits.specs.rational.specs.declared.Extended.TheVariants.{Fin}
-use Rattle.upp_limits.specs.rational.proofs.Laws.{le_trans, le_of_lt, le_or_lt, lt_le_trans, lt_irrefl, antisym}
-use Rattle.upp_limits.specs.rational.proofs.Linear.{with3, with4, sub_pos}
-use Rattle.upp_limits.specs.upp_curve.specs.affine_segment.Pieces.{HasStart}
-use Rattle.upp_limits.specs.upp_curve.specs.Curve.{SpecCurve, value_at}
-use Rattle.upp_limits.specs.upp_curve.specs.Unrolled.{unroll}
-use Rattle.net_model.specs.run_laws.specs.Cards.{all, ServerStep}
-use Rattle.net_model.specs.run_laws.specs.Counts.{worked}
-use Rattle.net_model.specs.run_laws.specs.Servers.{Server}
+use Rattle.rational.specs.Rational.{ℚ, ◌+ℚ◌, ◌-ℚ◌, ◌≤ℚ◌, ◌<ℚ◌}
+use Rattle.rational.specs.Extended.{◌<ₑ◌, ◌+ₑ◌}
+use Rattle.rational.specs.declared.Extended.TheVariants.{Fin}
+use Rattle.rational.proofs.Laws.{le_trans, le_of_lt, le_or_lt, lt_le_trans, lt_irrefl, antisym}
+use Rattle.rational.proofs.Linear.{with3, with4, sub_pos}
+use Rattle.upp_curve.specs.affine_segment.Pieces.{HasStart}
+use Rattle.upp_curve.specs.Curve.{SpecCurve, value_at}
+use Rattle.upp_curve.specs.Unrolled.{unroll}
+use Rattle.run_laws.specs.Cards.{all, ServerStep}
+use Rattle.run_laws.specs.Counts.{worked}
+use Rattle.run_laws.specs.Servers.{Server}
 use Rattle.flow_watch.specs.watch_laws.Affine.{Among}
 use Rattle.flow_watch.specs.watch_laws.Stretches.{IsTurn}
 use Rattle.flow_watch.specs.watch_laws.Breaks.{IsBreak}

@@ -1,17 +1,17 @@
 -- No window that is short of work ends by the last turn of a stretch before the least end that the look at its turns finds.
 use Rattle.std.specs.Prelude.{◌≡◌, pos, List, [], ◌∷◌, Option, Some, IfSome}
 use Rattle.std.proofs.Common.{arith, refl, subst, inl, inr}
-use Rattle.upp_limits.specs.rational.specs.Rational.{ℚ, int, ◌-ℚ◌, ◌≤ℚ◌, ◌<ℚ◌}
-use Rattle.upp_limits.specs.rational.specs.Extended.{◌<ₑ◌, ◌+ₑ◌}
-use Rattle.upp_limits.specs.rational.specs.declared.Extended.TheVariants.{Fin}
-use Rattle.upp_limits.specs.rational.proofs.Laws.{le_trans, le_or_lt, antisym}
-use Rattle.upp_limits.specs.rational.proofs.Linear.{with2}
-use Rattle.upp_limits.specs.upp_curve.specs.declared.affine_segment.line.Piece.{Piece}
-use Rattle.upp_limits.specs.upp_curve.specs.Curve.{SpecCurve, value_at}
-use Rattle.upp_limits.specs.upp_curve.specs.Unrolled.{unroll}
-use Rattle.net_model.specs.run_laws.specs.Cards.{all, ServerStep}
-use Rattle.net_model.specs.run_laws.specs.Counts.{worked}
-use Rattle.net_model.specs.run_laws.specs.Servers.{Server}
+use Rattle.rational.specs.Rational.{ℚ, int, ◌-ℚ◌, ◌≤ℚ◌, ◌<ℚ◌}
+use Rattle.rational.specs.Extended.{◌<ₑ◌, ◌+ₑ◌}
+use Rattle.rational.specs.declared.Extended.TheVariants.{Fin}
+use Rattle.rational.proofs.Laws.{le_trans, le_or_lt, antisym}
+use Rattle.rational.proofs.Linear.{with2}
+use Rattle.upp_curve.specs.declared.affine_segment.line.Piece.{Piece}
+use Rattle.upp_curve.specs.Curve.{SpecCurve, value_at}
+use Rattle.upp_curve.specs.Unrolled.{unroll}
+use Rattle.run_laws.specs.Cards.{all, ServerStep}
+use Rattle.run_laws.specs.Counts.{worked}
+use Rattle.run_laws.specs.Servers.{Server}
 use Rattle.flow_watch.specs.declared.watch_laws.point.Segment.{Segment}
 use Rattle.flow_watch.specs.watch_laws.Laws.{MayServe}
 use Rattle.flow_watch.specs.watch_laws.Reaches.{HasReach}

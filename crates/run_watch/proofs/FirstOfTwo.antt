@@ -2,9 +2,9 @@
 use Rattle.std.specs.Prelude.{◌≡◌, ◌||◌, true, Option, Some, None}
 use Rattle.std.proofs.Common.{subst, inl, inr}
 use Rattle.std.proofs.lemmas.Bool.{cases_Bool, or_left, or_right}
-use Rattle.upp_limits.specs.rational.specs.Rational.{◌≤ℚ◌, ◌<ℚ◌, lt_q}
-use Rattle.upp_limits.specs.rational.proofs.Over.{lt_q_in}
-use Rattle.net_model.specs.run_laws.specs.Runs.{SpecRun}
+use Rattle.rational.specs.Rational.{◌≤ℚ◌, ◌<ℚ◌, lt_q}
+use Rattle.rational.proofs.Over.{lt_q_in}
+use Rattle.run_laws.specs.Runs.{SpecRun}
 use Rattle.net_model.specs.declared.breach.Breach.{Breach}
 use Rattle.net_model.specs.declared.breach.Breach.TheVariants.{Size, Arrival, Service}
 use Rattle.flow_watch.specs.watch_laws.Breaches.{order_key, NoLater}

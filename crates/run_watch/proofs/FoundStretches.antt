@@ -3,15 +3,15 @@ use Rattle.std.specs.Prelude.{◌≡◌, ◌⊎◌, pos, true, List, [], ◌∷�
 use Rattle.std.specs.Option.{option_to_list}
 use Rattle.std.proofs.Common.{refl, sym, subst, ap, ap₂, ◌∙◌, inl, inr, arith}
 use Rattle.std.proofs.lemmas.Bool.{cases_Bool, and_from, and_parts}
-use Rattle.upp_limits.specs.rational.specs.Rational.{ℚ, int, ◌+ℚ◌, ◌≤ℚ◌, ◌<ℚ◌, le_q, lt_q}
-use Rattle.upp_limits.specs.rational.proofs.Laws.{le_refl, le_trans, le_or_lt, le_of_lt, lt_le_trans, lt_irrefl, lt_cases, add_assoc, add_zero}
-use Rattle.upp_limits.specs.rational.proofs.Over.{le_q_out, le_q_in, lt_q_out, lt_q_in}
-use Rattle.upp_limits.specs.rational.proofs.Linear.{with_atoms}
-use Rattle.net_model.specs.run_laws.specs.Cards.{all, ServerStep, Arrives, Works, Leaves, Visits}
-use Rattle.net_model.specs.run_laws.specs.Servers as servers
-use Rattle.net_model.specs.run_laws.specs.Counts.{arrived, worked}
-use Rattle.net_model.specs.run_laws.proofs.Sums.{add_nothing}
-use Rattle.net_model.specs.run_laws.proofs.Sizes.{size_nonneg}
+use Rattle.rational.specs.Rational.{ℚ, int, ◌+ℚ◌, ◌≤ℚ◌, ◌<ℚ◌, le_q, lt_q}
+use Rattle.rational.proofs.Laws.{le_refl, le_trans, le_or_lt, le_of_lt, lt_le_trans, lt_irrefl, lt_cases, add_assoc, add_zero}
+use Rattle.rational.proofs.Over.{le_q_out, le_q_in, lt_q_out, lt_q_in}
+use Rattle.rational.proofs.Linear.{with_atoms}
+use Rattle.run_laws.specs.Cards.{all, ServerStep, Arrives, Works, Leaves, Visits}
+use Rattle.run_laws.specs.Servers as servers
+use Rattle.run_laws.specs.Counts.{arrived, worked}
+use Rattle.run_laws.proofs.Sums.{add_nothing}
+use Rattle.run_laws.proofs.Sizes.{size_nonneg}
 use Rattle.flow_watch.specs.watch_laws.Stretches.{IsStretch}
 use Rattle.flow_watch.specs.watch_laws.Times.{HasArrival}
 use Rattle.flow_watch.proofs.watch_laws.Times.{stretches_begin}

@@ -2,17 +2,17 @@
 use Rattle.std.specs.Prelude.{◌≡◌, ◌⊎◌, pos, ◌&&◌, List, [], ◌∷◌, ◌++◌}
 use Rattle.std.proofs.Common.{arith, refl, sym, subst, inl, inr}
 use Rattle.std.proofs.lemmas.Bool.{cases_Bool, and_from, and_parts}
-use Rattle.upp_limits.specs.rational.specs.Rational.{ℚ, int, ◌+ℚ◌, ◌-ℚ◌, ◌≤ℚ◌, ◌<ℚ◌, le_q}
-use Rattle.upp_limits.specs.rational.proofs.Laws.{le_or_lt, antisym}
-use Rattle.upp_limits.specs.rational.proofs.Over.{le_q_out, le_q_in}
-use Rattle.upp_limits.specs.rational.proofs.Linear.{with2, with3, with4}
-use Rattle.upp_limits.specs.upp_curve.specs.declared.affine_segment.line.Piece.{Piece}
-use Rattle.upp_limits.specs.upp_curve.specs.Curve.{SpecCurve}
-use Rattle.upp_limits.specs.upp_curve.specs.affine_segment.Pieces.{HasStart, StartsAtZero}
-use Rattle.upp_limits.specs.upp_curve.specs.Normal.{IsNormal}
-use Rattle.upp_limits.specs.upp_curve.specs.Unrolled.{unroll}
-use Rattle.curve_call.specs.upp_normal.proofs.UnrolledPieces.{unroll_starts}
-use Rattle.net_model.specs.run_laws.specs.Cards.{ServerStep}
+use Rattle.rational.specs.Rational.{ℚ, int, ◌+ℚ◌, ◌-ℚ◌, ◌≤ℚ◌, ◌<ℚ◌, le_q}
+use Rattle.rational.proofs.Laws.{le_or_lt, antisym}
+use Rattle.rational.proofs.Over.{le_q_out, le_q_in}
+use Rattle.rational.proofs.Linear.{with2, with3, with4}
+use Rattle.upp_curve.specs.declared.affine_segment.line.Piece.{Piece}
+use Rattle.upp_curve.specs.Curve.{SpecCurve}
+use Rattle.upp_curve.specs.affine_segment.Pieces.{HasStart, StartsAtZero}
+use Rattle.upp_curve.specs.Normal.{IsNormal}
+use Rattle.upp_curve.specs.Unrolled.{unroll}
+use Rattle.upp_normal.proofs.UnrolledPieces.{unroll_starts}
+use Rattle.run_laws.specs.Cards.{ServerStep}
 use Rattle.flow_watch.specs.watch_laws.Affine.{EachTime, Among}
 use Rattle.flow_watch.specs.watch_laws.Breaks.{IsBreak}
 use Rattle.flow_watch.specs.watch_laws.Stretches.{IsTurn, IsWatchPoint}

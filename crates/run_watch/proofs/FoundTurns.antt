@@ -3,12 +3,12 @@ use Rattle.std.specs.Prelude.{◌≡◌, ◌≢◌, ◌⊎◌, pos, true, List, 
 use Rattle.std.proofs.Common.{refl, sym, subst, ap, ap₂, ◌∙◌, inl, inr, true≢false}
 use Rattle.std.proofs.lemmas.Bool.{cases_Bool}
 use Rattle.std.specs.Ordering.{is_eq}
-use Rattle.upp_limits.specs.rational.specs.Rational.{ℚ, int, ◌+ℚ◌}
-use Rattle.upp_limits.specs.rational.proofs.Comparison.{cmp_self}
-use Rattle.upp_limits.specs.rational.specs.Compared.{same_q}
-pub use Rattle.upp_limits.specs.rational.proofs.OrderLaws.{same_out as same_in}
-use Rattle.net_model.specs.run_laws.specs.Cards.{ServerStep}
-use Rattle.net_model.specs.run_laws.specs.Servers as servers
+use Rattle.rational.specs.Rational.{ℚ, int, ◌+ℚ◌}
+use Rattle.rational.proofs.Comparison.{cmp_self}
+use Rattle.rational.specs.Compared.{same_q}
+pub use Rattle.rational.proofs.OrderLaws.{same_out as same_in}
+use Rattle.run_laws.specs.Cards.{ServerStep}
+use Rattle.run_laws.specs.Servers as servers
 use Rattle.flow_watch.specs.watch_laws.Affine.{Among}
 use Rattle.flow_watch.specs.watch_laws.Paces.{pace_before, pace_after}
 use Rattle.flow_watch.specs.watch_laws.Stretches.{IsTurn}

@@ -3,24 +3,24 @@ use Rattle.std.specs.Prelude.{◌≡◌, ℕ, ◌*◌, pos, List, [], ◌∷◌,
 use Rattle.std.proofs.Common.{arith, inl, inr, refl, sym, subst, ap, ◌∙◌}
 use Prim.Native.Nat.{◌∣◌}
 use native.Mathlib.Nat.{dvd-mul_right, dvd_trans}
-use Rattle.upp_limits.specs.rational.specs.Rational.{ℚ, int, ◌+ℚ◌, ◌-ℚ◌, ◌*ℚ◌, ◌≤ℚ◌, ◌<ℚ◌, neg_ℚ}
-use Rattle.upp_limits.specs.rational.specs.Ratio.{SumFits}
-use Rattle.upp_limits.specs.rational.specs.Grid.{Whole, Within}
-use Rattle.upp_limits.specs.rational.specs.declared.Extended.TheVariants.{Fin, Inf}
-use Rattle.upp_limits.specs.rational.specs.Extended.{Ext}
-use Rattle.upp_limits.specs.rational.proofs.Laws.{le_refl, le_or_lt, le_of_lt, lt_le_trans, le_lt_trans, add_assoc, add_zero, mul_le_mul, mul_nonneg, zero_mul, mul_zero, one_mul, le_of_mul, div_mul, not_zero}
-use Rattle.upp_limits.specs.rational.proofs.Integers.{nat_nonneg}
-use Rattle.upp_limits.specs.rational.proofs.Grid.{whole_int, whole_add, whole_sub, whole_neg, whole_weaken, within_neg, within_nonneg}
-use Rattle.upp_limits.specs.rational.proofs.Linear.{with2, with3, with_atoms}
-use Rattle.upp_limits.specs.rational.proofs.MinMax.{lt_q_not}
-use Rattle.upp_limits.specs.rational.proofs.Over.{lt_q_out}
-use Rattle.upp_limits.specs.upp_curve.specs.declared.affine_segment.line.Line.{Line}
-use Rattle.upp_limits.specs.upp_curve.specs.declared.affine_segment.line.Piece.{Piece}
+use Rattle.rational.specs.Rational.{ℚ, int, ◌+ℚ◌, ◌-ℚ◌, ◌*ℚ◌, ◌≤ℚ◌, ◌<ℚ◌, neg_ℚ}
+use Rattle.rational.specs.Ratio.{SumFits}
+use Rattle.rational.specs.Grid.{Whole, Within}
+use Rattle.rational.specs.declared.Extended.TheVariants.{Fin, Inf}
+use Rattle.rational.specs.Extended.{Ext}
+use Rattle.rational.proofs.Laws.{le_refl, le_or_lt, le_of_lt, lt_le_trans, le_lt_trans, add_assoc, add_zero, mul_le_mul, mul_nonneg, zero_mul, mul_zero, one_mul, le_of_mul, div_mul, not_zero}
+use Rattle.rational.proofs.Integers.{nat_nonneg}
+use Rattle.rational.proofs.Grid.{whole_int, whole_add, whole_sub, whole_neg, whole_weaken, within_neg, within_nonneg}
+use Rattle.rational.proofs.Linear.{with2, with3, with_atoms}
+use Rattle.rational.proofs.MinMax.{lt_q_not}
+use Rattle.rational.proofs.Over.{lt_q_out}
+use Rattle.upp_curve.specs.declared.affine_segment.line.Line.{Line}
+use Rattle.upp_curve.specs.declared.affine_segment.line.Piece.{Piece}
 use Rattle.upp_limits.specs.Limits.{Sizes}
-use Rattle.upp_limits.specs.upp_curve.specs.affine_segment.Pieces.{Each, HasStart}
+use Rattle.upp_curve.specs.affine_segment.Pieces.{Each, HasStart}
 use Rattle.upp_limits.specs.Sized.{IsSlope, ValueStands, grid_of, times_largest}
-use Rattle.curve_call.specs.upp_normal.specs.Operand.{AreLimited, OperandLineAt, OperandPiece, OperandPieces}
-use Rattle.net_model.specs.run_laws.proofs.Sums.{add_nothing}
+use Rattle.upp_normal.specs.Operand.{AreLimited, OperandLineAt, OperandPiece, OperandPieces}
+use Rattle.run_laws.proofs.Sums.{add_nothing}
 use Rattle.flow_watch.specs.watch_laws.Affine.{EachTime}
 use Rattle.flow_watch.specs.declared.watch_laws.point.Segment.{Segment}
 use Rattle.flow_watch.specs.watch_laws.Shorts.{EachSegment}
@@ -36,7 +36,7 @@ use Rattle.run_watch.specs.IdleWindows.{TimeFits, SegmentsFit}
 use Rattle.run_watch.specs.Held.{IsHeldRamp, AreHeld}
 use Rattle.flow_watch.specs.watch_laws.Marks.{FitsRule}
 use Rattle.run_watch.proofs.RampLists.{part_first, clip_past, spans_are, pace_is}
-use Rattle.upp_limits.specs.upp_curve.proofs.affine_segment.PieceOrder.{each_map}
+use Rattle.upp_curve.proofs.affine_segment.PieceOrder.{each_map}
 
 some_largest : (z : Sizes) → int (pos 0) ≤ℚ times_largest 1 z
 some_largest z = mul_nonneg (nat_nonneg 1) (nat_nonneg z.largest)

@@ -2,19 +2,19 @@
 use Rattle.std.specs.Prelude.{◌≡◌, pos, List, [], ◌∷◌, ◌++◌}
 use Rattle.std.proofs.Common.{sym, subst, inl, inr}
 use Rattle.std.proofs.lemmas.Bool.{cases_Bool}
-use Rattle.upp_limits.specs.rational.specs.Rational.{ℚ, int, ◌≤ℚ◌, ◌<ℚ◌, lt_q}
-use Rattle.upp_limits.specs.rational.proofs.Laws.{le_refl, le_trans, lt_le_trans, lt_irrefl}
-use Rattle.upp_limits.specs.rational.specs.Grid.{Whole}
-use Rattle.upp_limits.specs.rational.proofs.Grid.{whole_add, whole_sub}
-use Rattle.upp_limits.specs.upp_curve.specs.declared.affine_segment.line.Piece.{Piece}
-use Rattle.upp_limits.specs.upp_curve.specs.Curve.{SpecCurve}
+use Rattle.rational.specs.Rational.{ℚ, int, ◌≤ℚ◌, ◌<ℚ◌, lt_q}
+use Rattle.rational.proofs.Laws.{le_refl, le_trans, lt_le_trans, lt_irrefl}
+use Rattle.rational.specs.Grid.{Whole}
+use Rattle.rational.proofs.Grid.{whole_add, whole_sub}
+use Rattle.upp_curve.specs.declared.affine_segment.line.Piece.{Piece}
+use Rattle.upp_curve.specs.Curve.{SpecCurve}
 use Rattle.upp_limits.specs.Limits.{Sizes}
-use Rattle.curve_call.specs.upp_normal.specs.Operand.{AreLimited, OperandPieces}
-use Rattle.upp_limits.specs.upp_curve.specs.Unrolled.{unroll}
-use Rattle.curve_call.specs.upp_normal.specs.Unrolling.{IsOperandTo}
-use Rattle.curve_call.specs.upp_normal.proofs.UnrolledPieces.{operand_pieces}
-use Rattle.net_model.specs.run_laws.specs.Cards.{ServerStep}
-use Rattle.net_model.specs.run_laws.specs.Servers.{Server}
+use Rattle.upp_normal.specs.Operand.{AreLimited, OperandPieces}
+use Rattle.upp_curve.specs.Unrolled.{unroll}
+use Rattle.upp_normal.specs.Unrolling.{IsOperandTo}
+use Rattle.upp_normal.proofs.UnrolledPieces.{operand_pieces}
+use Rattle.run_laws.specs.Cards.{ServerStep}
+use Rattle.run_laws.specs.Servers.{Server}
 use Rattle.flow_watch.specs.watch_laws.Affine.{EachTime, Among}
 use Rattle.flow_watch.specs.watch_laws.Breaches.{IsIdle}
 use Rattle.flow_watch.specs.watch_laws.Laws.{MayServe}
@@ -35,7 +35,7 @@ use Rattle.run_watch.proofs.FoundTimes.{in_watched}
 use Rattle.run_watch.proofs.HeldSizes.{ramps_read, segments_fit, moves_fit, start_time}
 use Rattle.run_watch.proofs.SortedPoints.{each_time_from}
 use Rattle.run_watch.proofs.IdleIn.{IsSearched}
-use Rattle.net_model.specs.run_laws.proofs.Times.{each_time_map, each_time_append}
+use Rattle.run_laws.proofs.Times.{each_time_map, each_time_append}
 
 -- ---- reading
 pub reads_at : (w : Watched) (c : SpecCurve) (t : ℚ) (h : IsHeld w c) → IsTime h.sizes w.end t → ReadsAt w t

@@ -3,9 +3,9 @@ use Rattle.std.specs.Prelude.{◌≡◌, ◌⊎◌, ℕ, zero, suc, ◌+◌, ◌
 use Rattle.std.specs.List.{slice_index_or}
 use Rattle.std.proofs.Common.{arith, refl, sym, subst, ap, ◌∙◌, inl, inr, true≢false}
 use Rattle.std.proofs.lemmas.Bool.{cases_Bool}
-use Rattle.upp_limits.specs.rational.specs.Rational.{ℚ, lt_q}
-use Rattle.upp_limits.specs.rational.proofs.Laws.{le_trans, le_of_lt, le_of_not_lt}
-use Rattle.upp_limits.specs.rational.proofs.Over.{lt_q_in, lt_q_out}
+use Rattle.rational.specs.Rational.{ℚ, lt_q}
+use Rattle.rational.proofs.Laws.{le_trans, le_of_lt, le_of_not_lt}
+use Rattle.rational.proofs.Over.{lt_q_in, lt_q_out}
 use Rattle.flow_watch.specs.declared.watch_laws.point.Point.{Point}
 use Rattle.flow_watch.specs.declared.watch_laws.point.Segment.{Segment}
 use Rattle.flow_watch.specs.watch_laws.Shorts.{HasPoint, HasSegment}

@@ -3,9 +3,9 @@ use Rattle.std.specs.Prelude.{◌↔◌, Bool, true, false, not, IsTrue, ◌≡�
 use Rattle.std.specs.List.{slice_index_or}
 use Rattle.std.specs.Option.{option_to_list}
 use Rattle.std.proofs.Common.{true≢false, arith, refl, sym, subst, ap, ◌∙◌, inl, inr}
-use Rattle.upp_limits.specs.rational.specs.Rational.{ℚ, ◌+ℚ◌, ◌≤ℚ◌, ◌<ℚ◌}
-use Rattle.upp_limits.specs.rational.proofs.Laws.{le_refl, le_trans, le_of_lt, lt_le_trans, lt_irrefl, le_of_not_lt}
-use Rattle.upp_limits.specs.rational.proofs.Linear.{with_atoms, with4}
+use Rattle.rational.specs.Rational.{ℚ, ◌+ℚ◌, ◌≤ℚ◌, ◌<ℚ◌}
+use Rattle.rational.proofs.Laws.{le_refl, le_trans, le_of_lt, lt_le_trans, lt_irrefl, le_of_not_lt}
+use Rattle.rational.proofs.Linear.{with_atoms, with4}
 use Rattle.flow_watch.specs.declared.watch_laws.mark.Mark.{Mark}
 use Rattle.flow_watch.specs.declared.watch_laws.mark.Rule.{Rule}
 use Rattle.flow_watch.specs.watch_laws.Marks.{Each, Has, TimesRise, IsPast, IsUnder, IsOver, IsUnderSome}

@@ -3,21 +3,21 @@ use Rattle.std.specs.Prelude.{◌≡◌, ◌↔◌, ℕ, ◌<◌, pos, Bool, IsT
 use Rattle.std.specs.List.{slice_index_or}
 use Rattle.std.proofs.Common.{arith, refl, sym, subst, ap, inl, inr, ◌∙◌}
 use Rattle.std.proofs.lemmas.Bool.{cases_Bool, and_parts}
-use Rattle.upp_limits.specs.rational.specs.Rational.{ℚ, int, ◌+ℚ◌, ◌-ℚ◌, ◌*ℚ◌, ◌≤ℚ◌, ◌<ℚ◌, lt_q, le_q}
-use Rattle.upp_limits.specs.rational.proofs.Laws.{le_refl, le_trans, le_of_lt, lt_le_trans, le_lt_trans, lt_irrefl, le_of_not_lt, mul_zero}
-use Rattle.upp_limits.specs.rational.proofs.Grid.{whole_add, whole_sub}
-use Rattle.upp_limits.specs.rational.proofs.Over.{lt_q_in}
-use Rattle.upp_limits.specs.rational.proofs.Linear.{with1, with2, with3}
-use Rattle.upp_limits.specs.upp_curve.specs.declared.affine_segment.line.Piece.{Piece}
-use Rattle.upp_limits.specs.upp_curve.proofs.affine_segment.PieceOrder.{each_map}
-use Rattle.upp_limits.specs.upp_curve.specs.Curve.{SpecCurve}
-use Rattle.upp_limits.specs.upp_curve.specs.Unrolled.{unroll}
+use Rattle.rational.specs.Rational.{ℚ, int, ◌+ℚ◌, ◌-ℚ◌, ◌*ℚ◌, ◌≤ℚ◌, ◌<ℚ◌, lt_q, le_q}
+use Rattle.rational.proofs.Laws.{le_refl, le_trans, le_of_lt, lt_le_trans, le_lt_trans, lt_irrefl, le_of_not_lt, mul_zero}
+use Rattle.rational.proofs.Grid.{whole_add, whole_sub}
+use Rattle.rational.proofs.Over.{lt_q_in}
+use Rattle.rational.proofs.Linear.{with1, with2, with3}
+use Rattle.upp_curve.specs.declared.affine_segment.line.Piece.{Piece}
+use Rattle.upp_curve.proofs.affine_segment.PieceOrder.{each_map}
+use Rattle.upp_curve.specs.Curve.{SpecCurve}
+use Rattle.upp_curve.specs.Unrolled.{unroll}
 use Rattle.upp_limits.specs.Limits.{Sizes}
 use Rattle.upp_limits.proofs.Operands.{curve_period}
-use Rattle.curve_call.specs.upp_normal.specs.Operand.{AreLimited, OperandPiece, OperandPieces}
-use Rattle.curve_call.specs.upp_normal.specs.Unrolling.{IsOperandTo}
-use Rattle.curve_call.specs.upp_normal.proofs.GaugeRises.{curve_earlier}
-use Rattle.curve_call.specs.upp_normal.proofs.UnrolledPieces.{operand_pieces}
+use Rattle.upp_normal.specs.Operand.{AreLimited, OperandPiece, OperandPieces}
+use Rattle.upp_normal.specs.Unrolling.{IsOperandTo}
+use Rattle.upp_normal.proofs.GaugeRises.{curve_earlier}
+use Rattle.upp_normal.proofs.UnrolledPieces.{operand_pieces}
 use Rattle.curve_call.proofs.OwnPeriods.{limited_less}
 use Rattle.flow_watch.specs.watch_laws.Affine.{EachTime, Among}
 use Rattle.flow_watch.specs.declared.watch_laws.point.Point.{Point}
@@ -45,7 +45,7 @@ use Rattle.run_watch.proofs.HeldTimes.{turns_time}
 use Rattle.run_watch.proofs.IdleIn.{has_at, late_after}
 use Rattle.run_watch.proofs.OwnTurns.{holds_same, same_read}
 use Rattle.run_watch.proofs.Reaches.{fit_within, time_within, near_within}
-use Rattle.net_model.specs.run_laws.proofs.Times.{each_time_map}
+use Rattle.run_laws.proofs.Times.{each_time_map}
 use Rattle.run_watch.proofs.SortedPoints.{each_point_at, each_time_from, each_time_among, fits_of}
 
 -- ---- points

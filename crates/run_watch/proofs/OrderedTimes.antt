@@ -5,11 +5,11 @@ use Rattle.std.specs.List.Sorted.{IsSorted, IsPermutation}
 use Rattle.std.proofs.Common.{arith, add-one, append_assoc, inl, inr, sym, subst, ap, ◌∙◌}
 use Rattle.std.proofs.lemmas.Bool.{cases_Bool}
 use Rattle.std.proofs.lemmas.List.{append-nil, drop_all}
-use Rattle.upp_limits.specs.rational.specs.Rational.{ℚ}
-use Rattle.upp_limits.specs.rational.specs.Ratio.{cmp_q}
-use Rattle.upp_limits.specs.rational.specs.Compared.{same_q}
-use Rattle.upp_limits.specs.rational.proofs.OrderLaws.{same_out}
-use Rattle.upp_limits.specs.upp_curve.specs.declared.affine_segment.line.Piece.{Piece}
+use Rattle.rational.specs.Rational.{ℚ}
+use Rattle.rational.specs.Ratio.{cmp_q}
+use Rattle.rational.specs.Compared.{same_q}
+use Rattle.rational.proofs.OrderLaws.{same_out}
+use Rattle.upp_curve.specs.declared.affine_segment.line.Piece.{Piece}
 use Rattle.flow_watch.specs.watch_laws.Affine.{Among}
 use Rattle.run_watch.specs.declared.watched.Stretch.{Stretch}
 use Rattle.run_watch.specs.Watching.{RiseFrom}

@@ -1,10 +1,10 @@
 -- The turns that are in one stretch, as a part of all of them in order.
 use Rattle.std.specs.Prelude.{◌≡◌, ℕ, zero, suc, ◌<◌, ◌≤◌, true, false, List, [], ◌∷◌, length, take, drop, get_or}
 use Rattle.std.proofs.Common.{arith, sym, subst, inl, inr, true≢false, ◌∙◌}
-use Rattle.upp_limits.specs.rational.specs.Rational.{ℚ, ◌≤ℚ◌, ◌<ℚ◌, le_q}
-use Rattle.net_model.specs.run_laws.specs.Counts.{before}
-use Rattle.upp_limits.specs.rational.proofs.Laws.{le_lt_trans, lt_le_trans, lt_irrefl, le_of_not_lt}
-use Rattle.upp_limits.specs.rational.proofs.Over.{lt_q_in, lt_q_out, le_q_in, le_q_out}
+use Rattle.rational.specs.Rational.{ℚ, ◌≤ℚ◌, ◌<ℚ◌, le_q}
+use Rattle.run_laws.specs.Counts.{before}
+use Rattle.rational.proofs.Laws.{le_lt_trans, lt_le_trans, lt_irrefl, le_of_not_lt}
+use Rattle.rational.proofs.Over.{lt_q_in, lt_q_out, le_q_in, le_q_out}
 use Rattle.flow_watch.specs.watch_laws.Affine.{Among}
 use Rattle.run_watch.specs.declared.watched.Stretch.{Stretch}
 use Rattle.run_watch.specs.Watching.{RiseFrom, HoldsTimes}

@@ -4,13 +4,13 @@ use Rattle.std.specs.List.{slice_index_or}
 use Rattle.std.proofs.Common.{arith, inl, inr, refl, sym, subst, ap, ap₂, ◌∙◌, true≢false}
 use Rattle.std.proofs.lemmas.Bool.{and_left, and_right}
 use Rattle.std.proofs.lemmas.List.{get_or_default}
-use Rattle.upp_limits.specs.rational.specs.Rational.{ℚ, int, ◌+ℚ◌, ◌-ℚ◌, ◌*ℚ◌, ◌/ℚ◌, ◌≤ℚ◌, ◌<ℚ◌, lt_q, le_q, inv_ℚ}
-use Rattle.upp_limits.specs.rational.proofs.Laws.{le_refl, le_trans, le_or_lt, le_of_lt, lt_le_trans, le_lt_trans, lt_irrefl, antisym, add_assoc, add_zero, mul_assoc, mul_comm, div_mul, not_zero}
-use Rattle.upp_limits.specs.rational.proofs.Linear.{with2}
-use Rattle.upp_limits.specs.rational.proofs.Over.{le_q_out, lt_q_out, lt_q_in, le_q_in}
-use Rattle.upp_limits.specs.rational.proofs.MinMax.{le_q_not, lt_q_not}
-use Rattle.net_model.specs.run_laws.specs.Servers as servers
-use Rattle.net_model.specs.run_laws.proofs.Sums.{when_true, when_false, add_nothing}
+use Rattle.rational.specs.Rational.{ℚ, int, ◌+ℚ◌, ◌-ℚ◌, ◌*ℚ◌, ◌/ℚ◌, ◌≤ℚ◌, ◌<ℚ◌, lt_q, le_q, inv_ℚ}
+use Rattle.rational.proofs.Laws.{le_refl, le_trans, le_or_lt, le_of_lt, lt_le_trans, le_lt_trans, lt_irrefl, antisym, add_assoc, add_zero, mul_assoc, mul_comm, div_mul, not_zero}
+use Rattle.rational.proofs.Linear.{with2}
+use Rattle.rational.proofs.Over.{le_q_out, lt_q_out, lt_q_in, le_q_in}
+use Rattle.rational.proofs.MinMax.{le_q_not, lt_q_not}
+use Rattle.run_laws.specs.Servers as servers
+use Rattle.run_laws.proofs.Sums.{when_true, when_false, add_nothing}
 use Rattle.run_watch.specs.declared.span.Span.{Span}
 use Rattle.run_watch.specs.declared.span.Ramp.{Ramp}
 use Rattle.run_watch.specs.Ramps.{as_span, amount, pace_in, rate_before, rate_after, InOrder, TakeTime, ramps_after, AreRamps, spans_of, part, all_done, paced_before, paced_after, EachRamp, EndBefore, EndBy, EndsBefore, EndsBy}

@@ -2,21 +2,21 @@
 use Rattle.std.specs.Prelude.{◌≡◌, ◌⊎◌, pos, true, false, List, [], ◌∷◌, Option, Some, None, IfSome}
 use Rattle.std.proofs.Common.{refl, sym, subst, ◌∙◌, inl, inr, true≢false}
 use Rattle.std.proofs.lemmas.Bool.{cases_Bool}
-use Rattle.upp_limits.specs.rational.specs.Rational.{ℚ, int, ◌-ℚ◌, ◌≤ℚ◌, ◌<ℚ◌}
-use Rattle.upp_limits.specs.rational.specs.Extended.{◌<ₑ◌, ◌+ₑ◌}
-use Rattle.upp_limits.specs.rational.specs.declared.Extended.TheVariants.{Fin}
-use Rattle.upp_limits.specs.rational.proofs.Laws.{lt_le_trans}
-use Rattle.upp_limits.specs.rational.proofs.Over.{lt_q_in, lt_q_out}
-use Rattle.upp_limits.specs.rational.proofs.MinMax.{lt_q_not}
-use Rattle.upp_limits.specs.upp_curve.specs.declared.curve.Tail.{Tail}
-use Rattle.upp_limits.specs.upp_curve.specs.declared.curve.Tail.TheVariants.{Periodic}
-use Rattle.upp_limits.specs.upp_curve.specs.Curve.{SpecCurve, value_at}
-use Rattle.upp_limits.specs.upp_curve.specs.Curves.{IsCurve}
-use Rattle.upp_limits.specs.upp_curve.specs.Normal.{FitsPeriod, TailFits}
-use Rattle.net_model.specs.run_laws.specs.Cards.{all, ServerStep}
-use Rattle.net_model.specs.run_laws.specs.Counts.{worked}
-use Rattle.net_model.specs.run_laws.specs.Servers.{Server}
-use Rattle.net_model.specs.run_laws.specs.Allows.{IsLawfulView}
+use Rattle.rational.specs.Rational.{ℚ, int, ◌-ℚ◌, ◌≤ℚ◌, ◌<ℚ◌}
+use Rattle.rational.specs.Extended.{◌<ₑ◌, ◌+ₑ◌}
+use Rattle.rational.specs.declared.Extended.TheVariants.{Fin}
+use Rattle.rational.proofs.Laws.{lt_le_trans}
+use Rattle.rational.proofs.Over.{lt_q_in, lt_q_out}
+use Rattle.rational.proofs.MinMax.{lt_q_not}
+use Rattle.upp_curve.specs.declared.curve.Tail.{Tail}
+use Rattle.upp_curve.specs.declared.curve.Tail.TheVariants.{Periodic}
+use Rattle.upp_curve.specs.Curve.{SpecCurve, value_at}
+use Rattle.upp_curve.specs.Curves.{IsCurve}
+use Rattle.upp_curve.specs.Normal.{FitsPeriod, TailFits}
+use Rattle.run_laws.specs.Cards.{all, ServerStep}
+use Rattle.run_laws.specs.Counts.{worked}
+use Rattle.run_laws.specs.Servers.{Server}
+use Rattle.run_laws.specs.Allows.{IsLawfulView}
 use Rattle.flow_watch.specs.watch_laws.Breaks.{IsBreak}
 use Rattle.flow_watch.specs.watch_laws.Laws.{MayServe}
 use Rattle.flow_watch.specs.watch_laws.Reaches.{HasReach}

@@ -4,18 +4,18 @@ use Rattle.std.specs.List.{slice_index_or}
 use Rattle.std.specs.Option.{option_to_list}
 use Rattle.std.proofs.Common.{inl, inr, refl, sym, ap, ap₂, ◌∙◌}
 use Rattle.std.proofs.lemmas.Bool.{cases_Bool}
-use Rattle.upp_limits.specs.rational.specs.Rational.{ℚ, int, ◌+ℚ◌, le_q, lt_q}
-use Rattle.upp_limits.specs.rational.proofs.Laws.{le_or_lt, le_of_lt}
-use Rattle.upp_limits.specs.rational.proofs.Over.{le_q_out, lt_q_out}
-use Rattle.upp_limits.specs.rational.proofs.MinMax.{le_q_not, lt_q_not}
-use Rattle.net_model.specs.run_laws.specs.declared.steps.Step.{Step}
-use Rattle.net_model.specs.run_laws.specs.declared.steps.Step.TheVariants.{Enter, Reach, Work, Leave, Visit}
-use Rattle.net_model.specs.run_laws.specs.Cards.{all, ServerStep, Arrives, Works, Leaves, Visits}
-use Rattle.net_model.specs.run_laws.specs.Servers as servers
-use Rattle.net_model.specs.run_laws.specs.Counts.{when, arrived, worked}
-use Rattle.net_model.specs.run_laws.specs.Routes.{Routes, route_of, first_server}
-use Rattle.net_model.specs.run_laws.specs.Views.{Entry, entry_of, view_from, entered_after, server_of}
-use Rattle.net_model.specs.run_laws.proofs.Sums.{when_true, when_false, add_nothing}
+use Rattle.rational.specs.Rational.{ℚ, int, ◌+ℚ◌, le_q, lt_q}
+use Rattle.rational.proofs.Laws.{le_or_lt, le_of_lt}
+use Rattle.rational.proofs.Over.{le_q_out, lt_q_out}
+use Rattle.rational.proofs.MinMax.{le_q_not, lt_q_not}
+use Rattle.run_laws.specs.declared.steps.Step.{Step}
+use Rattle.run_laws.specs.declared.steps.Step.TheVariants.{Enter, Reach, Work, Leave, Visit}
+use Rattle.run_laws.specs.Cards.{all, ServerStep, Arrives, Works, Leaves, Visits}
+use Rattle.run_laws.specs.Servers as servers
+use Rattle.run_laws.specs.Counts.{when, arrived, worked}
+use Rattle.run_laws.specs.Routes.{Routes, route_of, first_server}
+use Rattle.run_laws.specs.Views.{Entry, entry_of, view_from, entered_after, server_of}
+use Rattle.run_laws.proofs.Sums.{when_true, when_false, add_nothing}
 use Rattle.flow_watch.specs.watch_laws.Times.{leave_times}
 use Rattle.flow_watch.specs.watch_laws.Paces.{pace_of, pace_before, pace_after}
 use Rattle.run_watch.specs.declared.span.Span.{Span}

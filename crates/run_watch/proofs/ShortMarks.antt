@@ -3,10 +3,10 @@ use Rattle.std.specs.Prelude.{◌≡◌, ◌⊎◌, ℕ, zero, suc, ◌+◌, ◌
 use Rattle.std.specs.List.{slice_index_or}
 use Rattle.std.proofs.Common.{arith, refl, sym, subst, ap, ◌∙◌, inl, inr, add-one}
 use Rattle.std.proofs.lemmas.Bool.{cases_lt}
-use Rattle.upp_limits.specs.rational.specs.Rational.{ℚ, ◌+ℚ◌, ◌-ℚ◌, ◌*ℚ◌, ◌≤ℚ◌, ◌<ℚ◌}
-use Rattle.upp_limits.specs.rational.specs.Ratio.{SumFits}
-use Rattle.upp_limits.specs.rational.proofs.Laws.{mul_sub, le_refl, le_trans, le_lt_trans, lt_le_trans, lt_irrefl}
-use Rattle.upp_limits.specs.rational.proofs.Linear.{with_atoms, with3, with4}
+use Rattle.rational.specs.Rational.{ℚ, ◌+ℚ◌, ◌-ℚ◌, ◌*ℚ◌, ◌≤ℚ◌, ◌<ℚ◌}
+use Rattle.rational.specs.Ratio.{SumFits}
+use Rattle.rational.proofs.Laws.{mul_sub, le_refl, le_trans, le_lt_trans, lt_le_trans, lt_irrefl}
+use Rattle.rational.proofs.Linear.{with_atoms, with3, with4}
 use Rattle.flow_watch.specs.declared.watch_laws.mark.Mark.{Mark}
 use Rattle.flow_watch.specs.declared.watch_laws.mark.Rule.{Rule}
 use Rattle.flow_watch.specs.declared.watch_laws.point.Point.{Point}

@@ -1,9 +1,9 @@
 -- What is gathered of a server from the steps of a run is what the server sees of it.
 use Rattle.std.specs.Prelude.{◌≡◌, pos, List, []}
 use Rattle.std.proofs.Common.{sym, ap, ◌∙◌}
-use Rattle.upp_limits.specs.rational.specs.Rational.{int}
-use Rattle.net_model.specs.run_laws.specs.Views.{view}
-use Rattle.net_model.specs.run_laws.proofs.Views.{views_are_lawful}
+use Rattle.rational.specs.Rational.{int}
+use Rattle.run_laws.specs.Views.{view}
+use Rattle.run_laws.proofs.Views.{views_are_lawful}
 use Rattle.run_watch.specs.declared.span.Span.{Span}
 use Rattle.run_watch.specs.Ramps.{amount, ramps_after, spans_of}
 use Rattle.run_watch.specs.Seen.{arrival_spans, work_spans}

@@ -5,10 +5,10 @@ use Rattle.std.specs.List.Sorted.{IsSorted, IsPermutation}
 use Rattle.std.specs.Ordering.{is_lt}
 use Rattle.std.proofs.Common.{arith, inl, inr, refl, sym, subst, ap, ◌∙◌, add-one}
 use Rattle.std.proofs.lemmas.List.Sorted.{Contains-permutation, IsPermutation-sym}
-use Rattle.upp_limits.specs.rational.specs.Rational.{ℚ, int, ◌≤ℚ◌}
-use Rattle.upp_limits.specs.rational.specs.Ratio.{cmp_q}
-use Rattle.upp_limits.specs.rational.proofs.Laws.{le_refl, le_trans, le_or_lt, le_of_lt, antisym}
-use Rattle.upp_limits.specs.rational.proofs.Linear.{with3}
+use Rattle.rational.specs.Rational.{ℚ, int, ◌≤ℚ◌}
+use Rattle.rational.specs.Ratio.{cmp_q}
+use Rattle.rational.proofs.Laws.{le_refl, le_trans, le_or_lt, le_of_lt, antisym}
+use Rattle.rational.proofs.Linear.{with3}
 use Rattle.flow_watch.specs.watch_laws.Affine.{EachTime, Among}
 use Rattle.flow_watch.specs.declared.watch_laws.point.Point.{Point}
 use Rattle.flow_watch.specs.declared.watch_laws.point.Segment.{Segment}
@@ -25,7 +25,7 @@ use Rattle.flow_watch.specs.watch_laws.Marks.{FitsRule}
 use Rattle.run_watch.proofs.ShortMarks.{has_each, point_in}
 use Rattle.run_watch.proofs.ShortWindows.{first_or_later}
 use Rattle.run_watch.proofs.LeastTimes.{points_taken}
-use Rattle.net_model.specs.run_laws.proofs.Times.{each_time_map}
+use Rattle.run_laws.proofs.Times.{each_time_map}
 use Rattle.flow_watch.proofs.step_lines.SortedParts.{no_less}
 
 -- ---- membership

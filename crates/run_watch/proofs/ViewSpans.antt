@@ -1,11 +1,11 @@
 -- The spans and times of a lawful view are in order, and in the run.
 use Rattle.std.specs.Prelude.{pos, List, [], ◌∷◌}
-use Rattle.upp_limits.specs.rational.specs.Rational.{ℚ, int, ◌≤ℚ◌}
-use Rattle.upp_limits.specs.rational.proofs.Laws.{le_refl, le_trans, le_of_lt}
-use Rattle.net_model.specs.run_laws.specs.Cards.{ServerStep, Arrives, Works, Leaves, Visits}
-use Rattle.net_model.specs.run_laws.specs.Servers.{Server, ServerState, start}
-use Rattle.net_model.specs.run_laws.specs.Next.{next}
-use Rattle.net_model.specs.run_laws.specs.Allows.{AllAllowed, IsLawfulView}
+use Rattle.rational.specs.Rational.{ℚ, int, ◌≤ℚ◌}
+use Rattle.rational.proofs.Laws.{le_refl, le_trans, le_of_lt}
+use Rattle.run_laws.specs.Cards.{ServerStep, Arrives, Works, Leaves, Visits}
+use Rattle.run_laws.specs.Servers.{Server, ServerState, start}
+use Rattle.run_laws.specs.Next.{next}
+use Rattle.run_laws.specs.Allows.{AllAllowed, IsLawfulView}
 use Rattle.flow_watch.specs.watch_laws.Affine.{EachTime}
 use Rattle.flow_watch.specs.watch_laws.Times.{leave_times}
 use Rattle.run_watch.specs.declared.span.Span.{Span}

@@ -2,13 +2,13 @@
 use Rattle.std.specs.Prelude.{◌≡◌, ◌⊎◌, pos, true, List, [], ◌∷◌}
 use Rattle.std.proofs.Common.{sym, subst, ap, ◌∙◌, inl, inr}
 use Rattle.std.proofs.lemmas.Bool.{cases_Bool}
-use Rattle.upp_limits.specs.rational.specs.Rational.{ℚ, int, ◌≤ℚ◌, ◌<ℚ◌}
-use Rattle.upp_limits.specs.rational.proofs.Laws.{le_refl, le_trans, le_or_lt, lt_le_trans, le_lt_trans, lt_irrefl, antisym}
-use Rattle.upp_limits.specs.rational.proofs.Over.{le_q_out, le_q_in, lt_q_out}
-use Rattle.upp_limits.specs.rational.proofs.MinMax.{lt_q_not}
-use Rattle.net_model.specs.run_laws.specs.Cards.{all, ServerStep}
-use Rattle.net_model.specs.run_laws.specs.Servers.{Server}
-use Rattle.net_model.specs.run_laws.specs.Counts.{arrived, worked}
+use Rattle.rational.specs.Rational.{ℚ, int, ◌≤ℚ◌, ◌<ℚ◌}
+use Rattle.rational.proofs.Laws.{le_refl, le_trans, le_or_lt, lt_le_trans, le_lt_trans, lt_irrefl, antisym}
+use Rattle.rational.proofs.Over.{le_q_out, le_q_in, lt_q_out}
+use Rattle.rational.proofs.MinMax.{lt_q_not}
+use Rattle.run_laws.specs.Cards.{all, ServerStep}
+use Rattle.run_laws.specs.Servers.{Server}
+use Rattle.run_laws.specs.Counts.{arrived, worked}
 use Rattle.flow_watch.specs.watch_laws.Affine.{EachTime, Among}
 use Rattle.flow_watch.specs.watch_laws.Stretches.{IsStretch}
 use Rattle.flow_watch.proofs.watch_laws.Times.{ends_with}
@@ -16,7 +16,7 @@ use Rattle.run_watch.specs.declared.watched.Watched.{Watched}
 use Rattle.run_watch.specs.Held.{IsSightOf}
 use Rattle.run_watch.specs.Watching.{arrived_by, worked_by, is_caught_up, stops_in, stops, RiseFrom, next_after}
 use Rattle.run_watch.proofs.ViewSpans.{leaves_rise, leaves_in_run}
-use Rattle.net_model.specs.run_laws.proofs.Times.{each_time_map}
+use Rattle.run_laws.proofs.Times.{each_time_map}
 
 -- ---- the next of some times
 -- e is after u and a time of the list or the end, and none of the list is between

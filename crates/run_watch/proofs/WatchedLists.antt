@@ -2,12 +2,12 @@
 use Rattle.std.specs.Prelude.{◌≡◌, ℕ, zero, suc, ◌<◌, ◌≤◌, true, List, [], ◌∷◌, length, get_or}
 use Rattle.std.specs.List.{slice_index_or}
 use Rattle.std.proofs.Common.{arith, refl, subst}
-use Rattle.upp_limits.specs.rational.specs.Rational.{ℚ, ◌≤ℚ◌, ◌<ℚ◌}
-use Rattle.upp_limits.specs.rational.proofs.Laws.{le_refl, le_trans}
-use Rattle.upp_limits.specs.rational.proofs.Over.{le_q_out, le_q_in, lt_q_out}
-use Rattle.upp_limits.specs.rational.proofs.MinMax.{lt_q_not}
+use Rattle.rational.specs.Rational.{ℚ, ◌≤ℚ◌, ◌<ℚ◌}
+use Rattle.rational.proofs.Laws.{le_refl, le_trans}
+use Rattle.rational.proofs.Over.{le_q_out, le_q_in, lt_q_out}
+use Rattle.rational.proofs.MinMax.{lt_q_not}
 use Rattle.run_watch.specs.Watching.{RiseFrom, next_after}
-use Rattle.net_model.specs.run_laws.specs.Counts.{upto}
+use Rattle.run_laws.specs.Counts.{upto}
 
 -- ---- stops
 -- ---- the first time after u

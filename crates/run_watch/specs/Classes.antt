@@ -1,11 +1,11 @@
 -- Turns that are whole periods of a curve apart. Where the curve repeats from 0 on, what one of them is moved to by the start
 -- of a piece, an earlier one is too, and backward a later one. Own choice.
 use Rattle.std.specs.Prelude.{◌≡◌, ◌⊎◌, ℕ, pos, List, [], ◌∷◌, ◌++◌, Option, Some, None}
-use Rattle.upp_limits.specs.rational.specs.Rational.{ℚ, int, ◌+ℚ◌, ◌-ℚ◌, ◌*ℚ◌, ◌≤ℚ◌, ◌<ℚ◌}
-use Rattle.upp_limits.specs.upp_curve.specs.declared.affine_segment.line.Piece.{Piece}
-use Rattle.upp_limits.specs.upp_curve.specs.declared.curve.Tail.TheVariants.{Periodic}
-use Rattle.upp_limits.specs.upp_curve.specs.affine_segment.Pieces.{HasStart}
-use Rattle.upp_limits.specs.upp_curve.specs.Curve.{SpecCurve}
+use Rattle.rational.specs.Rational.{ℚ, int, ◌+ℚ◌, ◌-ℚ◌, ◌*ℚ◌, ◌≤ℚ◌, ◌<ℚ◌}
+use Rattle.upp_curve.specs.declared.affine_segment.line.Piece.{Piece}
+use Rattle.upp_curve.specs.declared.curve.Tail.TheVariants.{Periodic}
+use Rattle.upp_curve.specs.affine_segment.Pieces.{HasStart}
+use Rattle.upp_curve.specs.Curve.{SpecCurve}
 use Rattle.flow_watch.specs.watch_laws.Affine.{Among}
 use Rattle.run_watch.specs.declared.classes.Side.{Side}
 use Rattle.run_watch.specs.declared.classes.Side.TheVariants.{Later, Earlier}

@@ -1,8 +1,8 @@
 -- Windows between points as pairs of marks, the points in reach of some ends, and the first end to which a window is short. Own
 -- choice.
 use Rattle.std.specs.Prelude.{◌≡◌, ℕ, ◌<◌, ◌≤◌, List, length, take, slice_get, Some}
-use Rattle.upp_limits.specs.rational.specs.Rational.{ℚ, ◌-ℚ◌, ◌*ℚ◌, ◌+ℚ◌, ◌≤ℚ◌, ◌<ℚ◌, neg_ℚ}
-use Rattle.upp_limits.specs.rational.specs.Ratio.{IsSmall, SumFits}
+use Rattle.rational.specs.Rational.{ℚ, ◌-ℚ◌, ◌*ℚ◌, ◌+ℚ◌, ◌≤ℚ◌, ◌<ℚ◌, neg_ℚ}
+use Rattle.rational.specs.Ratio.{IsSmall, SumFits}
 use Rattle.flow_watch.specs.declared.watch_laws.mark.Mark.{Mark}
 use Rattle.flow_watch.specs.declared.watch_laws.mark.Rule.{Rule}
 use Rattle.flow_watch.specs.declared.watch_laws.point.Point.{Point}

@@ -1,12 +1,12 @@
 -- The first of some breaches, by time, then by kind, then by flow or server. Own choice.
 use Rattle.std.specs.Prelude.{◌≡◌, ◌⊎◌, ◌<◌, ◌||◌, ℕ, Bool, true, List, length, Option, Some, None, if◌then◌else◌}
-use Rattle.upp_limits.specs.rational.specs.Rational.{ℚ, ◌≤ℚ◌, lt_q}
-use Rattle.net_model.specs.run_laws.specs.Runs.{SpecRun}
+use Rattle.rational.specs.Rational.{ℚ, ◌≤ℚ◌, lt_q}
+use Rattle.run_laws.specs.Runs.{SpecRun}
 use Rattle.net_model.specs.declared.breach.Breach.{Breach}
 use Rattle.net_model.specs.declared.breach.Breach.TheVariants.{Size, Arrival, Service}
-use Rattle.upp_limits.specs.rational.specs.Extended.{Ext}
-use Rattle.upp_limits.specs.upp_curve.specs.Curve.{SpecCurve}
-use Rattle.net_model.specs.run_laws.specs.Cards.{ServerStep}
+use Rattle.rational.specs.Extended.{Ext}
+use Rattle.upp_curve.specs.Curve.{SpecCurve}
+use Rattle.run_laws.specs.Cards.{ServerStep}
 use Rattle.flow_watch.specs.declared.watch_laws.entering.Entering.{Entering}
 use Rattle.flow_watch.specs.watch_laws.Breaches.{order_key, NoLater, IsIdle}
 use Rattle.flow_watch.specs.watch_laws.Shorts.{IsPastEnd}

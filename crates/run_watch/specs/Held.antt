@@ -1,16 +1,16 @@
 -- Where the numbers of a server stand, by the sizes of a gauge below 2 ^ 120 whose window ends with the run: then every step
 -- of the search for its first idle window fits. The gauge of a simulation, or of the check of a recorded run, gives it. Own choice.
 use Rattle.std.specs.Prelude.{◌≡◌, ◌⊎◌, pos, List, Option, MatchOption}
-use Rattle.upp_limits.specs.rational.specs.Rational.{ℚ, int, ◌≤ℚ◌, ◌<ℚ◌}
-use Rattle.upp_limits.specs.upp_curve.specs.Curve.{SpecCurve}
-use Rattle.upp_limits.specs.upp_curve.specs.Curves.{IsCurve}
+use Rattle.rational.specs.Rational.{ℚ, int, ◌≤ℚ◌, ◌<ℚ◌}
+use Rattle.upp_curve.specs.Curve.{SpecCurve}
+use Rattle.upp_curve.specs.Curves.{IsCurve}
 use Rattle.upp_limits.specs.Limits.{Sizes, curve_numbers}
 use Rattle.upp_limits.specs.Sized.{IsSlope, Stands}
-use Rattle.curve_call.specs.upp_normal.specs.Operand.{AreLimited}
-use Rattle.net_model.specs.run_laws.specs.Cards.{all, ServerStep}
-use Rattle.net_model.specs.run_laws.specs.Servers.{Server}
-use Rattle.net_model.specs.run_laws.specs.Allows.{IsLawfulView}
-use Rattle.net_model.specs.run_laws.specs.Counts.{arrived, worked}
+use Rattle.upp_normal.specs.Operand.{AreLimited}
+use Rattle.run_laws.specs.Cards.{all, ServerStep}
+use Rattle.run_laws.specs.Servers.{Server}
+use Rattle.run_laws.specs.Allows.{IsLawfulView}
+use Rattle.run_laws.specs.Counts.{arrived, worked}
 use Rattle.flow_watch.specs.watch_laws.Affine.{EachTime}
 use Rattle.flow_watch.specs.watch_laws.Breaches.{IsIdle}
 use Rattle.flow_watch.specs.watch_laws.MarkSizes.{IsTime, IsAmount}

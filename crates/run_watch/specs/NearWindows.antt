@@ -1,8 +1,8 @@
 -- Windows of a stretch of which one end is one of its turns, and the other is too, or is as far away as one of the curve's
 -- segments starts: where none of these is short of work, no window of the stretch is; else the least of their ends. Own choice.
 use Rattle.std.specs.Prelude.{◌≡◌, ◌⊎◌, pos, List, [], ◌∷◌, map, Option, Some, None, MatchOption, if◌then◌else◌}
-use Rattle.upp_limits.specs.rational.specs.Rational.{ℚ, int, ◌+ℚ◌, ◌-ℚ◌, ◌≤ℚ◌, lt_q, neg_ℚ}
-use Rattle.upp_limits.specs.rational.specs.Ratio.{SumFits}
+use Rattle.rational.specs.Rational.{ℚ, int, ◌+ℚ◌, ◌-ℚ◌, ◌≤ℚ◌, lt_q, neg_ℚ}
+use Rattle.rational.specs.Ratio.{SumFits}
 use Rattle.flow_watch.specs.declared.watch_laws.point.Point.{Point}
 use Rattle.flow_watch.specs.declared.watch_laws.point.Segment.{Segment}
 use Rattle.flow_watch.specs.watch_laws.Shorts.{HasPoint, EachSegment, HasSegment, IsShortBy}

@@ -1,7 +1,7 @@
 -- Marks that are kept while others are looked at, so that the greatest key of those that are near enough is the first.
 -- (A queue whose keys fall; textbook.)
 use Rattle.std.specs.Prelude.{◌≡◌, ◌⊎◌, ℕ, ◌≤◌, List, [], ◌∷◌, ◌++◌, length, take, Option}
-use Rattle.upp_limits.specs.rational.specs.Rational.{ℚ, ◌+ℚ◌, ◌≤ℚ◌, ◌<ℚ◌}
+use Rattle.rational.specs.Rational.{ℚ, ◌+ℚ◌, ◌≤ℚ◌, ◌<ℚ◌}
 use Rattle.flow_watch.specs.declared.watch_laws.mark.Mark.{Mark}
 use Rattle.flow_watch.specs.declared.watch_laws.mark.Rule.{Rule}
 use Rattle.flow_watch.specs.watch_laws.Marks.{Each, Has, IsPast, IsOver}

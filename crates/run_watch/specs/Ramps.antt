@@ -1,9 +1,9 @@
 -- Spans one after another, and how many bits they have up to a time. Own choice.
 use Rattle.std.specs.Prelude.{◌≡◌, ℕ, ◌<◌, ◌≤◌, pos, true, false, ◌&&◌, List, [], ◌∷◌, length, get_or, map, if◌then◌else◌}
-use Rattle.upp_limits.specs.rational.specs.Rational.{ℚ, int, ◌+ℚ◌, ◌-ℚ◌, ◌*ℚ◌, ◌/ℚ◌, ◌≤ℚ◌, ◌<ℚ◌, neg_ℚ, lt_q, le_q}
-use Rattle.upp_limits.specs.rational.specs.Ratio.{IsSmall, SumFits}
-use Rattle.net_model.specs.run_laws.specs.Servers as servers
-use Rattle.net_model.specs.run_laws.specs.Counts.{when}
+use Rattle.rational.specs.Rational.{ℚ, int, ◌+ℚ◌, ◌-ℚ◌, ◌*ℚ◌, ◌/ℚ◌, ◌≤ℚ◌, ◌<ℚ◌, neg_ℚ, lt_q, le_q}
+use Rattle.rational.specs.Ratio.{IsSmall, SumFits}
+use Rattle.run_laws.specs.Servers as servers
+use Rattle.run_laws.specs.Counts.{when}
 use Rattle.run_watch.specs.declared.span.Span.{Span}
 use Rattle.run_watch.specs.declared.span.Ramp.{Ramp}
 

@@ -1,6 +1,6 @@
 -- The segments of a curve that start no later than the length of a window need be. Own choice.
 use Rattle.std.specs.Prelude.{Bool, false, List, [], ◌∷◌, Option, Some, None, if◌then◌else◌}
-use Rattle.upp_limits.specs.rational.specs.Rational.{ℚ, lt_q}
+use Rattle.rational.specs.Rational.{ℚ, lt_q}
 use Rattle.flow_watch.specs.declared.watch_laws.point.Segment.{Segment}
 
 -- d is longer than the reach; where there is none it never is

@@ -1,9 +1,9 @@
 -- The search of one stretch for its first window that is short of work. Own choice.
 use Rattle.std.specs.Prelude.{◌≡◌, ◌⊎◌, ℕ, ◌<◌, List, length, Option, IfSome, MatchOption}
 use Rattle.std.specs.List.{slice_index_or}
-use Rattle.upp_limits.specs.rational.specs.Rational.{ℚ, ◌-ℚ◌, ◌≤ℚ◌, ◌<ℚ◌}
-use Rattle.upp_limits.specs.upp_curve.specs.Curve.{SpecCurve}
-use Rattle.upp_limits.specs.upp_curve.specs.Unrolled.{unroll}
+use Rattle.rational.specs.Rational.{ℚ, ◌-ℚ◌, ◌≤ℚ◌, ◌<ℚ◌}
+use Rattle.upp_curve.specs.Curve.{SpecCurve}
+use Rattle.upp_curve.specs.Unrolled.{unroll}
 use Rattle.flow_watch.specs.watch_laws.Affine.{Among}
 use Rattle.flow_watch.specs.declared.watch_laws.point.Segment.{Segment}
 use Rattle.flow_watch.specs.watch_laws.Segments.{segments}

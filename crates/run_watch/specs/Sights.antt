@@ -1,9 +1,9 @@
 -- What is gathered of a server from the steps of a run is what the server sees of it. Own choice.
 use Rattle.std.specs.Prelude.{ℕ, ◌<◌, List, length}
-use Rattle.net_model.specs.run_laws.specs.Runs.{SpecRun}
-use Rattle.net_model.specs.run_laws.specs.Routes.{Routes, server_at}
-use Rattle.net_model.specs.run_laws.specs.Lawful.{IsLawful}
-use Rattle.net_model.specs.run_laws.specs.Views.{view}
+use Rattle.run_laws.specs.Runs.{SpecRun}
+use Rattle.run_laws.specs.Routes.{Routes, server_at}
+use Rattle.run_laws.specs.Lawful.{IsLawful}
+use Rattle.run_laws.specs.Views.{view}
 use Rattle.run_watch.specs.declared.watched.Watched.{Watched}
 use Rattle.run_watch.specs.Seen.{AreFirsts}
 use Rattle.run_watch.specs.Watching.{Sees}

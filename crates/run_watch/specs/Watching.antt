@@ -1,9 +1,9 @@
 -- The stretches and the turns of a server, found from its packets, works and leaves. Own choice.
 use Rattle.std.specs.Prelude.{◌≡◌, ℕ, pos, Bool, ◌&&◌, List, [], ◌∷◌, ◌++◌, Option, Some, None, if◌then◌else◌}
 use Rattle.std.specs.Option.{option_to_list}
-use Rattle.upp_limits.specs.rational.specs.Rational.{ℚ, int, ◌≤ℚ◌, lt_q, le_q}
-use Rattle.upp_limits.specs.rational.specs.Compared.{same_q}
-use Rattle.net_model.specs.run_laws.specs.declared.steps.Step.{Step}
+use Rattle.rational.specs.Rational.{ℚ, int, ◌≤ℚ◌, lt_q, le_q}
+use Rattle.rational.specs.Compared.{same_q}
+use Rattle.run_laws.specs.declared.steps.Step.{Step}
 use Rattle.flow_watch.specs.watch_laws.Affine.{Among}
 use Rattle.run_watch.specs.declared.span.Ramp.{Ramp}
 use Rattle.run_watch.specs.declared.watched.Watched.{Watched}

@@ -2,13 +2,13 @@
 
 ghost use Rattle.std.specs.List.Sorted.{IsPermutation};
 ghost use Rattle.std.specs.Prelude.{◌≡◌, pos, IfOk, IfSome, OnOk, IsTrue};
-ghost use Rattle.upp_limits.specs.rational.specs.Rational.{int, ◌<ℚ◌};
+ghost use Rattle.rational.specs.Rational.{int, ◌<ℚ◌};
 ghost use Rattle.run_watch.specs.Classes.{moved, IsPeriodsAfter, Leads, IsLed, AddsLed, AreLeads, AreLeadsBy, IsCycle};
 ghost use Rattle.run_watch.specs.WatchTimes.{AroundFits, HaveSameTimes};
 
+use fraction128::{Frac, difference, is_less, sum};
 use std::alloc::{AllocError, Global};
-use upp_limits::fraction128::{Frac, difference, is_less, sum};
-use upp_limits::upp_curve::{Curve, Tail};
+use upp_curve::{Curve, Tail};
 
 /// Which way turns are moved.
 #[derive(Clone, Copy)]

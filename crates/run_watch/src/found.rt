@@ -1,10 +1,10 @@
 //! The first of some breaches.
 
 ghost use Rattle.std.specs.Prelude.{◌≡◌, ◌≤◌, ◌^◌, List, length, IfOk};
-ghost use Rattle.upp_limits.specs.upp_curve.specs.Curve.{value_at};
-ghost use Rattle.net_model.specs.run_laws.specs.Cards.{ServerStep};
-ghost use Rattle.net_model.specs.run_laws.specs.Runs.{SpecRun};
-ghost use Rattle.net_model.specs.run_laws.specs.Servers as servers;
+ghost use Rattle.upp_curve.specs.Curve.{value_at};
+ghost use Rattle.run_laws.specs.Cards.{ServerStep};
+ghost use Rattle.run_laws.specs.Runs.{SpecRun};
+ghost use Rattle.run_laws.specs.Servers as servers;
 ghost use Rattle.flow_watch.specs.watch_laws.Entries.{entries};
 ghost use Rattle.flow_watch.specs.watch_laws.Laws.{MayServe};
 ghost use Rattle.flow_watch.specs.Flows.{FlowReads};
@@ -15,10 +15,10 @@ use crate::service::first_idle;
 use crate::watched::Watched;
 use flow_watch::watch_laws::Entering;
 use flow_watch::{first_crowded, first_too_long};
+use fraction128::{Frac, is_less};
 use net_model::Breach;
 use std::alloc::{AllocError, Global};
-use upp_limits::fraction128::{Frac, is_less};
-use upp_limits::upp_curve::Curve;
+use upp_curve::Curve;
 
 /// A breach, with its time.
 #[derive(Debug, Clone, Copy)]

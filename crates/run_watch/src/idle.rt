@@ -1,8 +1,8 @@
 //! The first window of a stretch in which a server works less than its curve.
 
 ghost use Rattle.std.specs.Prelude.{List, IfOk, IfSome};
-ghost use Rattle.net_model.specs.run_laws.specs.Cards.{ServerStep};
-ghost use Rattle.net_model.specs.run_laws.specs.Servers as servers;
+ghost use Rattle.run_laws.specs.Cards.{ServerStep};
+ghost use Rattle.run_laws.specs.Servers as servers;
 ghost use Rattle.flow_watch.specs.watch_laws.Affine.{EachTime};
 ghost use Rattle.flow_watch.specs.watch_laws.Laws.{MayServe};
 ghost use Rattle.run_watch.specs.Ramps.{AreRamps};
@@ -19,12 +19,12 @@ use crate::shorts::first_end;
 use crate::span::Ramp;
 use crate::watched::{Stretch, Watched, turns_in};
 use crate::windows::{first_start, points_of, segments_of, watch_times};
-use curve_call::upp_normal::unrolled;
 use flow_watch::watch_laws::Segment;
+use fraction128::{Frac, difference, is_less};
 use std::alloc::{AllocError, Global};
-use upp_limits::fraction128::{Frac, difference, is_less};
-use upp_limits::upp_curve::Curve;
-use upp_limits::upp_curve::affine_segment::Piece;
+use upp_curve::Curve;
+use upp_curve::affine_segment::Piece;
+use upp_normal::unrolled;
 
 /// The last before `end` of a stretch's turns in order, or its start.
 fn last_before(own: &[Frac], start: Frac, end: Frac) -> Frac

@@ -1,7 +1,7 @@
 //! The least end of a window of a stretch that is short of work, if there is one: the look at its own turns alone.
 
 ghost use Rattle.std.specs.Prelude.{◌≡◌, ◌↔◌, IfOk, IsTrue, map};
-ghost use Rattle.upp_limits.specs.rational.specs.Rational.{ℚ};
+ghost use Rattle.rational.specs.Rational.{ℚ};
 ghost use Rattle.flow_watch.specs.watch_laws.Affine.{EachTime};
 ghost use Rattle.flow_watch.specs.watch_laws.Shorts.{EachPoint};
 ghost use Rattle.run_watch.specs.Ramps.{AreRamps};
@@ -17,8 +17,8 @@ use crate::watched::Stretch;
 use crate::windows::{is_short_by, points_of};
 use flow_watch::step_lines::is_at_most;
 use flow_watch::watch_laws::{Point, Segment};
+use fraction128::{Frac, difference, is_less, sum};
 use std::alloc::{AllocError, Global};
-use upp_limits::fraction128::{Frac, difference, is_less, sum};
 
 /// Whether the window from p on that is as long as the segment's start is in the stretch, and short by the segment.
 fn is_short_after(works: &[Ramp], s: &Stretch, p: &Point, g: &Segment) -> bool

@@ -1,13 +1,13 @@
 //! Spans one after another, with the bits that they have up to a time.
 
 ghost use Rattle.std.specs.Prelude.{◌≡◌, ◌<◌, ◌≤◌, pos, length, IfOk, IsTrue};
-ghost use Rattle.upp_limits.specs.rational.specs.Rational.{int, ◌≤ℚ◌, ◌<ℚ◌, lt_q, le_q};
+ghost use Rattle.rational.specs.Rational.{int, ◌≤ℚ◌, ◌<ℚ◌, lt_q, le_q};
 ghost use Rattle.run_watch.specs.Ramps.{amount, rate_before, rate_after, pace_in, TakeTime, ramps_after, AreRamps, spans_of, part, all_done, paced_before, paced_after, PaceFits, RampsFit, PartFits, ReadsRamp, EachRamp, EndBefore, EndsBefore, EndsBy};
 
 use crate::span::{Ramp, Span};
 use flow_watch::step_lines::is_at_most;
+use fraction128::{Frac, difference, is_less, product, quotient, sum};
 use std::alloc::{AllocError, Global};
-use upp_limits::fraction128::{Frac, difference, is_less, product, quotient, sum};
 
 /// The pace of a span.
 fn pace_of(s: &Span) -> Frac

@@ -5,10 +5,10 @@ ghost use Rattle.flow_watch.specs.watch_laws.Reaches.{HasReach};
 ghost use Rattle.run_watch.specs.Reaches.{is_beyond, within_reach};
 
 use flow_watch::watch_laws::Segment;
+use fraction128::{Frac, is_less};
+use rational::Extended;
 use std::alloc::{AllocError, Global};
-use upp_limits::fraction128::{Frac, is_less};
-use upp_limits::rational::Extended;
-use upp_limits::upp_curve::{Curve, Tail};
+use upp_curve::{Curve, Tail};
 
 /// A length that no window need pass: the rank and the period of a curve that repeats, if in its first period it rises at
 /// least as much as in later ones. It is not told where a step to it is too wide.

@@ -1,13 +1,13 @@
 ghost use Rattle.std.specs.Prelude.{◌≡◌, ◌↔◌, ℕ, ◌<◌, ◌≤◌, List, ◌++◌, length, take, drop, Some, slice_get, IsTrue, IfOk, IfSome, MatchOption};
-ghost use Rattle.upp_limits.specs.rational.specs.Rational.{ℚ, int, ◌+ℚ◌, ◌≤ℚ◌};
-ghost use Rattle.upp_limits.specs.rational.specs.Ratio.{SumFits};
+ghost use Rattle.rational.specs.Rational.{ℚ, int, ◌+ℚ◌, ◌≤ℚ◌};
+ghost use Rattle.rational.specs.Ratio.{SumFits};
 ghost use Rattle.flow_watch.specs.watch_laws.Marks.{Each, TimesRise, IsPast, IsOver, IsUnderSome, MostFits, FitsRule};
 ghost use Rattle.run_watch.specs.Queue.{Scans, EndsAbove, StartsNear, IsNotFar, Lowered, Passed, FrontUnder};
 
 use flow_watch::watch_laws::{Mark, Rule};
+use fraction128::{Frac, is_less, sum};
 use std::alloc::{AllocError, Global};
 use std::collections::VecDeque;
-use upp_limits::fraction128::{Frac, is_less, sum};
 
 /// Whether t is `most` after a, or later.
 pub(crate) fn is_past(most: &Option<Frac>, a: Frac, t: Frac) -> bool

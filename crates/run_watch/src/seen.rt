@@ -4,9 +4,9 @@ ghost use Rattle.std.specs.Prelude.{◌≡◌, [], IfOk, OnOk, slice_index};
 ghost use Rattle.run_watch.specs.Seen.{at_once, work_in, works_at, leave_in, leaves_at, sizes_after, arrival_in, arrivals_at};
 
 use crate::span::Span;
-use net_model::run_laws::{Step, whole};
+use fraction128::Frac;
+use run_laws::{Step, whole};
 use std::alloc::{AllocError, Global};
-use upp_limits::fraction128::Frac;
 
 /// The work of a server that a step is, if it is one.
 fn work_of(step: &Step, server: u32) -> Option<Span>

@@ -1,9 +1,9 @@
 //! The first window in which a server works less than its curve.
 
 ghost use Rattle.std.specs.Prelude.{◌↔◌, List, Some, IfOk, IsTrue};
-ghost use Rattle.upp_limits.specs.rational.specs.Rational.{ℚ};
-ghost use Rattle.net_model.specs.run_laws.specs.Cards.{ServerStep};
-ghost use Rattle.net_model.specs.run_laws.specs.Servers as servers;
+ghost use Rattle.rational.specs.Rational.{ℚ};
+ghost use Rattle.run_laws.specs.Cards.{ServerStep};
+ghost use Rattle.run_laws.specs.Servers as servers;
 ghost use Rattle.flow_watch.specs.watch_laws.Laws.{MayServe};
 ghost use Rattle.flow_watch.specs.watch_laws.Shorts.{IsPastEnd};
 ghost use Rattle.run_watch.specs.Watching.{RiseFrom};
@@ -14,9 +14,9 @@ ghost use Rattle.run_watch.specs.Searches.{IsPart};
 use crate::idle::first_in;
 use crate::watched::{Stretch, Watched, stops_of, stretches_of, turns_in, turns_of};
 use crate::windows::put_in_order;
+use fraction128::{Frac, is_less};
 use std::alloc::{AllocError, Global};
-use upp_limits::fraction128::{Frac, is_less};
-use upp_limits::upp_curve::Curve;
+use upp_curve::Curve;
 
 /// Whether t is `until` or later; where there is no such time it never is.
 fn is_late(until: &Option<Frac>, t: Frac) -> bool

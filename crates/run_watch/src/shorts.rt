@@ -1,13 +1,13 @@
 ghost use Rattle.std.specs.Prelude.{◌≡◌, ◌≤◌, length, take, drop, map, IfOk};
-ghost use Rattle.upp_limits.specs.rational.specs.Ratio.{SumFits};
+ghost use Rattle.rational.specs.Ratio.{SumFits};
 ghost use Rattle.flow_watch.specs.watch_laws.Marks.{IsPast, MostFits};
 ghost use Rattle.flow_watch.specs.watch_laws.Shorts.{EachPoint, PointsRise};
 ghost use Rattle.run_watch.specs.FirstEnds.{mark_of, rule_of, KeySteps, GapSteps, FitsSegments, FitsMarks, IsTooLate, HoldsStarts, IsFirstBy, IsFirstEnd};
 
 use crate::scan::{first_under, is_past};
 use flow_watch::watch_laws::{Mark, Point, Rule, Segment};
+use fraction128::{Frac, difference, is_less, product, sum};
 use std::alloc::{AllocError, Global};
-use upp_limits::fraction128::{Frac, difference, is_less, product, sum};
 
 /// The mark of a point, by a slope.
 pub(crate) fn mark_of(slope: Frac, p: &Point) -> Mark

@@ -1,4 +1,4 @@
-use upp_limits::fraction128::Frac;
+use fraction128::Frac;
 
 /// Bits that come or are worked from a start to an end, at an even pace; where the end is the start, all at once.
 #[derive(Debug, Clone, Copy)]

@@ -1,7 +1,7 @@
 //! The stretches through which a server has work, and its turns.
 
 ghost use Rattle.std.specs.Prelude.{◌≡◌, ◌++◌, ℕ, pos, [], length, IfOk, OnOk};
-ghost use Rattle.upp_limits.specs.rational.specs.Rational.{ℚ, int, le_q};
+ghost use Rattle.rational.specs.Rational.{ℚ, int, le_q};
 ghost use Rattle.flow_watch.specs.watch_laws.Affine.{EachTime};
 ghost use Rattle.run_watch.specs.Ramps.{EachRamp, RampsFit, AreRamps, TakeTime, spans_of, EndsBefore};
 ghost use Rattle.run_watch.specs.Seen.{works_at, arrivals_at};
@@ -11,9 +11,9 @@ use crate::ramps::{amount_past, ended, ended_by, pace_after, pace_before, ramps_
 use crate::seen::{arrivals_of, leaves_of, works_of};
 use crate::span::Ramp;
 use flow_watch::step_lines::{is_at_most, is_under};
-use net_model::run_laws::Step;
+use fraction128::{Frac, is_less};
+use run_laws::Step;
 use std::alloc::{AllocError, Global};
-use upp_limits::fraction128::{Frac, is_less};
 
 /// What one server sees of a run that ends at `end`.
 #[derive(Drop)]

@@ -1,9 +1,9 @@
 //! The windows of a stretch that are looked at.
 
 ghost use Rattle.std.specs.Prelude.{◌≡◌, ◌↔◌, [], ◌∷◌, ◌++◌, ◌<◌, length, drop, map, IfOk, IfSome, OnOk, IsTrue};
-ghost use Rattle.upp_limits.specs.rational.specs.Rational.{ℚ};
-ghost use Rattle.upp_limits.specs.upp_curve.specs.declared.affine_segment.line.Piece.{Piece};
-ghost use Rattle.upp_limits.specs.upp_curve.specs.affine_segment.Pieces.{Each};
+ghost use Rattle.rational.specs.Rational.{ℚ};
+ghost use Rattle.upp_curve.specs.declared.affine_segment.line.Piece.{Piece};
+ghost use Rattle.upp_curve.specs.affine_segment.Pieces.{Each};
 ghost use Rattle.flow_watch.specs.watch_laws.Affine.{EachTime};
 ghost use Rattle.flow_watch.specs.watch_laws.Segments.{segment_of, segments};
 ghost use Rattle.flow_watch.specs.watch_laws.Shorts.{IsShortBy, PointsRise};
@@ -25,10 +25,10 @@ use crate::watched::Stretch;
 use flow_watch::next_start;
 use flow_watch::step_lines::is_at_most;
 use flow_watch::watch_laws::{Point, Segment};
+use fraction128::{Frac, difference, is_less, sum};
+use rational::Extended;
 use std::alloc::{AllocError, Global};
-use upp_limits::fraction128::{Frac, difference, is_less, sum};
-use upp_limits::rational::Extended;
-use upp_limits::upp_curve::affine_segment::Piece;
+use upp_curve::affine_segment::Piece;
 
 /// One time more, where it is in the stretch.
 fn push_inside(times: &mut Vec<Frac>, s: &Stretch, t: Frac) -> Result<(), AllocError>

@@ -2,10 +2,10 @@
 use Rattle.std.proofs.Common.{◌≡◌, ℕ, ◌<◌, List, [], ◌∷◌, refl, sym, ap, ◌∙◌, subst, arith, inl, inr, Some, None}
 use Rattle.std.specs.Prelude.{Option, ◌≢◌, ◌==◌, if◌then◌else◌}
 use Rattle.std.proofs.lemmas.Bool.{cases_eq, eq-eqb, ne_eqb}
-use Rattle.net_model.specs.run_laws.specs.Routes.{Hop, PassesServer, first_of, first_server, server_after}
+use Rattle.run_laws.specs.Routes.{Hop, PassesServer, first_of, first_server, server_after}
 use Rattle.sim_bounds.specs.Horizons.{path_bits, IsRising}
-use Rattle.net_model.specs.run_laws.proofs.Entries.{passes_first}
-pub use Rattle.net_model.specs.run_laws.proofs.Entries.{passes_next as after_passes}
+use Rattle.run_laws.proofs.Entries.{passes_first}
+pub use Rattle.run_laws.proofs.Entries.{passes_next as after_passes}
 
 -- from server j on
 abbrev pub bits_from : ℕ → ℕ → List Hop → ℕ → ℕ

@@ -3,18 +3,18 @@
 use Rattle.std.proofs.Common.{◌≡◌, ℕ, zero, suc, ◌<◌, ◌≤◌, ◌+◌, List, [], ◌∷◌, ◌++◌, length, get_or, set, map, drop, refl, ap, ◌∙◌, subst, arith, inl, inr, Some, None, true, false}
 use Rattle.std.specs.Prelude.{Option, ◌==◌, ◌&&◌}
 use Rattle.std.proofs.lemmas.Bool.{cases_Bool, eqb-true, and_parts}
-use Rattle.upp_limits.specs.rational.specs.Rational.{ℚ, le_q}
-use Rattle.net_model.specs.run_laws.specs.Cards.{Card}
-use Rattle.net_model.specs.run_laws.specs.Servers.{Server, ServerState, head_of, without_head, start}
-use Rattle.net_model.specs.run_laws.specs.Routes.{Routes, route_of}
-use Rattle.net_model.specs.run_laws.specs.Views.{Entry, entry_of, hops_of}
-use Rattle.net_model.specs.run_laws.specs.Lawful.{Due, same_due, without, sent, RunState}
-use Rattle.net_model.specs.run_laws.proofs.Heads.{same_some}
+use Rattle.rational.specs.Rational.{ℚ, le_q}
+use Rattle.run_laws.specs.Cards.{Card}
+use Rattle.run_laws.specs.Servers.{Server, ServerState, head_of, without_head, start}
+use Rattle.run_laws.specs.Routes.{Routes, route_of}
+use Rattle.run_laws.specs.Views.{Entry, entry_of, hops_of}
+use Rattle.run_laws.specs.Lawful.{Due, same_due, without, sent, RunState}
+use Rattle.run_laws.proofs.Heads.{same_some}
 use Rattle.net_model.specs.stated_runs.Setups.{Entering, Setup}
 use Rattle.net_model.proofs.stated_runs.Lists.{In}
 use Rattle.sim_bounds.specs.Horizons.{path_bits, bits_through}
 use Rattle.sim_bounds.proofs.Ahead.{bits_from, bits_after}
-use Rattle.net_model.specs.run_laws.proofs.Entries.{same_due_self}
+use Rattle.run_laws.proofs.Entries.{same_due_self}
 
 -- ---- the sums
 -- a packet that is in server j

@@ -3,23 +3,23 @@ use Rattle.std.proofs.Common.{◌≡◌, ℕ, suc, ◌<◌, ◌≤◌, ◌+◌, 
 use Rattle.std.specs.Prelude.{Option, pos, ◌≢◌}
 use Rattle.std.proofs.lemmas.Bool.{cases_eq}
 use Rattle.std.proofs.lemmas.List.{get_or-map, length_push, get_or_push}
-use Rattle.upp_limits.specs.rational.specs.Rational.{ℚ, int, ◌+ℚ◌, ◌-ℚ◌, ◌*ℚ◌, ◌/ℚ◌, ◌≤ℚ◌}
-use Rattle.upp_limits.specs.rational.specs.MinMax.{max_q}
-use Rattle.upp_limits.specs.rational.proofs.Linear.{with2, with3, with4, with7}
-use Rattle.upp_limits.specs.rational.proofs.Laws.{le_trans}
-use Rattle.upp_limits.specs.rational.proofs.Quotients.{div_nonneg}
-use Rattle.upp_limits.specs.rational.proofs.MinMax.{max_q_ge_left, max_q_ge_right}
-use Rattle.net_model.specs.run_laws.specs.declared.steps.Step.{Step}
-use Rattle.net_model.specs.run_laws.specs.declared.steps.Step.TheVariants.{Enter, Reach, Work, Leave, Visit}
-use Rattle.net_model.specs.run_laws.specs.Cards.{Card, whole, size, Arrives, Works, Leaves, Visits}
-use Rattle.net_model.specs.run_laws.specs.Servers.{Discipline, Fifo, Server, Under, ServerState, done, done_so_far, head_of, start}
-use Rattle.net_model.specs.run_laws.specs.Next.{next}
-use Rattle.net_model.specs.run_laws.specs.Allows.{next_card}
-use Rattle.net_model.specs.run_laws.specs.Routes.{Routes, server_at, link_at, route_of, PassesServer, first_server, server_after}
-use Rattle.net_model.specs.run_laws.specs.Views.{Entry, entry_of, hops_of, card_of, entered_after, server_of, seen}
-use Rattle.net_model.specs.run_laws.specs.Lawful.{Due, RunState, state_at, next_run, run_start}
-use Rattle.net_model.specs.run_laws.proofs.Heads.{head_push, pick_is_head, same_some}
-use Rattle.net_model.specs.run_laws.proofs.Sizes.{whole_le}
+use Rattle.rational.specs.Rational.{ℚ, int, ◌+ℚ◌, ◌-ℚ◌, ◌*ℚ◌, ◌/ℚ◌, ◌≤ℚ◌}
+use Rattle.rational.specs.MinMax.{max_q}
+use Rattle.rational.proofs.Linear.{with2, with3, with4, with7}
+use Rattle.rational.proofs.Laws.{le_trans}
+use Rattle.rational.proofs.Quotients.{div_nonneg}
+use Rattle.rational.proofs.MinMax.{max_q_ge_left, max_q_ge_right}
+use Rattle.run_laws.specs.declared.steps.Step.{Step}
+use Rattle.run_laws.specs.declared.steps.Step.TheVariants.{Enter, Reach, Work, Leave, Visit}
+use Rattle.run_laws.specs.Cards.{Card, whole, size, Arrives, Works, Leaves, Visits}
+use Rattle.run_laws.specs.Servers.{Discipline, Fifo, Server, Under, ServerState, done, done_so_far, head_of, start}
+use Rattle.run_laws.specs.Next.{next}
+use Rattle.run_laws.specs.Allows.{next_card}
+use Rattle.run_laws.specs.Routes.{Routes, server_at, link_at, route_of, PassesServer, first_server, server_after}
+use Rattle.run_laws.specs.Views.{Entry, entry_of, hops_of, card_of, entered_after, server_of, seen}
+use Rattle.run_laws.specs.Lawful.{Due, RunState, state_at, next_run, run_start}
+use Rattle.run_laws.proofs.Heads.{head_push, pick_is_head, same_some}
+use Rattle.run_laws.proofs.Sizes.{whole_le}
 use Rattle.net_model.specs.stated_runs.Setups.{Setup, IsSetup, IsFirstOpen, IsStretch, opening_of, packet_of, rate_of}
 use Rattle.net_model.specs.stated_runs.DueSteps.{IsLeaving, IsResumed, IsStarted, IsEntering, IsDue}
 use Rattle.net_model.proofs.stated_runs.Lists.{In, in_without, contains_in}
@@ -33,7 +33,7 @@ use Rattle.sim_bounds.proofs.Spans.{come_by, left_by, enters_by, first_nonneg, f
 use Rattle.sim_bounds.proofs.Ahead.{bits_from, bits_after, from_first, from_own, after_later, leave_other, leave_own}
 use Rattle.sim_bounds.proofs.AheadSums.{card_bits, bits_inside, bits_in_servers, bits_on_links, ahead, inside_push, inside_without, servers_set, servers_at, servers_start, links_without, links_sent, links_extend, through_drop}
 use Rattle.sim_bounds.proofs.Levels.{IsLevel, IsLate, clock, clock_of, level_start, level_arrive, level_work, level_leave, level_visit, in_span}
-pub use Rattle.net_model.specs.run_laws.proofs.Rounds.{visit_idle as idle_of}
+pub use Rattle.run_laws.proofs.Rounds.{visit_idle as idle_of}
 pub use Rattle.net_model.proofs.stated_runs.GoodSteps.{sent_in}
 
 pub record IsBounded (S : Setup) (place : ℕ → ℕ) (r : RunState) : Type 0 where

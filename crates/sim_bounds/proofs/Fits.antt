@@ -6,22 +6,22 @@ use Rattle.std.proofs.lemmas.Bool.{cases_lt}
 use Rattle.std.proofs.lemmas.List.{get_or_past, length-map}
 use Rattle.std.proofs.Math.Nat.{le-max_left, le-max_right}
 use native.Mathlib.Nat.{dvd-mul_left}
-use Rattle.upp_limits.specs.rational.specs.Rational.{ℚ, int, ◌*ℚ◌, ◌/ℚ◌, ◌≤ℚ◌, ◌<ℚ◌}
-use Rattle.upp_limits.specs.rational.specs.Gauge.{common_den, bound_of}
-use Rattle.upp_limits.specs.rational.specs.Grid.{Whole}
-use Rattle.upp_limits.specs.rational.proofs.Linear.{with1, with2}
-use Rattle.upp_limits.specs.rational.proofs.Laws.{le_trans, le_of_lt, mul_le_mul_right, mul_one, one_mul, not_zero}
-use Rattle.upp_limits.specs.rational.proofs.Quotients.{div_nonneg, div_unique}
-use Rattle.upp_limits.specs.rational.proofs.Integers.{nat_le}
-use Rattle.upp_limits.specs.rational.proofs.Grid.{whole_int, whole_weaken, whole_both}
-use Rattle.upp_limits.specs.min_plus.specs.WholeUp.{whole_up}
+use Rattle.rational.specs.Rational.{ℚ, int, ◌*ℚ◌, ◌/ℚ◌, ◌≤ℚ◌, ◌<ℚ◌}
+use Rattle.rational.specs.Gauge.{common_den, bound_of}
+use Rattle.rational.specs.Grid.{Whole}
+use Rattle.rational.proofs.Linear.{with1, with2}
+use Rattle.rational.proofs.Laws.{le_trans, le_of_lt, mul_le_mul_right, mul_one, one_mul, not_zero}
+use Rattle.rational.proofs.Quotients.{div_nonneg, div_unique}
+use Rattle.rational.proofs.Integers.{nat_le}
+use Rattle.rational.proofs.Grid.{whole_int, whole_weaken, whole_both}
+use Rattle.min_plus.specs.WholeUp.{whole_up}
 use Rattle.upp_limits.specs.Limits.{twice}
 use Rattle.upp_limits.proofs.CommonDen.{common_den_pos, common_den_each, bound_pos, bound_each}
 use Rattle.upp_limits.proofs.Rounding.{whole_up_least}
-use Rattle.net_model.specs.run_laws.specs.declared.steps.Step.TheVariants.{Work}
-use Rattle.net_model.specs.run_laws.specs.Cards.{whole}
-use Rattle.net_model.specs.run_laws.specs.Routes.{link_at, route_of}
-use Rattle.net_model.specs.run_laws.proofs.Sizes.{whole_nonneg, whole_le}
+use Rattle.run_laws.specs.declared.steps.Step.TheVariants.{Work}
+use Rattle.run_laws.specs.Cards.{whole}
+use Rattle.run_laws.specs.Routes.{link_at, route_of}
+use Rattle.run_laws.proofs.Sizes.{whole_nonneg, whole_le}
 use Rattle.net_model.specs.declared.trace.TracePacket.{TracePacket}
 use Rattle.net_model.specs.declared.trace.Stall.{Stall}
 use Rattle.net_model.specs.Networks.{Net, NetServer}
@@ -145,7 +145,7 @@ rate_counts net trace ok x i =
     let some : int (pos 0) ≤ℚ x.rate = le_of_lt (ok.servers x (in_contains net.servers x i)).rate in
     let double : In (twice n.slopes) (int (pos 2) *ℚ x.rate) = in_map (λ s. int (pos 2) *ℚ s) n.slopes x.rate here in
     let steep = bound_of (twice n.slopes) in
-    let within = (each_in (Rattle.upp_limits.specs.rational.specs.Grid.Within (int (pos steep))) (twice n.slopes) (bound_each (twice n.slopes) steep (omega arith)) (int (pos 2) *ℚ x.rate) double).high in
+    let within = (each_in (Rattle.rational.specs.Grid.Within (int (pos steep))) (twice n.slopes) (bound_each (twice n.slopes) steep (omega arith)) (int (pos 2) *ℚ x.rate) double).high in
     record {
       some = some;
       on_grid = each_in (Whole (common_den n.slopes)) n.slopes (common_den_each n.slopes) x.rate here;
@@ -226,7 +226,7 @@ on_grid_of net trace ok fine named free small =
       works = λ s x h t.
           let r = made_from (λ (y : NetServer). y.rate) net.servers s (int (pos 1)) (omega (arith, h, many)) in
           let c = rate_counts net trace ok r.0 r.1 in
-          subst (λ y. Rattle.upp_limits.specs.rational.specs.Ratio.IsSmall (y *ℚ x)) (sym r.2)
+          subst (λ y. Rattle.rational.specs.Ratio.IsSmall (y *ℚ x)) (sym r.2)
           (work_fits (simulation_sizes net trace) e r.0.rate x below c.some c.on_grid c.most reach.reach t);
     }
 

@@ -6,22 +6,22 @@ use Prim.Native.Nat.{◌∣◌}
 use Rattle.std.proofs.lemmas.Bool.{cases_eq, eq-eqb, ne_eqb}
 use Rattle.std.proofs.lemmas.Int.{ints}
 use native.Mathlib.Nat.{dvd_trans}
-use Rattle.upp_limits.specs.rational.specs.Rational.{ℚ, int, den, frac, ◌*ℚ◌, ◌/ℚ◌, ◌≤ℚ◌, ◌<ℚ◌}
-use Rattle.upp_limits.specs.rational.specs.Fractions.{frac_self, frac-same}
-use Rattle.upp_limits.specs.rational.specs.Grid.{Whole}
-use Rattle.upp_limits.specs.rational.specs.Ratio.{IsSmall}
-use Rattle.upp_limits.specs.rational.proofs.Linear.{with1, with2, with4, with5}
-use Rattle.upp_limits.specs.rational.proofs.Laws.{le_trans, le_of_lt, lt_le_trans, mul_le_mul, mul_le_mul_right, mul_nonneg, mul_comm, one_mul, not_zero, num_some}
-use Rattle.upp_limits.specs.rational.proofs.Quotients.{div_nonneg, div_mono}
-use Rattle.upp_limits.specs.rational.proofs.Integers.{mul_whole, int_mul, nat_le}
-use Rattle.upp_limits.specs.rational.proofs.Multiples.{lcm_left, lcm_right, lcm_pos}
-use Rattle.upp_limits.specs.rational.proofs.Grid.{whole_int, whole_mul, whole_div, within_nonneg}
-use Rattle.upp_limits.specs.rational.proofs.Sizes.{largest_part, small_on_grid}
-use Rattle.upp_limits.specs.rational.proofs.MinMax.{max_q_ge_left, max_q_ge_right}
+use Rattle.rational.specs.Rational.{ℚ, int, den, frac, ◌*ℚ◌, ◌/ℚ◌, ◌≤ℚ◌, ◌<ℚ◌}
+use Rattle.rational.specs.Fractions.{frac_self, frac-same}
+use Rattle.rational.specs.Grid.{Whole}
+use Rattle.rational.specs.Ratio.{IsSmall}
+use Rattle.rational.proofs.Linear.{with1, with2, with4, with5}
+use Rattle.rational.proofs.Laws.{le_trans, le_of_lt, lt_le_trans, mul_le_mul, mul_le_mul_right, mul_nonneg, mul_comm, one_mul, not_zero, num_some}
+use Rattle.rational.proofs.Quotients.{div_nonneg, div_mono}
+use Rattle.rational.proofs.Integers.{mul_whole, int_mul, nat_le}
+use Rattle.rational.proofs.Multiples.{lcm_left, lcm_right, lcm_pos}
+use Rattle.rational.proofs.Grid.{whole_int, whole_mul, whole_div, within_nonneg}
+use Rattle.rational.proofs.Sizes.{largest_part, small_on_grid}
+use Rattle.rational.proofs.MinMax.{max_q_ge_left, max_q_ge_right}
 use Rattle.upp_limits.specs.Limits.{Sizes, gauge_of}
-use Rattle.net_model.specs.run_laws.specs.Cards.{whole}
-use Rattle.net_model.specs.run_laws.specs.Routes.{Hop, PassesServer, link_at, route_of}
-use Rattle.net_model.specs.run_laws.proofs.Sizes.{whole_le, whole_nonneg}
+use Rattle.run_laws.specs.Cards.{whole}
+use Rattle.run_laws.specs.Routes.{Hop, PassesServer, link_at, route_of}
+use Rattle.run_laws.proofs.Sizes.{whole_le, whole_nonneg}
 use Rattle.net_model.specs.stated_runs.Setups.{GateTimes, StallTimes, Entering, Setup, IsSetup, IsGateFor, opening_of, rate_of, packet_of}
 use Rattle.net_model.specs.stated_runs.TimeGrids.{HasRoom, IsTime, IsGateTime, AreStallTimes}
 use Rattle.sim_bounds.specs.Horizons.{latest_of, path_bits, bits_through, load, first_time, gate_ratio, gate_cycle, work_span, span, horizon, sum_below, IsForward}

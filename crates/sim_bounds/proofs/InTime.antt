@@ -1,20 +1,20 @@
 -- No step that is due is past the horizon.
 use Rattle.std.proofs.Common.{◌≡◌, ℕ, ◌<◌, List, [], ◌∷◌, length, refl, sym, ap, ◌∙◌, subst, arith, Some}
 use Rattle.std.specs.Prelude.{pos}
-use Rattle.upp_limits.specs.rational.specs.Rational.{ℚ, int, ◌+ℚ◌, ◌-ℚ◌, ◌*ℚ◌, ◌/ℚ◌, ◌≤ℚ◌, ◌<ℚ◌}
-use Rattle.upp_limits.specs.rational.specs.MinMax.{max_q}
-use Rattle.upp_limits.specs.rational.proofs.Linear.{with2, with3, with4, with5, with7}
-use Rattle.upp_limits.specs.rational.proofs.Laws.{le_refl, le_trans, le_of_lt, mul_le_mul, mul_comm, div_mul, not_zero, le_of_mul}
-use Rattle.upp_limits.specs.rational.proofs.Quotients.{zero_div}
-use Rattle.upp_limits.specs.rational.proofs.MinMax.{max_q_ge_left, max_q_ge_right}
-use Rattle.net_model.specs.run_laws.specs.declared.steps.Step.{Step}
-use Rattle.net_model.specs.run_laws.specs.declared.steps.Step.TheVariants.{Enter, Reach, Work, Leave, Visit}
-use Rattle.net_model.specs.run_laws.specs.Cards.{Card, whole, size}
-use Rattle.net_model.specs.run_laws.specs.Servers.{done_so_far, head_of}
-use Rattle.net_model.specs.run_laws.specs.Routes.{server_at, link_at}
-use Rattle.net_model.specs.run_laws.specs.Views.{card_of, hops_of}
-use Rattle.net_model.specs.run_laws.specs.Lawful.{Due, RunState, state_at, next_run, run_start, after_run}
-use Rattle.net_model.specs.run_laws.proofs.Sizes.{whole_le, whole_nonneg}
+use Rattle.rational.specs.Rational.{ℚ, int, ◌+ℚ◌, ◌-ℚ◌, ◌*ℚ◌, ◌/ℚ◌, ◌≤ℚ◌, ◌<ℚ◌}
+use Rattle.rational.specs.MinMax.{max_q}
+use Rattle.rational.proofs.Linear.{with2, with3, with4, with5, with7}
+use Rattle.rational.proofs.Laws.{le_refl, le_trans, le_of_lt, mul_le_mul, mul_comm, div_mul, not_zero, le_of_mul}
+use Rattle.rational.proofs.Quotients.{zero_div}
+use Rattle.rational.proofs.MinMax.{max_q_ge_left, max_q_ge_right}
+use Rattle.run_laws.specs.declared.steps.Step.{Step}
+use Rattle.run_laws.specs.declared.steps.Step.TheVariants.{Enter, Reach, Work, Leave, Visit}
+use Rattle.run_laws.specs.Cards.{Card, whole, size}
+use Rattle.run_laws.specs.Servers.{done_so_far, head_of}
+use Rattle.run_laws.specs.Routes.{server_at, link_at}
+use Rattle.run_laws.specs.Views.{card_of, hops_of}
+use Rattle.run_laws.specs.Lawful.{Due, RunState, state_at, next_run, run_start, after_run}
+use Rattle.run_laws.proofs.Sizes.{whole_le, whole_nonneg}
 use Rattle.net_model.specs.stated_runs.Setups.{Setup, IsSetup, IsFirstOpen, opening_of, rate_of}
 use Rattle.net_model.specs.stated_runs.DueSteps.{IsDue, step_time}
 use Rattle.net_model.proofs.stated_runs.Lists.{contains_in}

@@ -2,16 +2,16 @@
 -- what is ahead of it falls as its open time grows.
 use Rattle.std.proofs.Common.{◌≡◌, ℕ, ◌≤◌, ◌+◌, List, [], ◌∷◌, refl, sym, ap, ◌∙◌, subst, arith, inl, inr, Some, None}
 use Rattle.std.specs.Prelude.{Option, pos}
-use Rattle.upp_limits.specs.rational.specs.Rational.{ℚ, int, ◌+ℚ◌, ◌-ℚ◌, ◌*ℚ◌, ◌/ℚ◌, ◌≤ℚ◌}
-use Rattle.upp_limits.specs.rational.specs.MinMax.{max_q}
-use Rattle.upp_limits.specs.rational.proofs.Linear.{with1, with3, with4, with5, with6, with7}
-use Rattle.upp_limits.specs.rational.proofs.Laws.{le_refl, le_trans, le_of_lt, lt_le_trans, le_or_lt, lt_irrefl, mul_le_mul, mul_le_mul_right, mul_add, mul_comm, one_mul, div_mul, not_zero, le_of_mul}
-use Rattle.upp_limits.specs.rational.proofs.Quotients.{div_nonneg}
-use Rattle.upp_limits.specs.rational.proofs.MinMax.{max_q_is_left, max_q_right, max_q_le, max_q_ge_left, max_q_ge_right}
-use Rattle.net_model.specs.run_laws.specs.Cards.{Card, whole, size, Arrives, Works, Leaves, Visits}
-use Rattle.net_model.specs.run_laws.specs.Servers.{Discipline, Under, ServerState, done, done_so_far}
-use Rattle.net_model.specs.run_laws.specs.Next.{next}
-use Rattle.net_model.specs.run_laws.proofs.Sizes.{whole_le, whole_sum}
+use Rattle.rational.specs.Rational.{ℚ, int, ◌+ℚ◌, ◌-ℚ◌, ◌*ℚ◌, ◌/ℚ◌, ◌≤ℚ◌}
+use Rattle.rational.specs.MinMax.{max_q}
+use Rattle.rational.proofs.Linear.{with1, with3, with4, with5, with6, with7}
+use Rattle.rational.proofs.Laws.{le_refl, le_trans, le_of_lt, lt_le_trans, le_or_lt, lt_irrefl, mul_le_mul, mul_le_mul_right, mul_add, mul_comm, one_mul, div_mul, not_zero, le_of_mul}
+use Rattle.rational.proofs.Quotients.{div_nonneg}
+use Rattle.rational.proofs.MinMax.{max_q_is_left, max_q_right, max_q_le, max_q_ge_left, max_q_ge_right}
+use Rattle.run_laws.specs.Cards.{Card, whole, size, Arrives, Works, Leaves, Visits}
+use Rattle.run_laws.specs.Servers.{Discipline, Under, ServerState, done, done_so_far}
+use Rattle.run_laws.specs.Next.{next}
+use Rattle.run_laws.proofs.Sizes.{whole_le, whole_sum}
 use Rattle.net_model.specs.stated_runs.Setups.{Setup, IsSetup, StallTimes, IsGateOpen, IsStalled, IsOpen, IsFirstOpen, IsStretch, opening_of, rate_of}
 use Rattle.sim_bounds.specs.Horizons.{latest_of, first_time, load, gate_ratio, gate_cycle, work_span}
 use Rattle.sim_bounds.proofs.OpenTime.{open_time, open_time_of}
@@ -180,8 +180,8 @@ in_span S A s m left l from some h =
     let y = whole (load S s) /ℚ r in
     let xs : x *ℚ r ≡ left = div_mul left r (not_zero r rate) in
     let ys : y *ℚ r ≡ whole (load S s) = div_mul (whole (load S s)) r (not_zero r rate) in
-    let ml : (time m +ℚ x) *ℚ r ≡ time m *ℚ r +ℚ x *ℚ r = Rattle.upp_limits.specs.rational.proofs.Laws.add_mul (time m) x r in
-    let mr : (time A +ℚ y) *ℚ r ≡ time A *ℚ r +ℚ y *ℚ r = Rattle.upp_limits.specs.rational.proofs.Laws.add_mul (time A) y r in
+    let ml : (time m +ℚ x) *ℚ r ≡ time m *ℚ r +ℚ x *ℚ r = Rattle.rational.proofs.Laws.add_mul (time m) x r in
+    let mr : (time A +ℚ y) *ℚ r ≡ time A *ℚ r +ℚ y *ℚ r = Rattle.rational.proofs.Laws.add_mul (time A) y r in
     let cm : time m *ℚ r ≡ r *ℚ time m = mul_comm (time m) r in
     let ca : time A *ℚ r ≡ r *ℚ time A = mul_comm (time A) r in
     let both : (time m +ℚ x) *ℚ r ≤ℚ (time A +ℚ y) *ℚ r =

@@ -4,9 +4,9 @@ use Rattle.std.specs.Prelude.{Option, pos, Contains, ◌==◌, slice_get}
 use Rattle.std.specs.List.{AllByRecursion}
 use Rattle.std.proofs.lemmas.Bool.{cases_Bool}
 use Rattle.std.proofs.lemmas.List.{get_or-map, length-map}
-use Rattle.upp_limits.specs.rational.specs.Rational.{int, ◌≤ℚ◌}
-use Rattle.upp_limits.specs.rational.proofs.Laws.{le_of_lt}
-use Rattle.net_model.specs.run_laws.specs.Routes.{Route, route_of}
+use Rattle.rational.specs.Rational.{int, ◌≤ℚ◌}
+use Rattle.rational.proofs.Laws.{le_of_lt}
+use Rattle.run_laws.specs.Routes.{Route, route_of}
 use Rattle.net_model.specs.declared.trace.TracePacket.{TracePacket}
 use Rattle.net_model.specs.declared.trace.Stall.{Stall}
 use Rattle.net_model.specs.Networks.{Net, NetServer, NetFlow}

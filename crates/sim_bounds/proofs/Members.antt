@@ -3,7 +3,7 @@ use Rattle.std.proofs.Common.{◌≡◌, ℕ, zero, suc, ◌<◌, List, [], ◌�
 use Rattle.std.specs.Prelude.{All}
 use Rattle.std.specs.List.{AllByRecursion}
 use Rattle.net_model.proofs.stated_runs.Lists.{In, in_contains}
-pub use Rattle.net_model.specs.run_laws.proofs.Members.{has_right as in_right, has_left as in_left, has_map as in_map, has_flat as in_flat}
+pub use Rattle.run_laws.proofs.Members.{has_right as in_right, has_left as in_left, has_map as in_map, has_flat as in_flat}
 
 pub each_in : {X : Type 0} (P : X → Type 0) (xs : List X) → AllByRecursion P xs → (x : X) → In xs x → P x
 each_in P [] a x h = absurd h

@@ -3,19 +3,19 @@ use Rattle.std.proofs.Common.{◌≡◌, ℕ, ◌<◌, List, [], ◌∷◌, ◌+
 use Rattle.std.specs.Prelude.{Option, pos}
 use Rattle.std.proofs.lemmas.Bool.{cases_eq}
 use Rattle.std.proofs.lemmas.List.{get_or-map}
-use Rattle.upp_limits.specs.rational.specs.Rational.{ℚ, int, ◌+ℚ◌, ◌-ℚ◌, ◌*ℚ◌, ◌/ℚ◌, ◌≤ℚ◌}
-use Rattle.upp_limits.specs.rational.specs.Grid.{Whole}
-use Rattle.upp_limits.specs.rational.proofs.Laws.{le_trans, mul_comm, not_zero}
-use Rattle.upp_limits.specs.rational.proofs.Grid.{whole_int, whole_add, whole_sub}
-use Rattle.upp_limits.specs.rational.proofs.Quotients.{add_div, sub_div, zero_div, div_unique}
-use Rattle.net_model.specs.run_laws.specs.declared.steps.Step.{Step}
-use Rattle.net_model.specs.run_laws.specs.declared.steps.Step.TheVariants.{Enter, Reach, Work, Leave, Visit}
-use Rattle.net_model.specs.run_laws.specs.Cards.{Card, size, Arrives, Works}
-use Rattle.net_model.specs.run_laws.specs.Servers.{Fifo, Server, Under, ServerState, done, done_so_far, start}
-use Rattle.net_model.specs.run_laws.specs.Next.{next}
-use Rattle.net_model.specs.run_laws.specs.Routes.{server_at, link_at, route_of, first_server, server_after}
-use Rattle.net_model.specs.run_laws.specs.Views.{hops_of, card_of, server_of, seen}
-use Rattle.net_model.specs.run_laws.specs.Lawful.{Due, RunState, state_at, next_run, run_start, after_run}
+use Rattle.rational.specs.Rational.{ℚ, int, ◌+ℚ◌, ◌-ℚ◌, ◌*ℚ◌, ◌/ℚ◌, ◌≤ℚ◌}
+use Rattle.rational.specs.Grid.{Whole}
+use Rattle.rational.proofs.Laws.{le_trans, mul_comm, not_zero}
+use Rattle.rational.proofs.Grid.{whole_int, whole_add, whole_sub}
+use Rattle.rational.proofs.Quotients.{add_div, sub_div, zero_div, div_unique}
+use Rattle.run_laws.specs.declared.steps.Step.{Step}
+use Rattle.run_laws.specs.declared.steps.Step.TheVariants.{Enter, Reach, Work, Leave, Visit}
+use Rattle.run_laws.specs.Cards.{Card, size, Arrives, Works}
+use Rattle.run_laws.specs.Servers.{Fifo, Server, Under, ServerState, done, done_so_far, start}
+use Rattle.run_laws.specs.Next.{next}
+use Rattle.run_laws.specs.Routes.{server_at, link_at, route_of, first_server, server_after}
+use Rattle.run_laws.specs.Views.{hops_of, card_of, server_of, seen}
+use Rattle.run_laws.specs.Lawful.{Due, RunState, state_at, next_run, run_start, after_run}
 use Rattle.net_model.specs.stated_runs.Setups.{Setup, IsSetup, rate_of}
 use Rattle.net_model.specs.stated_runs.DueSteps.{IsDue, step_time}
 use Rattle.net_model.proofs.stated_runs.Lists.{In, in_without, contains_in}

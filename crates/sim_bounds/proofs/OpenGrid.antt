@@ -2,17 +2,17 @@
 use Rattle.std.proofs.Common.{◌≡◌, ℕ, suc, List, [], ◌∷◌, sym, ◌∙◌, subst, arith, inl, inr, ◌⊎◌, Some, None}
 use Rattle.std.specs.Prelude.{Option, pos}
 use Rattle.std.proofs.lemmas.Bool.{cases_order}
-use Rattle.upp_limits.specs.rational.specs.Rational.{ℚ, int, ◌+ℚ◌, ◌-ℚ◌, ◌*ℚ◌, ◌/ℚ◌, ◌≤ℚ◌, ◌<ℚ◌}
-use Rattle.upp_limits.specs.rational.specs.Grid.{Whole}
-use Rattle.upp_limits.specs.rational.specs.MinMax.{max_q}
-use Rattle.upp_limits.specs.rational.proofs.Linear.{with2, with3, with4, with5, with6}
-use Rattle.upp_limits.specs.rational.proofs.Laws.{le_trans, le_of_lt, lt_le_trans, le_lt_trans, le_or_lt, lt_irrefl, antisym, mul_comm, mul_le_mul_right}
-use Rattle.upp_limits.specs.rational.proofs.Grid.{whole_add, whole_times, max_whole}
-use Rattle.upp_limits.specs.rational.proofs.MinMax.{max_q_ge_left, max_q_ge_right, max_q_le, max_q_one}
-use Rattle.upp_limits.specs.rational.proofs.Quotients.{div_unique}
-use Rattle.upp_limits.specs.rational.proofs.Whole.{one_more_times}
-use Rattle.net_model.specs.run_laws.specs.Cards.{whole}
-use Rattle.net_model.specs.run_laws.proofs.Sizes.{whole_le}
+use Rattle.rational.specs.Rational.{ℚ, int, ◌+ℚ◌, ◌-ℚ◌, ◌*ℚ◌, ◌/ℚ◌, ◌≤ℚ◌, ◌<ℚ◌}
+use Rattle.rational.specs.Grid.{Whole}
+use Rattle.rational.specs.MinMax.{max_q}
+use Rattle.rational.proofs.Linear.{with2, with3, with4, with5, with6}
+use Rattle.rational.proofs.Laws.{le_trans, le_of_lt, lt_le_trans, le_lt_trans, le_or_lt, lt_irrefl, antisym, mul_comm, mul_le_mul_right}
+use Rattle.rational.proofs.Grid.{whole_add, whole_times, max_whole}
+use Rattle.rational.proofs.MinMax.{max_q_ge_left, max_q_ge_right, max_q_le, max_q_one}
+use Rattle.rational.proofs.Quotients.{div_unique}
+use Rattle.rational.proofs.Whole.{one_more_times}
+use Rattle.run_laws.specs.Cards.{whole}
+use Rattle.run_laws.proofs.Sizes.{whole_le}
 use Rattle.net_model.specs.stated_runs.Setups.{Setup, IsSetup, GateTimes, StallTimes, IsGate, IsGateFor, IsGateOpen, IsStalled, IsOpen, IsFirstOpen, IsStretch, opening_of, rate_of}
 use Rattle.sim_bounds.specs.Times.{IsGateWhole, AreStallsWhole}
 use Rattle.sim_bounds.proofs.OpenTime.{cycles, in_cycle}
@@ -171,7 +171,7 @@ stretch_end_whole S s d ok from left a b w wg ws zero wa wl k = elim k.longest [
   | inl e ↦
       let rate = rate_of S s in
       let is : (b -ℚ a) *ℚ rate ≡ left = mul_comm (b -ℚ a) rate ∙ sym k.at_rate ∙ e in
-      let time : left /ℚ rate ≡ b -ℚ a = div_unique left rate (b -ℚ a) (Rattle.upp_limits.specs.rational.proofs.Laws.not_zero rate (ok.rates s)) is in
+      let time : left /ℚ rate ≡ b -ℚ a = div_unique left rate (b -ℚ a) (Rattle.rational.proofs.Laws.not_zero rate (ok.rates s)) is in
       let end : a +ℚ left /ℚ rate ≡ b = antisym (with3 a b (left /ℚ rate) (λ o. omega (arith, o.le, o.lt, o.same))) in
       subst (λ x. Whole d x) end (whole_add d a (left /ℚ rate) wa wl)
   | inr n ↦

@@ -2,17 +2,17 @@
 use Rattle.std.proofs.Common.{◌≡◌, ℕ, suc, ◌≤◌, sym, ap, ◌∙◌, subst, arith, inl, inr, Some, None}
 use Rattle.std.specs.Prelude.{Option, pos}
 use Rattle.std.proofs.lemmas.Bool.{cases_order}
-use Rattle.upp_limits.specs.rational.specs.Rational.{ℚ, int, ◌+ℚ◌, ◌-ℚ◌, ◌*ℚ◌, ◌/ℚ◌, ◌≤ℚ◌, ◌<ℚ◌}
-use Rattle.upp_limits.specs.rational.specs.MinMax.{min_q}
-use Rattle.upp_limits.specs.rational.specs.Whole.{whole_part}
-use Rattle.upp_limits.specs.rational.proofs.Linear.{with1, with2, with3, with4, with5, with6, with7, with8}
-use Rattle.upp_limits.specs.rational.proofs.Laws.{le_refl, le_trans, le_of_lt, lt_le_trans, le_or_lt, lt_irrefl, mul_le_mul, mul_le_mul_right, mul_lt_mul_right, mul_sub, mul_add, mul_comm, mul_assoc, one_mul, div_mul, not_zero, antisym}
-use Rattle.upp_limits.specs.rational.proofs.Whole.{whole_le as part_le, whole_gt as part_gt, one_more_times}
-use Rattle.upp_limits.specs.rational.proofs.MinMax.{min_q_one, min_q_le_left, min_q_le_right, min_q_ge}
-use Rattle.net_model.specs.run_laws.specs.Cards.{whole}
-use Rattle.net_model.specs.run_laws.proofs.Sizes.{whole_le}
+use Rattle.rational.specs.Rational.{ℚ, int, ◌+ℚ◌, ◌-ℚ◌, ◌*ℚ◌, ◌/ℚ◌, ◌≤ℚ◌, ◌<ℚ◌}
+use Rattle.rational.specs.MinMax.{min_q}
+use Rattle.rational.specs.Whole.{whole_part}
+use Rattle.rational.proofs.Linear.{with1, with2, with3, with4, with5, with6, with7, with8}
+use Rattle.rational.proofs.Laws.{le_refl, le_trans, le_of_lt, lt_le_trans, le_or_lt, lt_irrefl, mul_le_mul, mul_le_mul_right, mul_lt_mul_right, mul_sub, mul_add, mul_comm, mul_assoc, one_mul, div_mul, not_zero, antisym}
+use Rattle.rational.proofs.Whole.{whole_le as part_le, whole_gt as part_gt, one_more_times}
+use Rattle.rational.proofs.MinMax.{min_q_one, min_q_le_left, min_q_le_right, min_q_ge}
+use Rattle.run_laws.specs.Cards.{whole}
+use Rattle.run_laws.proofs.Sizes.{whole_le}
 use Rattle.net_model.specs.stated_runs.Setups.{GateTimes, IsGate, IsGateFor, IsGateOpen}
-use Rattle.net_model.specs.run_laws.proofs.Clips.{quotient}
+use Rattle.run_laws.proofs.Clips.{quotient}
 
 -- ---- cycles
 -- how many whole cycles there are up to a time
@@ -26,7 +26,7 @@ pub record IsInCycle (c t : ℚ) (n : ℕ) : Type 0 where
 pub in_cycle : (c t : ℚ) → int (pos 0) <ℚ c → int (pos 0) ≤ℚ t → IsInCycle c t (cycles c t)
 in_cycle c t h k =
     let x = t /ℚ c in
-    let some : int (pos 0) ≤ℚ x = Rattle.upp_limits.specs.rational.proofs.Quotients.div_nonneg t c h k in
+    let some : int (pos 0) ≤ℚ x = Rattle.rational.proofs.Quotients.div_nonneg t c h k in
     let is : x *ℚ c ≡ t = div_mul t c (not_zero c h) in
     record {
       begun = subst (λ y. whole (cycles c t) *ℚ c ≤ℚ y) is (mul_le_mul_right c (le_of_lt h) (part_le x some));
@@ -164,7 +164,7 @@ gate_flat g ok x y from l closed = elim (le_or_lt y x) [
 
 -- ---- times the ratio of cycle and slot it is the time, but for one cycle
 pub ratio_least : (c s : ℚ) → int (pos 0) <ℚ s → s ≤ℚ c → int (pos 1) ≤ℚ c /ℚ s
-ratio_least c s h l = (Rattle.upp_limits.specs.rational.proofs.Quotients.le_div c s (int (pos 1)) h).1 (subst (λ y. y ≤ℚ c) (sym (one_mul s)) l)
+ratio_least c s h l = (Rattle.rational.proofs.Quotients.le_div c s (int (pos 1)) h).1 (subst (λ y. y ≤ℚ c) (sym (one_mul s)) l)
 
 -- the ratio times the slots of n cycles is n cycles
 ratio_cycles : (c s : ℚ) (n : ℕ) → int (pos 0) <ℚ s → (c /ℚ s) *ℚ (whole n *ℚ s) ≡ whole n *ℚ c

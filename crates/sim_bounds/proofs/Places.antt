@@ -14,7 +14,7 @@ use Rattle.net_model.proofs.net_graph.Members.{is_member}
 use Rattle.net_model.proofs.net_graph.Returns.{first_in_range}
 use Rattle.net_model.proofs.stated_runs.Lists.{In, in_contains, contains_in}
 use Rattle.sim_bounds.proofs.Members.{each_in}
-use Rattle.net_model.specs.run_laws.proofs.Sums.{one_if}
+use Rattle.run_laws.proofs.Sums.{one_if}
 
 -- ---- tests
 one_true : (p q : Bool) → (p || q) ≡ true → (p ≡ true) ⊎ (q ≡ true)

@@ -3,14 +3,14 @@ use Rattle.std.proofs.Common.{◌≡◌, ℕ, zero, suc, ◌<◌, List, [], ◌�
 use Rattle.std.specs.Prelude.{Option, pos, nat_lt}
 use Rattle.std.proofs.lemmas.Bool.{cases_lt, cases_eq}
 use Rattle.std.proofs.lemmas.List.{get_or_past}
-use Rattle.upp_limits.specs.rational.specs.Rational.{ℚ, int, ◌+ℚ◌, ◌*ℚ◌, ◌/ℚ◌, ◌≤ℚ◌}
-use Rattle.upp_limits.specs.rational.proofs.Linear.{with1, with2, with3, with4, with5, with6}
-use Rattle.upp_limits.specs.rational.proofs.Laws.{le_refl, le_trans, le_of_lt, lt_le_trans, mul_nonneg}
-use Rattle.upp_limits.specs.rational.proofs.Quotients.{div_nonneg}
-use Rattle.upp_limits.specs.rational.proofs.MinMax.{max_q_ge_left, max_q_ge_right}
-use Rattle.net_model.specs.run_laws.specs.Cards.{whole}
-use Rattle.net_model.specs.run_laws.specs.Routes.{link_at}
-use Rattle.net_model.specs.run_laws.proofs.Sizes.{whole_nonneg}
+use Rattle.rational.specs.Rational.{ℚ, int, ◌+ℚ◌, ◌*ℚ◌, ◌/ℚ◌, ◌≤ℚ◌}
+use Rattle.rational.proofs.Linear.{with1, with2, with3, with4, with5, with6}
+use Rattle.rational.proofs.Laws.{le_refl, le_trans, le_of_lt, lt_le_trans, mul_nonneg}
+use Rattle.rational.proofs.Quotients.{div_nonneg}
+use Rattle.rational.proofs.MinMax.{max_q_ge_left, max_q_ge_right}
+use Rattle.run_laws.specs.Cards.{whole}
+use Rattle.run_laws.specs.Routes.{link_at}
+use Rattle.run_laws.proofs.Sizes.{whole_nonneg}
 use Rattle.net_model.specs.stated_runs.Setups.{Entering, GateTimes, StallTimes, Opening, Setup, opening_of, rate_of, packet_of, IsGateFor, IsSetup}
 use Rattle.sim_bounds.specs.Horizons.{latest_of, first_time, load, gate_ratio, gate_cycle, stalled_for, work_span, span, sum_below, horizon, AreStalls, IsForward}
 use Rattle.sim_bounds.proofs.OpenTime.{ratio_least}

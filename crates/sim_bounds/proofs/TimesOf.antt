@@ -1,12 +1,12 @@
 -- The laws of times.
 use Rattle.std.proofs.Common.{◌≡◌, ℕ, List, ap, subst}
-use Rattle.upp_limits.specs.rational.specs.Rational.{◌-ℚ◌, ◌/ℚ◌}
-use Rattle.upp_limits.specs.rational.specs.Grid.{Whole}
-use Rattle.upp_limits.specs.rational.proofs.Laws.{le_trans}
-use Rattle.net_model.specs.run_laws.specs.declared.steps.Step.{Step}
-use Rattle.net_model.specs.run_laws.specs.Cards.{size}
-use Rattle.net_model.specs.run_laws.specs.Servers.{done, done_so_far}
-use Rattle.net_model.specs.run_laws.specs.Lawful.{state_at, run_start, after_run}
+use Rattle.rational.specs.Rational.{◌-ℚ◌, ◌/ℚ◌}
+use Rattle.rational.specs.Grid.{Whole}
+use Rattle.rational.proofs.Laws.{le_trans}
+use Rattle.run_laws.specs.declared.steps.Step.{Step}
+use Rattle.run_laws.specs.Cards.{size}
+use Rattle.run_laws.specs.Servers.{done, done_so_far}
+use Rattle.run_laws.specs.Lawful.{state_at, run_start, after_run}
 use Rattle.net_model.specs.stated_runs.Setups.{Setup, IsSetup, rate_of}
 use Rattle.net_model.specs.stated_runs.DueSteps.{IsDue}
 use Rattle.sim_bounds.specs.Horizons.{IsForward}

@@ -2,10 +2,10 @@
 -- choice.)
 use Rattle.std.specs.Prelude.{Option, Some, None, ℕ, ◌*◌, max, pos, nat_abs, Bool, ◌&&◌, List, [], ◌∷◌, ◌++◌, map, filter, sum_by}
 use Rattle.std.specs.List.{flat_map}
-use Rattle.upp_limits.specs.rational.specs.Rational.{ℚ, int, ◌+ℚ◌, ◌*ℚ◌, le_q}
-use Rattle.upp_limits.specs.rational.specs.Gauge.{common_den, bound_of, lcm}
-use Rattle.upp_limits.specs.min_plus.specs.WholeUp.{whole_up}
-use Rattle.upp_limits.specs.upp_curve.specs.Curve.{SpecCurve}
+use Rattle.rational.specs.Rational.{ℚ, int, ◌+ℚ◌, ◌*ℚ◌, le_q}
+use Rattle.rational.specs.Gauge.{common_den, bound_of, lcm}
+use Rattle.min_plus.specs.WholeUp.{whole_up}
+use Rattle.upp_curve.specs.Curve.{SpecCurve}
 use Rattle.upp_limits.specs.Spans.{Span, spans_below}
 use Rattle.upp_limits.specs.Limits.{Numbers, Sizes, no_numbers, joined, curve_numbers, span_values, span_slopes, twice, gauge_of}
 use Rattle.net_model.specs.declared.trace.TracePacket.{TracePacket}

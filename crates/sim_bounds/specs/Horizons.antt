@@ -1,10 +1,10 @@
 -- How far the times of a stated run can go: a first time, and a span for each server. (Own choice.)
 use Rattle.std.specs.Prelude.{Option, Some, None, ℕ, zero, suc, pos, ◌+◌, ◌<◌, ◌==◌, List, [], ◌∷◌, length, if◌then◌else◌}
 use Rattle.std.specs.List.{AllByRecursion}
-use Rattle.upp_limits.specs.rational.specs.Rational.{ℚ, int, ◌+ℚ◌, ◌-ℚ◌, ◌*ℚ◌, ◌/ℚ◌, ◌≤ℚ◌}
-use Rattle.upp_limits.specs.rational.specs.MinMax.{max_q}
-use Rattle.net_model.specs.run_laws.specs.Cards.{whole}
-use Rattle.net_model.specs.run_laws.specs.Routes.{Hop, Routes, route_of, link_at}
+use Rattle.rational.specs.Rational.{ℚ, int, ◌+ℚ◌, ◌-ℚ◌, ◌*ℚ◌, ◌/ℚ◌, ◌≤ℚ◌}
+use Rattle.rational.specs.MinMax.{max_q}
+use Rattle.run_laws.specs.Cards.{whole}
+use Rattle.run_laws.specs.Routes.{Hop, Routes, route_of, link_at}
 use Rattle.net_model.specs.stated_runs.Setups.{Entering, GateTimes, StallTimes, Setup, opening_of, rate_of, packet_of}
 
 -- ---- the first time: the largest of the times at which packets enter and stalls end, and 0 where there is none

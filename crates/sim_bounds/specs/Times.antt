@@ -1,15 +1,15 @@
 -- The times of the steps of a stated run, as far as it has come.
 use Rattle.std.specs.Prelude.{Option, Some, None, ◌≡◌, ℕ, pos, ◌<◌, List, length}
 use Rattle.std.specs.List.{AllByRecursion}
-use Rattle.upp_limits.specs.rational.specs.Rational.{ℚ, int, ◌+ℚ◌, ◌-ℚ◌, ◌/ℚ◌, ◌≤ℚ◌}
-use Rattle.upp_limits.specs.rational.specs.Grid.{Whole}
-use Rattle.net_model.specs.run_laws.specs.declared.steps.Step.{Step}
-use Rattle.net_model.specs.run_laws.specs.declared.steps.Step.TheVariants.{Enter, Reach, Work, Leave, Visit}
-use Rattle.net_model.specs.run_laws.specs.Cards.{whole, size}
-use Rattle.net_model.specs.run_laws.specs.Servers.{Under, done, done_so_far}
-use Rattle.net_model.specs.run_laws.specs.Routes.{link_at}
-use Rattle.net_model.specs.run_laws.specs.Views.{card_of}
-use Rattle.net_model.specs.run_laws.specs.Lawful.{RunState, state_at}
+use Rattle.rational.specs.Rational.{ℚ, int, ◌+ℚ◌, ◌-ℚ◌, ◌/ℚ◌, ◌≤ℚ◌}
+use Rattle.rational.specs.Grid.{Whole}
+use Rattle.run_laws.specs.declared.steps.Step.{Step}
+use Rattle.run_laws.specs.declared.steps.Step.TheVariants.{Enter, Reach, Work, Leave, Visit}
+use Rattle.run_laws.specs.Cards.{whole, size}
+use Rattle.run_laws.specs.Servers.{Under, done, done_so_far}
+use Rattle.run_laws.specs.Routes.{link_at}
+use Rattle.run_laws.specs.Views.{card_of}
+use Rattle.run_laws.specs.Lawful.{RunState, state_at}
 use Rattle.net_model.specs.stated_runs.Setups.{GateTimes, StallTimes, Setup, opening_of, rate_of, packet_of}
 use Rattle.net_model.specs.stated_runs.DueSteps.{step_time}
 use Rattle.net_model.specs.stated_runs.TimeGrids.{IsTime}

@@ -1,9 +1,9 @@
 -- The numbers on the way to the horizon. (Own choice.)
 use Rattle.std.specs.Prelude.{Option, Some, None, ◌≡◌, ℕ, pos, ◌<◌, ◌≤◌, List, ◌++◌, length}
-use Rattle.upp_limits.specs.rational.specs.Rational.{ℚ, int, ◌+ℚ◌, ◌*ℚ◌, ◌/ℚ◌}
-use Rattle.upp_limits.specs.rational.specs.Ratio.{IsSmall}
-use Rattle.net_model.specs.run_laws.specs.Cards.{whole}
-use Rattle.net_model.specs.run_laws.specs.Routes.{link_at}
+use Rattle.rational.specs.Rational.{ℚ, int, ◌+ℚ◌, ◌*ℚ◌, ◌/ℚ◌}
+use Rattle.rational.specs.Ratio.{IsSmall}
+use Rattle.run_laws.specs.Cards.{whole}
+use Rattle.run_laws.specs.Routes.{link_at}
 use Rattle.net_model.specs.stated_runs.Setups.{GateTimes, StallTimes, Setup, opening_of, rate_of}
 use Rattle.net_model.specs.stated_runs.TimeGrids.{HasRoom, IsTime, AreStallTimes}
 use Rattle.sim_bounds.specs.Horizons.{first_time, load, gate_ratio, stalled_for, sum_below}

@@ -9,7 +9,7 @@ use Rattle.rational.proofs.Linear.{with3, with4}
 use Rattle.rational.proofs.Laws.{le_refl, le_trans, le_of_lt, lt_le_trans, lt_irrefl}
 use Rattle.rational.proofs.Quotients.{le_div, div_lt, div_nonneg}
 use Rattle.rational.proofs.Grid.{whole_times}
-use Rattle.net_model.specs.run_laws.specs.Cards.{whole}
+use Rattle.run_laws.specs.Cards.{whole}
 use Rattle.net_model.specs.stated_runs.Setups.{GateTimes, IsGate, IsGateOpen, IsFirstGateOpen, StaysTo}
 use Rattle.net_model.specs.stated_runs.TimeGrids.{HasRoom, IsTime}
 use Rattle.net_model.proofs.stated_runs.Opens.{next_whole, closed_after, cycle_of}

@@ -7,9 +7,9 @@ use Rattle.rational.specs.Rational.{ℚ, int, ◌+ℚ◌, ◌-ℚ◌, ◌*ℚ◌
 use Rattle.rational.proofs.Linear.{with2, with3}
 use Rattle.rational.proofs.Laws.{le_of_lt, antisym, mul_comm, div_mul, mul_sub, mul_pos, not_zero}
 use Rattle.rational.proofs.Quotients.{div_unique}
-use Rattle.net_model.specs.run_laws.specs.Cards.{Card, Arrives, Works, Leaves, size}
-use Rattle.net_model.specs.run_laws.specs.Servers.{Discipline, Under, ServerState, done_so_far, head_of, without_head}
-use Rattle.net_model.specs.run_laws.specs.Next.{next}
+use Rattle.run_laws.specs.Cards.{Card, Arrives, Works, Leaves, size}
+use Rattle.run_laws.specs.Servers.{Discipline, Under, ServerState, done_so_far, head_of, without_head}
+use Rattle.run_laws.specs.Next.{next}
 use Rattle.net_model.specs.stated_runs.Setups.{Setup, IsFirstOpenAt, IsStretch, rate_of, opening_of}
 use Rattle.sim_servers.specs.declared.opening.Opening.{Opening}
 use Rattle.sim_servers.specs.declared.station.Next.{Next}

@@ -2,9 +2,9 @@
 use Rattle.std.proofs.Common.{◌≡◌, ℕ, ◌+◌, List, [], ◌∷◌, refl, ap, ◌∙◌, arith}
 use Rattle.std.specs.Prelude.{◌≢◌}
 use Rattle.std.proofs.lemmas.Bool.{eq-eqb}
-use Rattle.net_model.specs.run_laws.specs.Servers.{ServerState, head_of}
-use Rattle.net_model.specs.run_laws.specs.Allows.{MayVisit, IsFirst}
-use Rattle.net_model.specs.run_laws.specs.Rounds.{count_of, presence}
+use Rattle.run_laws.specs.Servers.{ServerState, head_of}
+use Rattle.run_laws.specs.Allows.{MayVisit, IsFirst}
+use Rattle.run_laws.specs.Rounds.{count_of, presence}
 use Rattle.sim_servers.specs.declared.server_queues.ServerQueues.{ServerQueues}
 use Rattle.sim_servers.specs.declared.server_queues.ServerQueues.TheVariants.{Fifo, Priority, Drr}
 use Rattle.sim_servers.specs.Queues.{served_by, StandFor}

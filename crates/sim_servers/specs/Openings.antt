@@ -3,7 +3,7 @@
 use Rattle.std.specs.Prelude.{Option, ◌≡◌, ℕ, ◌<◌, ◌≤◌, List, length, map, get_or, All, AllPairs}
 use Rattle.std.specs.Option.{option_map}
 use Rattle.rational.specs.Rational.{ℚ, ◌+ℚ◌, ◌*ℚ◌, ◌≤ℚ◌, ◌<ℚ◌}
-use Rattle.net_model.specs.run_laws.specs.Cards.{whole}
+use Rattle.run_laws.specs.Cards.{whole}
 use Rattle.net_model.specs.stated_runs.Setups as setups
 use Rattle.net_model.specs.stated_runs.Setups.{GateTimes, StallTimes, IsGateFor}
 use Rattle.net_model.specs.stated_runs.TimeGrids.{HasRoom, IsTime, IsGateTime, AreStallTimes}

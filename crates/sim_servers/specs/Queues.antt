@@ -1,10 +1,10 @@
 -- The scheduler of a server, of any discipline.
 use Rattle.std.specs.Prelude.{Some, ◌≡◌, ℕ, length}
 use Rattle.rational.specs.Rational.{ℚ}
-use Rattle.net_model.specs.run_laws.specs.Cards.{Works}
-use Rattle.net_model.specs.run_laws.specs.Servers as servers
-use Rattle.net_model.specs.run_laws.specs.Servers.{Under, ServerState}
-use Rattle.net_model.specs.run_laws.specs.Next.{next}
+use Rattle.run_laws.specs.Cards.{Works}
+use Rattle.run_laws.specs.Servers as servers
+use Rattle.run_laws.specs.Servers.{Under, ServerState}
+use Rattle.run_laws.specs.Next.{next}
 use Rattle.queue_sched.specs.Waiting.{Waits, WaitsByPriority}
 use Rattle.queue_sched.specs.DrrStates.{WaitsInTurn, drr_goes_on}
 use Rattle.queue_sched.specs.Moves.{fifo_goes_on, priority_goes_on}

@@ -1,9 +1,9 @@
 -- The state of a server in a stated run, as the simulator keeps it.
 use Rattle.std.specs.Prelude.{Option, Some, None, ◌≡◌, ◌≢◌, ◌↔◌, ℕ, pos, ◌<◌, ◌^◌, [], length}
 use Rattle.rational.specs.Rational.{ℚ, int, ◌+ℚ◌, ◌-ℚ◌, ◌*ℚ◌, ◌/ℚ◌, ◌≤ℚ◌, ◌<ℚ◌}
-use Rattle.net_model.specs.run_laws.specs.Cards.{size}
-use Rattle.net_model.specs.run_laws.specs.Servers.{queue_count, Under, ServerState, done}
-use Rattle.net_model.specs.run_laws.specs.Routes.{server_at}
+use Rattle.run_laws.specs.Cards.{size}
+use Rattle.run_laws.specs.Servers.{queue_count, Under, ServerState, done}
+use Rattle.run_laws.specs.Routes.{server_at}
 use Rattle.queue_sched.specs.Waiting.{HasPacket}
 use Rattle.net_model.specs.stated_runs.Setups as setups
 use Rattle.net_model.specs.stated_runs.Setups.{Setup, IsStalled, IsOpenAt, IsFirstOpen, IsFirstOpenAt, StaysTo, opening_of, rate_of}

@@ -1,7 +1,7 @@
 //! The queues of a server, by its discipline.
 
 ghost use Rattle.std.specs.Prelude.{◌≡◌, IfOk};
-ghost use Rattle.net_model.specs.run_laws.specs.Servers.{start};
+ghost use Rattle.run_laws.specs.Servers.{start};
 ghost use Rattle.net_model.specs.Accepted.{HasFewQueues};
 ghost use Rattle.net_model.specs.Views.{discipline_of};
 ghost use Rattle.sim_servers.specs.Queues.{served_by, room_of, StandFor};

@@ -2,10 +2,10 @@
 
 ghost use Rattle.std.specs.Prelude.{◌≡◌, ℕ, ◌<◌, ◌≤◌, pos, Some};
 ghost use Rattle.rational.specs.Rational.{ℚ, int, ◌≤ℚ◌, ◌<ℚ◌};
-ghost use Rattle.net_model.specs.run_laws.specs.Cards.{Card, Arrives, Leaves};
-ghost use Rattle.net_model.specs.run_laws.specs.Servers.{Under, ServerState};
-ghost use Rattle.net_model.specs.run_laws.specs.Next.{next};
-ghost use Rattle.net_model.specs.run_laws.specs.Routes.{server_at};
+ghost use Rattle.run_laws.specs.Cards.{Card, Arrives, Leaves};
+ghost use Rattle.run_laws.specs.Servers.{Under, ServerState};
+ghost use Rattle.run_laws.specs.Next.{next};
+ghost use Rattle.run_laws.specs.Routes.{server_at};
 ghost use Rattle.queue_sched.specs.Turns.{IsCard};
 ghost use Rattle.net_model.specs.stated_runs.Setups.{Setup};
 ghost use Rattle.sim_servers.specs.Openings.{opening_for, IsInOrder, IsOver, HasOpened, IsSameOpening, OpeningRoom};

@@ -1,13 +1,13 @@
 -- What is answered for a finite curve that is nowhere below 0 is its closure, and keeps its shape.
 use Rattle.std.specs.Prelude.{Result, Ok, Err, IfOk}
-use Rattle.upp_limits.specs.rational.specs.Rational.{ℚ, ◌≤ℚ◌}
+use Rattle.rational.specs.Rational.{ℚ, ◌≤ℚ◌}
 use Rattle.upp_limits.specs.declared.op_kind.OpFault.{OpFault}
-use Rattle.upp_limits.specs.upp_curve.specs.Curve.{SpecCurve, value_at}
-use Rattle.upp_limits.specs.min_plus.specs.Functions.{zero_q, IsFinite, IsNonnegative}
-use Rattle.upp_limits.specs.upp_curve.specs.Normal.{IsNormal}
-use Rattle.upp_limits.specs.min_plus.specs.Convolution.{IsSubadditiveClosure}
-use Rattle.upp_limits.specs.min_plus.specs.closure_laws.ClosureLaws.{ClosureKeeps}
-use Rattle.upp_limits.specs.min_plus.proofs.closure_laws.KeptShapes.{closures_keep}
+use Rattle.upp_curve.specs.Curve.{SpecCurve, value_at}
+use Rattle.min_plus.specs.Functions.{zero_q, IsFinite, IsNonnegative}
+use Rattle.upp_curve.specs.Normal.{IsNormal}
+use Rattle.min_plus.specs.Convolution.{IsSubadditiveClosure}
+use Rattle.min_plus.specs.closure_laws.ClosureLaws.{ClosureKeeps}
+use Rattle.min_plus.proofs.closure_laws.KeptShapes.{closures_keep}
 use Rattle.subadd_closure.specs.Folds.{CloseAnswer}
 use Rattle.subadd_closure.proofs.FoldStars.{close_answer}
 

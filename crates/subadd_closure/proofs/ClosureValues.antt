@@ -1,28 +1,28 @@
 -- The curves of a segment's closure have its values.
 use Rattle.std.specs.Prelude.{◌≡◌, ℕ, suc, ◌+◌, ◌≤◌, pos, [], ◌∷◌}
 use Rattle.std.proofs.Common.{arith, sym, refl, ap, ◌∙◌, subst, inl, inr}
-use Rattle.upp_limits.specs.rational.specs.Rational.{ℚ, ◌+ℚ◌, ◌-ℚ◌, ◌*ℚ◌, ◌≤ℚ◌, ◌<ℚ◌, int}
-use Rattle.upp_limits.specs.rational.specs.Whole.{periods}
-use Rattle.upp_limits.specs.rational.specs.Extended.{Ext, ◌+ₑ◌}
-use Rattle.upp_limits.specs.rational.specs.declared.Extended.TheVariants.{Fin, Inf}
-use Rattle.upp_limits.specs.rational.proofs.Linear.{with1, with2, with3, with4, with5, with7, with8}
-use Rattle.upp_limits.specs.rational.proofs.Laws.{le_trans, le_lt_trans, lt_le_trans, le_refl, le_of_lt, le_or_lt, antisym, add_mul, mul_add, mul_comm, mul_assoc, mul_nonneg, mul_zero, mul_le_mul_right, one_mul, lt_trans}
-use Rattle.upp_limits.specs.rational.proofs.Integers.{int_add, nat_nonneg, nat_le}
-use Rattle.upp_limits.specs.rational.proofs.Bounds.{infimum_unique}
-use Rattle.upp_limits.specs.rational.proofs.Whole.{one_more_times, periods_low, periods_high}
-use Rattle.upp_limits.specs.upp_curve.specs.declared.affine_segment.line.Line.{Line}
-use Rattle.upp_limits.specs.upp_curve.specs.affine_segment.Values.{line_at}
-use Rattle.upp_limits.specs.min_plus.specs.Functions.{zero_q}
-use Rattle.upp_limits.specs.upp_curve.specs.affine_segment.Reading.{read, piece_value, nothing_at}
-use Rattle.upp_limits.specs.upp_curve.specs.Curve.{repeated, value_at}
-use Rattle.upp_limits.specs.upp_curve.proofs.Repeats.{repeated_first}
+use Rattle.rational.specs.Rational.{ℚ, ◌+ℚ◌, ◌-ℚ◌, ◌*ℚ◌, ◌≤ℚ◌, ◌<ℚ◌, int}
+use Rattle.rational.specs.Whole.{periods}
+use Rattle.rational.specs.Extended.{Ext, ◌+ₑ◌}
+use Rattle.rational.specs.declared.Extended.TheVariants.{Fin, Inf}
+use Rattle.rational.proofs.Linear.{with1, with2, with3, with4, with5, with7, with8}
+use Rattle.rational.proofs.Laws.{le_trans, le_lt_trans, lt_le_trans, le_refl, le_of_lt, le_or_lt, antisym, add_mul, mul_add, mul_comm, mul_assoc, mul_nonneg, mul_zero, mul_le_mul_right, one_mul, lt_trans}
+use Rattle.rational.proofs.Integers.{int_add, nat_nonneg, nat_le}
+use Rattle.rational.proofs.Bounds.{infimum_unique}
+use Rattle.rational.proofs.Whole.{one_more_times, periods_low, periods_high}
+use Rattle.upp_curve.specs.declared.affine_segment.line.Line.{Line}
+use Rattle.upp_curve.specs.affine_segment.Values.{line_at}
+use Rattle.min_plus.specs.Functions.{zero_q}
+use Rattle.upp_curve.specs.affine_segment.Reading.{read, piece_value, nothing_at}
+use Rattle.upp_curve.specs.Curve.{repeated, value_at}
+use Rattle.upp_curve.proofs.Repeats.{repeated_first}
 use Rattle.subadd_closure.specs.ElementClosures.{Turn, IsSegmentClosure}
 use Rattle.subadd_closure.specs.ElementCurves.{stretch, turn, line_times, all_stretches, stretches, from_zero, level_closure, rising_closure, falling_closure}
 use Rattle.subadd_closure.proofs.PieceReads.{opening_past, opening_here, early_start, late_start}
 use Rattle.subadd_closure.proofs.TurnNumbers.{fewer, more, least_turn, no_turn, least_up, least_down}
 use Rattle.subadd_closure.proofs.StretchReads.{IsLate, none_at_start, all_read}
-use Rattle.upp_limits.specs.upp_curve.proofs.affine_segment.PieceIn.{read_go, read_one, read_stop, value_by, value_past, nothing_read}
-use Rattle.upp_limits.specs.min_plus.specs.closure_laws.Star.{nat_times}
+use Rattle.upp_curve.proofs.affine_segment.PieceIn.{read_go, read_one, read_stop, value_by, value_past, nothing_read}
+use Rattle.min_plus.specs.closure_laws.Star.{nat_times}
 
 pub times_add : (n j i : ℕ) (k : ℚ) → i ≡ n + j → nat_times i k ≡ nat_times n k +ℚ nat_times j k
 times_add n j i k e =

@@ -1,29 +1,29 @@
 -- Each part of a curve is a proper element from 0 on, read with its copies.
 use Rattle.std.specs.Prelude.{◌≡◌, pos, List, [], ◌∷◌, map}
 use Rattle.std.proofs.Common.{arith, sym, refl, ap, ◌∙◌, subst, inl, inr}
-use Rattle.upp_limits.specs.rational.specs.Rational.{ℚ, ◌+ℚ◌, ◌-ℚ◌, ◌*ℚ◌, ◌≤ℚ◌, ◌<ℚ◌, int}
-use Rattle.upp_limits.specs.rational.specs.Whole.{periods}
-use Rattle.upp_limits.specs.rational.specs.Extended.{Ext, ◌≤ₑ◌, ◌+ₑ◌}
-use Rattle.upp_limits.specs.rational.specs.declared.Extended.TheVariants.{Fin, Inf}
-use Rattle.upp_limits.specs.rational.proofs.Linear.{with2, with4}
-use Rattle.upp_limits.specs.rational.proofs.Laws.{le_trans, le_or_lt, antisym}
-use Rattle.upp_limits.specs.rational.proofs.Over.{le_q_out}
-use Rattle.upp_limits.specs.rational.proofs.MinMax.{le_q_not}
-use Rattle.upp_limits.specs.rational.proofs.Whole.{periods_unique}
-use Rattle.upp_limits.specs.rational.proofs.ExtendedOrder.{same_le_ext, finite_sum, le_inf}
-use Rattle.upp_limits.specs.upp_curve.specs.declared.affine_segment.line.Piece.{Piece}
-use Rattle.upp_limits.specs.upp_curve.specs.declared.affine_segment.element.Element.{Element}
-use Rattle.upp_limits.specs.upp_curve.specs.affine_segment.Elements.{Covers, start_of, element_value}
-use Rattle.upp_limits.specs.upp_curve.proofs.affine_segment.ElementValues.{value_cases}
-use Rattle.upp_limits.specs.upp_curve.specs.declared.curve.Tail.{Tail}
-use Rattle.upp_limits.specs.upp_curve.specs.declared.curve.Tail.TheVariants.{Periodic, Affine, Infinite}
-use Rattle.upp_limits.specs.upp_curve.specs.Curve.{SpecCurve, repeated}
-use Rattle.upp_limits.specs.min_plus.specs.Functions.{zero_q}
-use Rattle.upp_limits.specs.upp_curve.specs.affine_segment.Pieces.{Each, StartsAtZero}
-use Rattle.upp_limits.specs.upp_curve.specs.Normal.{TailFits, IsNormal}
+use Rattle.rational.specs.Rational.{ℚ, ◌+ℚ◌, ◌-ℚ◌, ◌*ℚ◌, ◌≤ℚ◌, ◌<ℚ◌, int}
+use Rattle.rational.specs.Whole.{periods}
+use Rattle.rational.specs.Extended.{Ext, ◌≤ₑ◌, ◌+ₑ◌}
+use Rattle.rational.specs.declared.Extended.TheVariants.{Fin, Inf}
+use Rattle.rational.proofs.Linear.{with2, with4}
+use Rattle.rational.proofs.Laws.{le_trans, le_or_lt, antisym}
+use Rattle.rational.proofs.Over.{le_q_out}
+use Rattle.rational.proofs.MinMax.{le_q_not}
+use Rattle.rational.proofs.Whole.{periods_unique}
+use Rattle.rational.proofs.ExtendedOrder.{same_le_ext, finite_sum, le_inf}
+use Rattle.upp_curve.specs.declared.affine_segment.line.Piece.{Piece}
+use Rattle.upp_curve.specs.declared.affine_segment.element.Element.{Element}
+use Rattle.upp_curve.specs.affine_segment.Elements.{Covers, start_of, element_value}
+use Rattle.upp_curve.proofs.affine_segment.ElementValues.{value_cases}
+use Rattle.upp_curve.specs.declared.curve.Tail.{Tail}
+use Rattle.upp_curve.specs.declared.curve.Tail.TheVariants.{Periodic, Affine, Infinite}
+use Rattle.upp_curve.specs.Curve.{SpecCurve, repeated}
+use Rattle.min_plus.specs.Functions.{zero_q}
+use Rattle.upp_curve.specs.affine_segment.Pieces.{Each, StartsAtZero}
+use Rattle.upp_curve.specs.Normal.{TailFits, IsNormal}
 use Rattle.element_envelope.specs.PieceElements.{elements_of, StartBefore, Among}
 use Rattle.element_envelope.proofs.Cover.{cover, element_times}
-use Rattle.upp_limits.specs.min_plus.specs.closure_laws.ClosureLaws.{IsCopy, HasCopies}
+use Rattle.min_plus.specs.closure_laws.ClosureLaws.{IsCopy, HasCopies}
 use Rattle.subadd_closure.specs.CurveParts.{pieces_end, copies_of, part_of}
 use Rattle.subadd_closure.specs.declared.part.Part.{Part}
 use Rattle.subadd_closure.specs.PartLaws.{EachPart, IsCopied, IsPart, PartsAreParts}

@@ -1,11 +1,11 @@
 -- The star of an element: what its calls answer, and that they make it.
 use Rattle.std.specs.Prelude.{◌≡◌, Option, Some, None, Result, Ok, Err}
 use Rattle.std.proofs.Common.{sym, refl, subst}
-use Rattle.upp_limits.specs.rational.specs.Rational.{ℚ}
-use Rattle.upp_limits.specs.upp_curve.specs.declared.affine_segment.element.Element.{Element}
+use Rattle.rational.specs.Rational.{ℚ}
+use Rattle.upp_curve.specs.declared.affine_segment.element.Element.{Element}
 use Rattle.upp_limits.specs.declared.op_kind.OpFault.{OpFault}
 use Rattle.upp_limits.specs.declared.op_kind.OpFault.TheVariants.{TooMany, TooWide, NoMemory}
-use Rattle.upp_limits.specs.upp_curve.specs.Curve.{SpecCurve}
+use Rattle.upp_curve.specs.Curve.{SpecCurve}
 use Rattle.outcomes.specs.Calls.{goes_on, stops}
 use Rattle.subadd_closure.specs.ElementAnswers.{IsElementClosure, ClosureAnswer}
 use Rattle.subadd_closure.specs.Lattices.{lattice_curve, origin_curve}

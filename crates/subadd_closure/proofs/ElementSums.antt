@@ -1,24 +1,24 @@
 -- The sums of n values of a point, and of a line on an open stretch.
 use Rattle.std.specs.Prelude.{◌≡◌, ℕ, zero, suc, pos, List, [], ◌∷◌, length}
 use Rattle.std.proofs.Common.{arith, sym, refl, ap, ◌∙◌, subst, inl, inr}
-use Rattle.upp_limits.specs.rational.specs.Rational.{ℚ, ◌+ℚ◌, ◌*ℚ◌, ◌/ℚ◌, ◌≤ℚ◌, ◌<ℚ◌, int}
-use Rattle.upp_limits.specs.rational.specs.Extended.{Ext, ◌≤ₑ◌, ◌<ₑ◌, ◌+ₑ◌}
-use Rattle.upp_limits.specs.rational.specs.declared.Extended.TheVariants.{Fin, Inf}
-use Rattle.upp_limits.specs.rational.proofs.Linear.{with1, with2, with3, with4, with5, with6, with8}
-use Rattle.upp_limits.specs.rational.proofs.Integers.{nat_lt}
-use Rattle.upp_limits.specs.rational.proofs.Laws.{antisym, le_trans, le_of_lt, zero_mul, mul_zero, one_mul, mul_add, mul_comm, mul_assoc, mul_lt_mul, lt_of_mul, div_mul, not_zero}
-use Rattle.upp_limits.specs.rational.proofs.Whole.{one_more_times}
-use Rattle.upp_limits.specs.rational.proofs.ExtendedOrder.{finite_sum, fin_same, le_inf}
-use Rattle.upp_limits.specs.upp_curve.specs.declared.affine_segment.line.Line.{Line}
-use Rattle.upp_limits.specs.upp_curve.specs.declared.affine_segment.element.Element.{Element}
-use Rattle.upp_limits.specs.upp_curve.specs.declared.affine_segment.element.Element.TheVariants.{Point, Open}
-use Rattle.upp_limits.specs.upp_curve.specs.affine_segment.Elements.{Covers, element_value}
-use Rattle.upp_limits.specs.upp_curve.proofs.affine_segment.ElementValues.{value_in, value_cases}
-use Rattle.upp_limits.specs.upp_curve.specs.affine_segment.Cuts.{IsWithin}
-use Rattle.upp_limits.specs.min_plus.specs.Functions.{zero_q}
-use Rattle.upp_limits.specs.min_plus.specs.Convolution.{Parts, AllNonneg, sum_of, sum_at}
+use Rattle.rational.specs.Rational.{ℚ, ◌+ℚ◌, ◌*ℚ◌, ◌/ℚ◌, ◌≤ℚ◌, ◌<ℚ◌, int}
+use Rattle.rational.specs.Extended.{Ext, ◌≤ₑ◌, ◌<ₑ◌, ◌+ₑ◌}
+use Rattle.rational.specs.declared.Extended.TheVariants.{Fin, Inf}
+use Rattle.rational.proofs.Linear.{with1, with2, with3, with4, with5, with6, with8}
+use Rattle.rational.proofs.Integers.{nat_lt}
+use Rattle.rational.proofs.Laws.{antisym, le_trans, le_of_lt, zero_mul, mul_zero, one_mul, mul_add, mul_comm, mul_assoc, mul_lt_mul, lt_of_mul, div_mul, not_zero}
+use Rattle.rational.proofs.Whole.{one_more_times}
+use Rattle.rational.proofs.ExtendedOrder.{finite_sum, fin_same, le_inf}
+use Rattle.upp_curve.specs.declared.affine_segment.line.Line.{Line}
+use Rattle.upp_curve.specs.declared.affine_segment.element.Element.{Element}
+use Rattle.upp_curve.specs.declared.affine_segment.element.Element.TheVariants.{Point, Open}
+use Rattle.upp_curve.specs.affine_segment.Elements.{Covers, element_value}
+use Rattle.upp_curve.proofs.affine_segment.ElementValues.{value_in, value_cases}
+use Rattle.upp_curve.specs.affine_segment.Cuts.{IsWithin}
+use Rattle.min_plus.specs.Functions.{zero_q}
+use Rattle.min_plus.specs.Convolution.{Parts, AllNonneg, sum_of, sum_at}
 use Rattle.subadd_closure.specs.ElementClosures.{Multiple, Turn, ClosureOfPoint, ClosureOfSegment}
-use Rattle.upp_limits.specs.min_plus.specs.closure_laws.Star.{nat_times}
+use Rattle.min_plus.specs.closure_laws.Star.{nat_times}
 
 -- ---- n equal times
 -- x, n times over

@@ -1,19 +1,19 @@
 -- Where the elements of pieces start, and that one that starts before a start ends by it.
 use Rattle.std.specs.Prelude.{◌≡◌, pos, List, [], ◌∷◌}
 use Rattle.std.proofs.Common.{sym, refl, subst, inl, inr}
-use Rattle.upp_limits.specs.rational.specs.Rational.{ℚ, ◌≤ℚ◌, ◌<ℚ◌, int}
-use Rattle.upp_limits.specs.rational.specs.Extended.{Ext}
-use Rattle.upp_limits.specs.rational.specs.declared.Extended.TheVariants.{Fin}
-use Rattle.upp_limits.specs.rational.proofs.Laws.{le_refl, le_trans, le_of_lt, lt_irrefl, le_lt_trans, lt_le_trans}
-use Rattle.upp_limits.specs.upp_curve.specs.declared.affine_segment.line.Piece.{Piece}
-use Rattle.upp_limits.specs.upp_curve.specs.declared.affine_segment.element.Element.{Element}
-use Rattle.upp_limits.specs.upp_curve.specs.declared.affine_segment.element.Element.TheVariants.{Point, Open}
-use Rattle.upp_limits.specs.upp_curve.specs.affine_segment.Elements.{Covers, start_of}
-use Rattle.upp_limits.specs.upp_curve.specs.affine_segment.Pieces.{RisesFrom, StartsAtZero, HasStart}
+use Rattle.rational.specs.Rational.{ℚ, ◌≤ℚ◌, ◌<ℚ◌, int}
+use Rattle.rational.specs.Extended.{Ext}
+use Rattle.rational.specs.declared.Extended.TheVariants.{Fin}
+use Rattle.rational.proofs.Laws.{le_refl, le_trans, le_of_lt, lt_irrefl, le_lt_trans, lt_le_trans}
+use Rattle.upp_curve.specs.declared.affine_segment.line.Piece.{Piece}
+use Rattle.upp_curve.specs.declared.affine_segment.element.Element.{Element}
+use Rattle.upp_curve.specs.declared.affine_segment.element.Element.TheVariants.{Point, Open}
+use Rattle.upp_curve.specs.affine_segment.Elements.{Covers, start_of}
+use Rattle.upp_curve.specs.affine_segment.Pieces.{RisesFrom, StartsAtZero, HasStart}
 use Rattle.element_envelope.specs.PieceElements.{elements_of, Among}
 use Rattle.element_envelope.proofs.Members.{among_cases}
 use Rattle.element_envelope.proofs.Cover.{head, head_cases}
-use Rattle.plain_operators.specs.curve_call.proofs.CurveRises.{at_least}
+use Rattle.curve_call.proofs.CurveRises.{at_least}
 
 -- ---- one piece
 head_start : (p : Piece) (next : Ext) (e : Element) → Among e (head p.x p.at p.line next) → start_of e ≡ p.x

@@ -1,22 +1,22 @@
 -- The closure of a falling number of values of a line without an end is that of one with an end far enough.
 use Rattle.std.specs.Prelude.{◌≡◌, ℕ, zero, suc, ◌≤◌, pos}
 use Rattle.std.proofs.Common.{arith, ap, ◌∙◌, subst, inl, inr}
-use Rattle.upp_limits.specs.rational.specs.Rational.{ℚ, ◌+ℚ◌, ◌*ℚ◌, ◌≤ℚ◌, ◌<ℚ◌, int}
-use Rattle.upp_limits.specs.rational.specs.Extended.{Ext, ◌≤ₑ◌}
-use Rattle.upp_limits.specs.rational.specs.declared.Extended.TheVariants.{Fin, Inf}
-use Rattle.upp_limits.specs.rational.proofs.Linear.{with1, with3, with4, with5, with6}
-use Rattle.upp_limits.specs.rational.proofs.Laws.{le_lt_trans, lt_irrefl, le_of_lt, le_or_lt, mul_add, mul_one, one_mul, zero_mul, mul_le_mul_right}
-use Rattle.upp_limits.specs.rational.proofs.Integers.{nat_le, nat_lt}
-use Rattle.upp_limits.specs.rational.proofs.Whole.{one_more_times}
-use Rattle.upp_limits.specs.rational.proofs.ExtendedOrder.{le_ext_trans}
-use Rattle.upp_limits.specs.upp_curve.specs.declared.affine_segment.line.Line.{Line}
-use Rattle.upp_limits.specs.min_plus.specs.Functions.{zero_q}
-use Rattle.upp_limits.specs.upp_curve.specs.Curve.{value_at}
+use Rattle.rational.specs.Rational.{ℚ, ◌+ℚ◌, ◌*ℚ◌, ◌≤ℚ◌, ◌<ℚ◌, int}
+use Rattle.rational.specs.Extended.{Ext, ◌≤ₑ◌}
+use Rattle.rational.specs.declared.Extended.TheVariants.{Fin, Inf}
+use Rattle.rational.proofs.Linear.{with1, with3, with4, with5, with6}
+use Rattle.rational.proofs.Laws.{le_lt_trans, lt_irrefl, le_of_lt, le_or_lt, mul_add, mul_one, one_mul, zero_mul, mul_le_mul_right}
+use Rattle.rational.proofs.Integers.{nat_le, nat_lt}
+use Rattle.rational.proofs.Whole.{one_more_times}
+use Rattle.rational.proofs.ExtendedOrder.{le_ext_trans}
+use Rattle.upp_curve.specs.declared.affine_segment.line.Line.{Line}
+use Rattle.min_plus.specs.Functions.{zero_q}
+use Rattle.upp_curve.specs.Curve.{value_at}
 use Rattle.subadd_closure.specs.ElementClosures.{Turn, IsSegmentClosure}
 use Rattle.subadd_closure.specs.ElementCurves.{falling_closure, stretches}
 use Rattle.subadd_closure.proofs.TurnNumbers.{fewer, turn_above, turn_in, least_down}
 use Rattle.subadd_closure.proofs.ClosureValues.{left_of, falling_values}
-use Rattle.upp_limits.specs.min_plus.specs.closure_laws.Star.{nat_times}
+use Rattle.min_plus.specs.closure_laws.Star.{nat_times}
 
 -- past a, the number whose stretch begins last before t
 record Last (a t : ℚ) : Type 0 where

@@ -1,14 +1,14 @@
 -- How many pieces the closure of a line has.
 use Rattle.std.specs.Prelude.{ℕ, zero, suc, ◌+◌, ◌*◌, ◌≤◌, List, ◌∷◌, length}
 use Rattle.std.proofs.Common.{arith, sym, subst, inl, inr}
-use Rattle.upp_limits.specs.rational.specs.Rational.{ℚ}
-use Rattle.upp_limits.specs.rational.proofs.Laws.{le_or_lt}
-use Rattle.upp_limits.specs.upp_curve.specs.declared.affine_segment.line.Line.{Line}
-use Rattle.upp_limits.specs.upp_curve.specs.declared.affine_segment.line.Piece.{Piece}
-use Rattle.upp_limits.specs.min_plus.specs.Functions.{zero_q}
+use Rattle.rational.specs.Rational.{ℚ}
+use Rattle.rational.proofs.Laws.{le_or_lt}
+use Rattle.upp_curve.specs.declared.affine_segment.line.Line.{Line}
+use Rattle.upp_curve.specs.declared.affine_segment.line.Piece.{Piece}
+use Rattle.min_plus.specs.Functions.{zero_q}
 use Rattle.subadd_closure.specs.ElementCurves.{stretch, stretches, all_stretches}
 use Rattle.subadd_closure.proofs.PieceReads.{gap_kept, gap_left, late_start, early_start}
-use Rattle.upp_limits.specs.min_plus.specs.closure_laws.Star.{nat_times}
+use Rattle.min_plus.specs.closure_laws.Star.{nat_times}
 
 -- ---- how many pieces there are
 few_stretches : (a b : ℚ) (l : Line) (n m : ℕ) (rest : List Piece) → length (stretches a b l n m rest) ≤ 2 * m + length rest

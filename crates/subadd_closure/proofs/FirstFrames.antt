@@ -1,15 +1,15 @@
 -- The frame of a convolution, from the one with no period.
 use Rattle.std.specs.Prelude.{◌≡◌}
-use Rattle.upp_limits.specs.rational.specs.Rational.{ℚ, ◌-ℚ◌}
+use Rattle.rational.specs.Rational.{ℚ, ◌-ℚ◌}
 use Rattle.upp_limits.specs.declared.op_kind.OpKind.TheVariants.{Convolve}
-use Rattle.upp_limits.specs.upp_curve.specs.Curve.{SpecCurve}
-use Rattle.upp_limits.specs.upp_curve.specs.Curves.{IsCurve}
+use Rattle.upp_curve.specs.Curve.{SpecCurve}
+use Rattle.upp_curve.specs.Curves.{IsCurve}
 use Rattle.upp_limits.specs.Outcome.{IsWithin}
-use Rattle.plain_operators.specs.curve_call.specs.declared.frame.Frame.{Frame}
-use Rattle.plain_operators.specs.curve_call.specs.declared.bounds.Bounds.{Bounds}
-use Rattle.plain_operators.specs.curve_call.specs.declared.windows.CallWindow.{CallWindow}
-use Rattle.plain_operators.specs.curve_call.specs.Frames.{IsFrame}
-use Rattle.plain_operators.specs.curve_call.specs.FirstWindows.{IsFirstWindow}
+use Rattle.curve_call.specs.declared.frame.Frame.{Frame}
+use Rattle.curve_call.specs.declared.bounds.Bounds.{Bounds}
+use Rattle.curve_call.specs.declared.windows.CallWindow.{CallWindow}
+use Rattle.curve_call.specs.Frames.{IsFrame}
+use Rattle.curve_call.specs.FirstWindows.{IsFirstWindow}
 use Rattle.curve_conv.specs.LateBounds.{IsSlowerBounds}
 use Rattle.curve_conv.specs.ConvolveCall.{IsConvolveFrame}
 use Rattle.curve_conv.proofs.ConvolveCalls.{high_frame, high_within}

@@ -3,23 +3,23 @@ use Rattle.std.specs.Prelude.{◌≡◌, ℕ, ◌<◌, ◌/◌, ◌*◌, ◌^◌
 use Rattle.std.proofs.Common.{arith, sym, ap, ap₂, ◌∙◌, subst, inl, inr, get_or, drop}
 use Rattle.std.proofs.lemmas.Int.{ints}
 use native.Mathlib.Nat.{le_of_dvd, zero-lt-suc, div-one}
-use Rattle.upp_limits.specs.rational.specs.Gcd.{gcd}
-use Rattle.upp_limits.specs.rational.specs.Euclid.{gcd_is, gcd_pos}
-use Rattle.upp_limits.specs.rational.specs.Rational.{ℚ, ◌*ℚ◌, int, den}
-use Rattle.upp_limits.specs.rational.specs.Ratio.{IsSmall, SumFits, PartsFit}
-use Rattle.upp_limits.specs.rational.proofs.Laws.{mul_zero, le_or_lt}
-use Rattle.upp_limits.specs.upp_curve.specs.declared.affine_segment.line.Line.{Line}
-use Rattle.upp_limits.specs.upp_curve.specs.declared.affine_segment.line.Piece.{Piece}
-use Rattle.upp_limits.specs.upp_curve.proofs.affine_segment.NextPiece.{next_piece}
-use Rattle.upp_limits.specs.min_plus.specs.Functions.{zero_q}
-use Rattle.upp_limits.specs.upp_curve.specs.affine_segment.Pieces.{Each, start_after}
-use Rattle.upp_limits.specs.upp_curve.specs.affine_segment.Fits.{LineFitsAt}
-use Rattle.upp_limits.specs.upp_curve.specs.Readable.{LineFitsTo, EachFits}
+use Rattle.rational.specs.Gcd.{gcd}
+use Rattle.rational.specs.Euclid.{gcd_is, gcd_pos}
+use Rattle.rational.specs.Rational.{ℚ, ◌*ℚ◌, int, den}
+use Rattle.rational.specs.Ratio.{IsSmall, SumFits, PartsFit}
+use Rattle.rational.proofs.Laws.{mul_zero, le_or_lt}
+use Rattle.upp_curve.specs.declared.affine_segment.line.Line.{Line}
+use Rattle.upp_curve.specs.declared.affine_segment.line.Piece.{Piece}
+use Rattle.upp_curve.proofs.affine_segment.NextPiece.{next_piece}
+use Rattle.min_plus.specs.Functions.{zero_q}
+use Rattle.upp_curve.specs.affine_segment.Pieces.{Each, start_after}
+use Rattle.upp_curve.specs.affine_segment.Fits.{LineFitsAt}
+use Rattle.upp_curve.specs.Readable.{LineFitsTo, EachFits}
 use Rattle.subadd_closure.specs.ElementCurves.{stretch, stretches, all_stretches}
 use Rattle.subadd_closure.specs.PieceFits.{SlopeFitsAt, SlopesRead}
 use Rattle.subadd_closure.proofs.PieceReads.{gap_kept, gap_left, late_start, early_start}
-use Rattle.upp_limits.specs.upp_curve.proofs.ReadableKinds.{zero_num, zero_den}
-use Rattle.upp_limits.specs.min_plus.specs.closure_laws.Star.{nat_times}
+use Rattle.upp_curve.proofs.ReadableKinds.{zero_num, zero_den}
+use Rattle.min_plus.specs.closure_laws.Star.{nat_times}
 
 -- ---- a sum with 0 fits
 gcd_of_one : (d : ℕ) → 0 < d → gcd 1 d ≡ 1

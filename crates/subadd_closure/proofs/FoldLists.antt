@@ -5,9 +5,9 @@ use Rattle.std.proofs.Common.{arith, sym, refl, ap, ◌∙◌, inl, inr, get_or,
 use Rattle.std.proofs.lemmas.List.{map-append, take_more, take-append-drop, take-take, drop_more, drop_all, length-map, append_assoc}
 use Rattle.std.proofs.lemmas.List.Elements.{All-nil, All-cons, All-same}
 use Rattle.std.proofs.lemmas.List.Sums.{sum_by_push, sum_by-append, sum_by-cons}
-use Rattle.upp_limits.specs.upp_curve.specs.declared.affine_segment.element.Element.{Element}
-use Rattle.upp_limits.specs.upp_curve.specs.declared.curve.Tail.{Tail}
-use Rattle.upp_limits.specs.upp_curve.specs.Curve.{SpecCurve}
+use Rattle.upp_curve.specs.declared.affine_segment.element.Element.{Element}
+use Rattle.upp_curve.specs.declared.curve.Tail.{Tail}
+use Rattle.upp_curve.specs.Curve.{SpecCurve}
 use Rattle.element_envelope.specs.PieceElements.{elements_of, Among}
 use Rattle.subadd_closure.specs.declared.part.Part.{Part}
 use Rattle.subadd_closure.specs.CurveParts.{pieces_end, part_of, parts_of}

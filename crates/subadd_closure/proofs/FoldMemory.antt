@@ -2,22 +2,22 @@
 use Rattle.std.specs.Prelude.{◌≡◌, ℕ, ◌+◌, ◌<◌, ◌≤◌, List, [], ◌∷◌, length, map, Option, Some, None, Result, Ok, Err}
 use Rattle.std.proofs.Common.{arith, sym, refl, ap, ◌∙◌, subst, get_or, drop}
 use Rattle.std.proofs.lemmas.List.{drop_more}
-use Rattle.upp_limits.specs.rational.specs.Rational.{ℚ, ◌≤ℚ◌}
-use Rattle.upp_limits.specs.rational.specs.Extended.{Ext}
-use Rattle.upp_limits.specs.rational.specs.declared.Extended.TheVariants.{Fin, Inf}
-use Rattle.upp_limits.specs.rational.proofs.Laws.{le_refl}
-use Rattle.upp_limits.specs.upp_curve.specs.declared.affine_segment.line.Line.{Line}
-use Rattle.upp_limits.specs.upp_curve.specs.declared.affine_segment.element.Element.{Element}
-use Rattle.upp_limits.specs.upp_curve.specs.declared.affine_segment.element.Element.TheVariants.{Point, Open}
+use Rattle.rational.specs.Rational.{ℚ, ◌≤ℚ◌}
+use Rattle.rational.specs.Extended.{Ext}
+use Rattle.rational.specs.declared.Extended.TheVariants.{Fin, Inf}
+use Rattle.rational.proofs.Laws.{le_refl}
+use Rattle.upp_curve.specs.declared.affine_segment.line.Line.{Line}
+use Rattle.upp_curve.specs.declared.affine_segment.element.Element.{Element}
+use Rattle.upp_curve.specs.declared.affine_segment.element.Element.TheVariants.{Point, Open}
 use Rattle.upp_limits.specs.declared.op_kind.OpKind.{OpKind}
 use Rattle.upp_limits.specs.declared.op_kind.OpKind.TheVariants.{Min, Convolve}
 use Rattle.upp_limits.specs.declared.op_kind.OpFault.{OpFault}
 use Rattle.upp_limits.specs.declared.op_kind.OpFault.TheVariants.{NoMemory}
 use Rattle.upp_limits.specs.Outcome.{KeepsLimits}
-use Rattle.upp_limits.specs.upp_curve.specs.Curve.{SpecCurve, value_at}
-use Rattle.upp_limits.specs.upp_curve.specs.Normal.{IsRaw}
-use Rattle.upp_limits.specs.min_plus.specs.Functions.{zero_q, IsFinite}
-use Rattle.plain_operators.specs.curve_call.specs.Calls.{Applies}
+use Rattle.upp_curve.specs.Curve.{SpecCurve, value_at}
+use Rattle.upp_curve.specs.Normal.{IsRaw}
+use Rattle.min_plus.specs.Functions.{zero_q, IsFinite}
+use Rattle.curve_call.specs.Calls.{Applies}
 use Rattle.outcomes.specs.Calls.{Then, goes_on, stops}
 use Rattle.subadd_closure.specs.ElementAnswers.{IsElementClosure}
 use Rattle.subadd_closure.specs.Lattices.{lattice_curve, origin_curve}

@@ -2,19 +2,19 @@
 use Rattle.std.specs.Prelude.{◌≡◌, ◌≢◌, List, [], ◌∷◌, ◌++◌, map, Ok}
 use Rattle.std.proofs.Common.{sym, ap, ◌∙◌, subst}
 use Rattle.std.proofs.lemmas.List.{map-append}
-use Rattle.upp_limits.specs.rational.specs.Rational.{ℚ, ◌≤ℚ◌, ◌<ℚ◌}
-use Rattle.upp_limits.specs.rational.specs.Extended.{Ext, ◌≤ₑ◌, ◌+ₑ◌, min_ext}
-use Rattle.upp_limits.specs.rational.specs.declared.Extended.TheVariants.{Fin, Inf}
-use Rattle.upp_limits.specs.rational.proofs.Bounds.{greatest}
-use Rattle.upp_limits.specs.rational.proofs.Laws.{le_of_lt, add_zero}
-use Rattle.upp_limits.specs.rational.proofs.ExtendedOrder.{le_ext_trans, same_le_ext}
-use Rattle.upp_limits.specs.rational.proofs.ExtendedOrder.{add_zero_ext, min_left, min_right}
-use Rattle.upp_limits.specs.upp_curve.specs.Curve.{SpecCurve, value_at}
-use Rattle.upp_limits.specs.min_plus.specs.Functions.{zero_q, IsFinite, IsNonnegative}
-use Rattle.upp_limits.specs.upp_curve.specs.Normal.{IsNormal}
-use Rattle.upp_limits.specs.min_plus.specs.Convolution.{sum_at, IsConvolution}
-use Rattle.upp_limits.specs.min_plus.specs.closure_laws.Star.{Times, IsStar, AreStars, lesser, least_of}
-use Rattle.upp_limits.specs.min_plus.proofs.closure_laws.StarSums.{star_of_lesser, least_of_more}
+use Rattle.rational.specs.Rational.{ℚ, ◌≤ℚ◌, ◌<ℚ◌}
+use Rattle.rational.specs.Extended.{Ext, ◌≤ₑ◌, ◌+ₑ◌, min_ext}
+use Rattle.rational.specs.declared.Extended.TheVariants.{Fin, Inf}
+use Rattle.rational.proofs.Bounds.{greatest}
+use Rattle.rational.proofs.Laws.{le_of_lt, add_zero}
+use Rattle.rational.proofs.ExtendedOrder.{le_ext_trans, same_le_ext}
+use Rattle.rational.proofs.ExtendedOrder.{add_zero_ext, min_left, min_right}
+use Rattle.upp_curve.specs.Curve.{SpecCurve, value_at}
+use Rattle.min_plus.specs.Functions.{zero_q, IsFinite, IsNonnegative}
+use Rattle.upp_curve.specs.Normal.{IsNormal}
+use Rattle.min_plus.specs.Convolution.{sum_at, IsConvolution}
+use Rattle.min_plus.specs.closure_laws.Star.{Times, IsStar, AreStars, lesser, least_of}
+use Rattle.min_plus.proofs.closure_laws.StarSums.{star_of_lesser, least_of_more}
 use Rattle.subadd_closure.specs.declared.part.Part.{Part}
 use Rattle.subadd_closure.specs.CurveParts.{parts_of, part_value}
 use Rattle.subadd_closure.specs.PartLaws.{EachPart, IsPart}
@@ -24,7 +24,7 @@ use Rattle.subadd_closure.proofs.EachParts.{parts_are_parts}
 use Rattle.subadd_closure.proofs.LeastParts.{parts_make_curve}
 use Rattle.subadd_closure.proofs.FoldStars.{part_star, parts_star}
 use Rattle.subadd_closure.proofs.LowStars.{stars_subadditive, star_low}
-use Rattle.upp_limits.specs.min_plus.proofs.closure_laws.KeptShapes.{total_nonneg}
+use Rattle.min_plus.proofs.closure_laws.KeptShapes.{total_nonneg}
 
 -- ---- stars
 -- a star is nowhere below 0 where the function is

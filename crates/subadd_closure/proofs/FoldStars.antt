@@ -1,34 +1,34 @@
 -- What the fold answers: for a part its star, for the parts the star of their least, and for the curve its closure.
 use Rattle.std.specs.Prelude.{◌≡◌, List, [], ◌∷◌, map, Option, Some, None, Result, Ok, Err}
 use Rattle.std.proofs.Common.{sym, refl, ap, ◌∙◌, subst}
-use Rattle.upp_limits.specs.rational.specs.Rational.{ℚ, ◌≤ℚ◌}
-use Rattle.upp_limits.specs.rational.specs.Extended.{Ext, min_ext}
-use Rattle.upp_limits.specs.upp_curve.specs.declared.affine_segment.element.Element.{Element}
-use Rattle.upp_limits.specs.upp_curve.specs.affine_segment.Elements.{element_value}
+use Rattle.rational.specs.Rational.{ℚ, ◌≤ℚ◌}
+use Rattle.rational.specs.Extended.{Ext, min_ext}
+use Rattle.upp_curve.specs.declared.affine_segment.element.Element.{Element}
+use Rattle.upp_curve.specs.affine_segment.Elements.{element_value}
 use Rattle.upp_limits.specs.declared.op_kind.OpKind.TheVariants.{Min, Convolve}
 use Rattle.upp_limits.specs.declared.op_kind.OpFault.{OpFault}
-use Rattle.upp_limits.specs.upp_curve.specs.Curve.{SpecCurve, value_at}
-use Rattle.upp_limits.specs.min_plus.specs.Functions.{zero_q}
-use Rattle.upp_limits.specs.min_plus.specs.Convolution.{IsSubadditiveClosure}
-use Rattle.plain_operators.specs.curve_call.specs.Answers.{IsMadeBy}
-use Rattle.plain_operators.specs.curve_call.specs.Calls.{Applies}
+use Rattle.upp_curve.specs.Curve.{SpecCurve, value_at}
+use Rattle.min_plus.specs.Functions.{zero_q}
+use Rattle.min_plus.specs.Convolution.{IsSubadditiveClosure}
+use Rattle.curve_call.specs.Answers.{IsMadeBy}
+use Rattle.curve_call.specs.Calls.{Applies}
 use Rattle.outcomes.specs.Calls.{Then, goes_on, stops}
-use Rattle.upp_limits.specs.min_plus.specs.closure_laws.Star.{IsStar, AreStars, least_of}
-use Rattle.upp_limits.specs.min_plus.proofs.closure_laws.StarSums.{star_of_closure, stars_of_values}
-use Rattle.upp_limits.specs.min_plus.proofs.closure_laws.CopiedParts.{closure_of_copies}
+use Rattle.min_plus.specs.closure_laws.Star.{IsStar, AreStars, least_of}
+use Rattle.min_plus.proofs.closure_laws.StarSums.{star_of_closure, stars_of_values}
+use Rattle.min_plus.proofs.closure_laws.CopiedParts.{closure_of_copies}
 use Rattle.subadd_closure.specs.ElementAnswers.{IsElementClosure}
 use Rattle.subadd_closure.specs.CurveParts.{parts_of, part_value}
 use Rattle.subadd_closure.specs.declared.part.Copies.{Copies}
 use Rattle.subadd_closure.specs.declared.part.Part.{Part}
 use Rattle.subadd_closure.specs.PartLaws.{EachPart, IsPart}
-use Rattle.upp_limits.specs.min_plus.specs.closure_laws.StarFolds.{AreFolded, EachStar}
+use Rattle.min_plus.specs.closure_laws.StarFolds.{AreFolded, EachStar}
 use Rattle.subadd_closure.specs.Folds.{ElementAnswer, CopiedAnswer, LoweredAnswer, PartAnswer, FoldAnswer, PartsAnswer, SetBackAnswer}
 use Rattle.subadd_closure.specs.FoldLaws.{PartAnswerIsStar, CloseAnswerIsClosure}
 use Rattle.subadd_closure.proofs.EachParts.{parts_are_parts}
 use Rattle.subadd_closure.proofs.LeastParts.{parts_make_curve}
 use Rattle.subadd_closure.specs.Lattices.{lattice_curve, origin_curve}
 use Rattle.subadd_closure.proofs.LatticeCurves.{lattice_values}
-use Rattle.upp_limits.specs.min_plus.proofs.closure_laws.StarFolding.{star_of_least, closure_of_set_back}
+use Rattle.min_plus.proofs.closure_laws.StarFolding.{star_of_least, closure_of_set_back}
 
 -- ---- a call that goes on
 ok_not_err : {B : Type 0} (r : Result B OpFault) (y : B) (e : OpFault) → r ≡ Ok y → r ≡ Err e → ⊥

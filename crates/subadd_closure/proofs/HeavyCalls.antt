@@ -1,30 +1,30 @@
 -- A curve that is too wide for any call is refused by a minimum and by a convolution.
 use Rattle.std.specs.Prelude.{◌≡◌, ℕ, zero, suc, ◌+◌, ◌^◌, pos, List, Option, Some, None}
 use Rattle.std.proofs.Common.{arith, sym, ◌∙◌, subst}
-use Rattle.upp_limits.specs.rational.specs.Rational.{ℚ, ◌+ℚ◌, ◌*ℚ◌, ◌≤ℚ◌, ◌<ℚ◌, int}
-use Rattle.upp_limits.specs.rational.proofs.MinMax.{max_q_ge_left}
-use Rattle.upp_limits.specs.rational.proofs.Linear.{with1, with2, with4, with5}
-use Rattle.upp_limits.specs.rational.proofs.Laws.{le_refl, le_trans, lt_irrefl, le_of_lt, mul_nonneg, zero_mul, one_mul, mul_le_mul_right}
-use Rattle.upp_limits.specs.rational.proofs.Integers.{nat_nonneg, nat_le}
-use Rattle.upp_limits.specs.rational.proofs.Whole.{one_more_times}
-use Rattle.upp_limits.specs.fraction128.proofs.CommonMultiple.{common_multiple_least}
-use Rattle.upp_limits.specs.upp_curve.specs.declared.affine_segment.line.Piece.{Piece}
-use Rattle.upp_limits.specs.upp_curve.specs.declared.curve.Tail.{Tail}
-use Rattle.upp_limits.specs.upp_curve.specs.declared.curve.Tail.TheVariants.{Periodic, Affine, Infinite}
+use Rattle.rational.specs.Rational.{ℚ, ◌+ℚ◌, ◌*ℚ◌, ◌≤ℚ◌, ◌<ℚ◌, int}
+use Rattle.rational.proofs.MinMax.{max_q_ge_left}
+use Rattle.rational.proofs.Linear.{with1, with2, with4, with5}
+use Rattle.rational.proofs.Laws.{le_refl, le_trans, lt_irrefl, le_of_lt, mul_nonneg, zero_mul, one_mul, mul_le_mul_right}
+use Rattle.rational.proofs.Integers.{nat_nonneg, nat_le}
+use Rattle.rational.proofs.Whole.{one_more_times}
+use Rattle.fraction128.proofs.CommonMultiple.{common_multiple_least}
+use Rattle.upp_curve.specs.declared.affine_segment.line.Piece.{Piece}
+use Rattle.upp_curve.specs.declared.curve.Tail.{Tail}
+use Rattle.upp_curve.specs.declared.curve.Tail.TheVariants.{Periodic, Affine, Infinite}
 use Rattle.upp_limits.specs.declared.op_kind.OpKind.TheVariants.{Min, Convolve}
 use Rattle.upp_normal.specs.Ahead.{IsOverBy}
-use Rattle.upp_limits.specs.upp_curve.specs.Curve.{SpecCurve}
-use Rattle.upp_limits.specs.min_plus.specs.Functions.{zero_q}
-use Rattle.upp_limits.specs.upp_curve.specs.Normal.{IsRaw, TailFits}
+use Rattle.upp_curve.specs.Curve.{SpecCurve}
+use Rattle.min_plus.specs.Functions.{zero_q}
+use Rattle.upp_curve.specs.Normal.{IsRaw, TailFits}
 use Rattle.upp_limits.specs.Gauges.{gauge_at}
 use Rattle.upp_limits.specs.Periods.{period_of, common_of, common_period, both_steady, periods_after, HasPeriod}
-use Rattle.upp_limits.specs.upp_curve.specs.Steady.{rank_of, steady}
+use Rattle.upp_curve.specs.Steady.{rank_of, steady}
 use Rattle.upp_limits.specs.Windows.{window_at}
 use Rattle.upp_limits.proofs.CurveStands.{has_period}
 use Rattle.upp_normal.proofs.GaugeRises.{first_operand}
 use Rattle.upp_limits.proofs.OwnGauge.{large}
 use Rattle.subadd_closure.specs.HeavyLaws.{HeavyIsRefused}
-use Rattle.upp_limits.specs.upp_curve.proofs.SteadyTimes.{rank_early}
+use Rattle.upp_curve.proofs.SteadyTimes.{rank_early}
 
 -- ---- when a curve begins to repeat
 

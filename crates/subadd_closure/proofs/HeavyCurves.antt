@@ -1,12 +1,12 @@
 -- A curve that repeats and whose own gauge is 2 ^ 120 or more is too wide for any call.
 use Rattle.std.specs.Prelude.{◌≡◌, ◌≤◌, ◌^◌, pos, List}
 use Rattle.std.proofs.Common.{arith, sym, subst}
-use Rattle.upp_limits.specs.rational.specs.Rational.{ℚ, ◌+ℚ◌, ◌≤ℚ◌, ◌<ℚ◌, int}
-use Rattle.upp_limits.specs.rational.specs.Grid.{Whole}
-use Rattle.upp_limits.specs.rational.proofs.Grid.{whole_add}
-use Rattle.upp_limits.specs.upp_curve.specs.declared.affine_segment.line.Piece.{Piece}
-use Rattle.upp_limits.specs.upp_curve.specs.declared.curve.Tail.TheVariants.{Periodic}
-use Rattle.upp_limits.specs.upp_curve.specs.Curve.{SpecCurve}
+use Rattle.rational.specs.Rational.{ℚ, ◌+ℚ◌, ◌≤ℚ◌, ◌<ℚ◌, int}
+use Rattle.rational.specs.Grid.{Whole}
+use Rattle.rational.proofs.Grid.{whole_add}
+use Rattle.upp_curve.specs.declared.affine_segment.line.Piece.{Piece}
+use Rattle.upp_curve.specs.declared.curve.Tail.TheVariants.{Periodic}
+use Rattle.upp_curve.specs.Curve.{SpecCurve}
 use Rattle.upp_limits.specs.Limits.{curve_numbers, own_end, own_sizes, own_gauge}
 use Rattle.upp_normal.proofs.GaugeRises.{curve_earlier, least_sizes}
 use Rattle.subadd_closure.specs.Heavy.{IsHeavy}

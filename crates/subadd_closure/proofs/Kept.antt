@@ -2,25 +2,25 @@
 -- period after 0 would ask for, it keeps its tail.
 use Rattle.std.specs.Prelude.{◌≡◌, ◌≢◌, ℕ, pos, List}
 use Rattle.std.proofs.Common.{arith, sym, ap, ◌∙◌, subst, inl, inr}
-use Rattle.upp_limits.specs.rational.specs.Rational.{ℚ, ◌+ℚ◌, ◌*ℚ◌, ◌/ℚ◌, ◌≤ℚ◌, ◌<ℚ◌, int}
-use Rattle.upp_limits.specs.rational.specs.Extended.{Ext, ◌+ₑ◌}
-use Rattle.upp_limits.specs.rational.specs.declared.Extended.TheVariants.{Fin, Inf}
-use Rattle.upp_limits.specs.rational.proofs.ExtendedOrder.{add_cancel_ext}
-use Rattle.upp_limits.specs.rational.proofs.Laws.{le_or_lt, le_refl, le_of_lt, above, div_mul, not_zero, mul_lt_mul_right}
-use Rattle.upp_limits.specs.rational.proofs.Linear.{with1, with2, with3}
-use Rattle.upp_limits.specs.upp_curve.specs.declared.affine_segment.line.Piece.{Piece}
-use Rattle.upp_limits.specs.upp_curve.specs.declared.curve.Tail.{Tail}
-use Rattle.upp_limits.specs.upp_curve.specs.declared.curve.Tail.TheVariants.{Periodic, Affine, Infinite}
-use Rattle.upp_limits.specs.upp_curve.specs.Curve.{SpecCurve, value_at, with_tail, repeated}
-use Rattle.upp_limits.specs.min_plus.specs.Functions.{zero_q}
-use Rattle.upp_limits.specs.upp_curve.specs.affine_segment.Pieces.{StartsAtZero}
-use Rattle.upp_limits.specs.upp_curve.specs.Normal.{TailFits, IsNormal}
-use Rattle.upp_limits.specs.upp_curve.specs.affine_segment.Reading.{read}
-use Rattle.upp_limits.specs.upp_curve.specs.Steady.{Repeats}
-use Rattle.upp_limits.specs.upp_curve.proofs.Repeats.{repeated_next, repeats_times}
+use Rattle.rational.specs.Rational.{ℚ, ◌+ℚ◌, ◌*ℚ◌, ◌/ℚ◌, ◌≤ℚ◌, ◌<ℚ◌, int}
+use Rattle.rational.specs.Extended.{Ext, ◌+ₑ◌}
+use Rattle.rational.specs.declared.Extended.TheVariants.{Fin, Inf}
+use Rattle.rational.proofs.ExtendedOrder.{add_cancel_ext}
+use Rattle.rational.proofs.Laws.{le_or_lt, le_refl, le_of_lt, above, div_mul, not_zero, mul_lt_mul_right}
+use Rattle.rational.proofs.Linear.{with1, with2, with3}
+use Rattle.upp_curve.specs.declared.affine_segment.line.Piece.{Piece}
+use Rattle.upp_curve.specs.declared.curve.Tail.{Tail}
+use Rattle.upp_curve.specs.declared.curve.Tail.TheVariants.{Periodic, Affine, Infinite}
+use Rattle.upp_curve.specs.Curve.{SpecCurve, value_at, with_tail, repeated}
+use Rattle.min_plus.specs.Functions.{zero_q}
+use Rattle.upp_curve.specs.affine_segment.Pieces.{StartsAtZero}
+use Rattle.upp_curve.specs.Normal.{TailFits, IsNormal}
+use Rattle.upp_curve.specs.affine_segment.Reading.{read}
+use Rattle.upp_curve.specs.Steady.{Repeats}
+use Rattle.upp_curve.proofs.Repeats.{repeated_next, repeats_times}
 use Rattle.subadd_closure.specs.Starting.{first_at, started_at, KeepsTail}
 use Rattle.subadd_closure.proofs.Starts.{repeated_past, repeated_zero}
-use Rattle.upp_limits.specs.upp_curve.proofs.Steady.{cut_past}
+use Rattle.upp_curve.proofs.Steady.{cut_past}
 
 -- g is infinite at 0, finite past 0, and from `from` > 0 on repeats with the period p and the rise y; at p it is not
 -- `start` and the rise

@@ -1,35 +1,35 @@
 -- The lattice and the value 0 at 0 as curves.
 use Rattle.std.specs.Prelude.{◌≡◌, ℕ, ◌≤◌, pos, List, [], ◌∷◌, Option, Some, None}
 use Rattle.std.proofs.Common.{arith, sym, refl, ap, ◌∙◌, subst, inl, inr}
-use Rattle.upp_limits.specs.rational.specs.Rational.{ℚ, ◌+ℚ◌, ◌-ℚ◌, ◌*ℚ◌, ◌/ℚ◌, ◌≤ℚ◌, ◌<ℚ◌, int}
-use Rattle.upp_limits.specs.rational.specs.Ratio.{IsSmall}
-use Rattle.upp_limits.specs.rational.specs.Extended.{Ext, ◌+ₑ◌}
-use Rattle.upp_limits.specs.rational.specs.declared.Extended.TheVariants.{Fin, Inf}
-use Rattle.upp_limits.specs.rational.proofs.Linear.{with1, with2, with3}
-use Rattle.upp_limits.specs.rational.proofs.Laws.{le_refl, le_of_lt, le_or_lt, lt_irrefl, antisym, between, mul_one, mul_lt_mul, zero_mul, lt_of_mul, div_mul, not_zero}
-use Rattle.upp_limits.specs.rational.proofs.Integers.{nat_lt}
-use Rattle.upp_limits.specs.rational.proofs.Over.{le_q_out}
-use Rattle.upp_limits.specs.rational.proofs.MinMax.{le_q_not}
-use Rattle.upp_limits.specs.rational.proofs.Whole.{periods_unique}
-use Rattle.upp_limits.specs.upp_curve.specs.declared.affine_segment.line.Line.{Line}
-use Rattle.upp_limits.specs.upp_curve.specs.declared.affine_segment.line.Piece.{Piece}
-use Rattle.upp_limits.specs.upp_curve.specs.affine_segment.Values.{line_value}
-use Rattle.upp_limits.specs.upp_curve.specs.declared.curve.Tail.TheVariants.{Periodic, Infinite}
-use Rattle.upp_limits.specs.upp_curve.specs.Curve.{SpecCurve, value_at, repeated, cut}
-use Rattle.upp_limits.specs.upp_curve.specs.Curves.{IsCurve}
-use Rattle.upp_limits.specs.min_plus.specs.Functions.{zero_q}
-use Rattle.upp_limits.specs.upp_curve.specs.Normal.{IsNormal}
-use Rattle.upp_limits.specs.upp_curve.specs.Readable.{SumFitsAt}
-use Rattle.upp_limits.specs.upp_curve.specs.affine_segment.Reading.{read}
-use Rattle.upp_limits.specs.upp_curve.specs.Steady.{Repeats}
-use Rattle.upp_limits.specs.upp_curve.proofs.Repeats.{repeated_first}
-use Rattle.upp_limits.specs.min_plus.specs.closure_laws.Star.{origin, nat_times}
-use Rattle.upp_limits.specs.min_plus.specs.closure_laws.ClosureLaws.{IsLattice}
+use Rattle.rational.specs.Rational.{ℚ, ◌+ℚ◌, ◌-ℚ◌, ◌*ℚ◌, ◌/ℚ◌, ◌≤ℚ◌, ◌<ℚ◌, int}
+use Rattle.rational.specs.Ratio.{IsSmall}
+use Rattle.rational.specs.Extended.{Ext, ◌+ₑ◌}
+use Rattle.rational.specs.declared.Extended.TheVariants.{Fin, Inf}
+use Rattle.rational.proofs.Linear.{with1, with2, with3}
+use Rattle.rational.proofs.Laws.{le_refl, le_of_lt, le_or_lt, lt_irrefl, antisym, between, mul_one, mul_lt_mul, zero_mul, lt_of_mul, div_mul, not_zero}
+use Rattle.rational.proofs.Integers.{nat_lt}
+use Rattle.rational.proofs.Over.{le_q_out}
+use Rattle.rational.proofs.MinMax.{le_q_not}
+use Rattle.rational.proofs.Whole.{periods_unique}
+use Rattle.upp_curve.specs.declared.affine_segment.line.Line.{Line}
+use Rattle.upp_curve.specs.declared.affine_segment.line.Piece.{Piece}
+use Rattle.upp_curve.specs.affine_segment.Values.{line_value}
+use Rattle.upp_curve.specs.declared.curve.Tail.TheVariants.{Periodic, Infinite}
+use Rattle.upp_curve.specs.Curve.{SpecCurve, value_at, repeated, cut}
+use Rattle.upp_curve.specs.Curves.{IsCurve}
+use Rattle.min_plus.specs.Functions.{zero_q}
+use Rattle.upp_curve.specs.Normal.{IsNormal}
+use Rattle.upp_curve.specs.Readable.{SumFitsAt}
+use Rattle.upp_curve.specs.affine_segment.Reading.{read}
+use Rattle.upp_curve.specs.Steady.{Repeats}
+use Rattle.upp_curve.proofs.Repeats.{repeated_first}
+use Rattle.min_plus.specs.closure_laws.Star.{origin, nat_times}
+use Rattle.min_plus.specs.closure_laws.ClosureLaws.{IsLattice}
 use Rattle.subadd_closure.specs.Lattices.{lattice_curve, origin_curve, LatticeValues}
 use Rattle.subadd_closure.proofs.ClosureValues.{Left, left_of}
 use Rattle.subadd_closure.proofs.FlatLines.{zero_sum}
 use Rattle.subadd_closure.proofs.PointAnswers.{point_piece, zero_curve}
-use Rattle.upp_limits.specs.upp_curve.proofs.affine_segment.PieceIn.{read_one, value_by, value_past}
+use Rattle.upp_curve.proofs.affine_segment.PieceIn.{read_one, value_by, value_past}
 
 -- ---- how they read
 here : (t v : ℚ) → t ≤ℚ zero_q → read (point_piece zero_q v ∷ []) t ≡ Fin v

@@ -1,33 +1,33 @@
 -- A finite curve is at each time the least of its parts.
 use Rattle.std.specs.Prelude.{◌≡◌, ℕ, pos, List, [], ◌∷◌, map, cond}
 use Rattle.std.proofs.Common.{arith, sym, refl, ap, ◌∙◌, subst, inl, inr}
-use Rattle.upp_limits.specs.rational.specs.Rational.{ℚ, ◌+ℚ◌, ◌-ℚ◌, ◌*ℚ◌, ◌≤ℚ◌, ◌<ℚ◌, int, le_q}
-use Rattle.upp_limits.specs.rational.specs.Whole.{periods}
-use Rattle.upp_limits.specs.rational.specs.Extended.{Ext, ◌≤ₑ◌, ◌+ₑ◌}
-use Rattle.upp_limits.specs.rational.specs.declared.Extended.TheVariants.{Fin, Inf}
-use Rattle.upp_limits.specs.rational.proofs.Linear.{with1, with4, with5}
-use Rattle.upp_limits.specs.rational.proofs.Laws.{le_or_lt, lt_irrefl, le_lt_trans, le_trans}
-use Rattle.upp_limits.specs.rational.proofs.Over.{le_q_out}
-use Rattle.upp_limits.specs.rational.proofs.MinMax.{le_q_not}
-use Rattle.upp_limits.specs.rational.proofs.Whole.{periods_unique, periods_low, periods_high}
-use Rattle.upp_limits.specs.rational.proofs.ExtendedOrder.{le_ext_trans, same_le_ext, finite_sum, le_inf, antisym_ext, min_left, min_right, min_greatest}
-use Rattle.upp_limits.specs.upp_curve.specs.declared.affine_segment.line.Piece.{Piece}
-use Rattle.upp_limits.specs.upp_curve.specs.declared.affine_segment.element.Element.{Element}
-use Rattle.upp_limits.specs.upp_curve.specs.affine_segment.Elements.{Covers, start_of, element_value}
-use Rattle.upp_limits.specs.upp_curve.proofs.affine_segment.ElementValues.{value_in, value_cases}
-use Rattle.upp_limits.specs.upp_curve.specs.declared.curve.Tail.{Tail}
-use Rattle.upp_limits.specs.upp_curve.specs.declared.curve.Tail.TheVariants.{Periodic, Affine, Infinite}
-use Rattle.upp_limits.specs.upp_curve.specs.Curve.{repeated, cut, with_tail, value_at}
-use Rattle.upp_limits.specs.upp_curve.specs.affine_segment.Reading.{read}
-use Rattle.upp_limits.specs.min_plus.specs.Functions.{zero_q, IsFinite}
-use Rattle.upp_limits.specs.upp_curve.specs.affine_segment.Pieces.{HasStart, StartsAtZero}
-use Rattle.upp_limits.specs.upp_curve.specs.Normal.{TailFits}
-use Rattle.upp_limits.specs.upp_curve.specs.Steady.{rank_of}
-use Rattle.upp_limits.specs.upp_curve.proofs.Repeats.{repeated_first}
+use Rattle.rational.specs.Rational.{ℚ, ◌+ℚ◌, ◌-ℚ◌, ◌*ℚ◌, ◌≤ℚ◌, ◌<ℚ◌, int, le_q}
+use Rattle.rational.specs.Whole.{periods}
+use Rattle.rational.specs.Extended.{Ext, ◌≤ₑ◌, ◌+ₑ◌}
+use Rattle.rational.specs.declared.Extended.TheVariants.{Fin, Inf}
+use Rattle.rational.proofs.Linear.{with1, with4, with5}
+use Rattle.rational.proofs.Laws.{le_or_lt, lt_irrefl, le_lt_trans, le_trans}
+use Rattle.rational.proofs.Over.{le_q_out}
+use Rattle.rational.proofs.MinMax.{le_q_not}
+use Rattle.rational.proofs.Whole.{periods_unique, periods_low, periods_high}
+use Rattle.rational.proofs.ExtendedOrder.{le_ext_trans, same_le_ext, finite_sum, le_inf, antisym_ext, min_left, min_right, min_greatest}
+use Rattle.upp_curve.specs.declared.affine_segment.line.Piece.{Piece}
+use Rattle.upp_curve.specs.declared.affine_segment.element.Element.{Element}
+use Rattle.upp_curve.specs.affine_segment.Elements.{Covers, start_of, element_value}
+use Rattle.upp_curve.proofs.affine_segment.ElementValues.{value_in, value_cases}
+use Rattle.upp_curve.specs.declared.curve.Tail.{Tail}
+use Rattle.upp_curve.specs.declared.curve.Tail.TheVariants.{Periodic, Affine, Infinite}
+use Rattle.upp_curve.specs.Curve.{repeated, cut, with_tail, value_at}
+use Rattle.upp_curve.specs.affine_segment.Reading.{read}
+use Rattle.min_plus.specs.Functions.{zero_q, IsFinite}
+use Rattle.upp_curve.specs.affine_segment.Pieces.{HasStart, StartsAtZero}
+use Rattle.upp_curve.specs.Normal.{TailFits}
+use Rattle.upp_curve.specs.Steady.{rank_of}
+use Rattle.upp_curve.proofs.Repeats.{repeated_first}
 use Rattle.element_envelope.specs.PieceElements.{elements_of, Among}
 use Rattle.element_envelope.specs.ConvolutionLaws.{ElementsCover}
 use Rattle.element_envelope.proofs.Cover.{cover, element_times}
-use Rattle.upp_limits.specs.min_plus.specs.closure_laws.Star.{least_of}
+use Rattle.min_plus.specs.closure_laws.Star.{least_of}
 use Rattle.subadd_closure.specs.CurveParts.{pieces_end, part_of, part_value}
 use Rattle.subadd_closure.specs.declared.part.Part.{Part}
 use Rattle.subadd_closure.specs.PartLaws.{EachPart, PartsMakeCurve}

@@ -1,19 +1,19 @@
 -- A star, and a closure, is subadditive; a star, and a lattice, is at most 0 at 0.
 use Rattle.std.specs.Prelude.{◌≡◌, List, [], ◌∷◌, ◌++◌}
 use Rattle.std.proofs.Common.{sym, refl, ap, ◌∙◌}
-use Rattle.upp_limits.specs.rational.specs.Rational.{ℚ, ◌+ℚ◌, ◌≤ℚ◌, ◌<ℚ◌}
-use Rattle.upp_limits.specs.rational.specs.Extended.{Ext, ◌≤ₑ◌, ◌+ₑ◌}
-use Rattle.upp_limits.specs.rational.specs.declared.Extended.TheVariants.{Fin}
-use Rattle.upp_limits.specs.rational.specs.Families.{sums}
-use Rattle.upp_limits.specs.rational.proofs.Bounds.{greatest, infimum_sum}
-use Rattle.upp_limits.specs.rational.proofs.ExtendedOrder.{le_ext_trans, same_le_ext}
-use Rattle.upp_limits.specs.rational.proofs.Laws.{le_refl, zero_mul}
-use Rattle.upp_limits.specs.min_plus.specs.Functions.{zero_q}
-use Rattle.upp_limits.specs.min_plus.specs.Convolution.{Parts, sum_of, sum_at, IsSubadditive, IsSubadditiveClosure}
-use Rattle.upp_limits.specs.min_plus.proofs.TimeSums.{append_sum, nonneg_sum}
-use Rattle.upp_limits.specs.upp_curve.specs.Curve.{value_at}
-use Rattle.upp_limits.specs.min_plus.specs.closure_laws.Star.{Times, AreStars}
-use Rattle.upp_limits.specs.min_plus.proofs.closure_laws.TimeLists.{append_at, append_nonneg}
+use Rattle.rational.specs.Rational.{ℚ, ◌+ℚ◌, ◌≤ℚ◌, ◌<ℚ◌}
+use Rattle.rational.specs.Extended.{Ext, ◌≤ₑ◌, ◌+ₑ◌}
+use Rattle.rational.specs.declared.Extended.TheVariants.{Fin}
+use Rattle.rational.specs.Families.{sums}
+use Rattle.rational.proofs.Bounds.{greatest, infimum_sum}
+use Rattle.rational.proofs.ExtendedOrder.{le_ext_trans, same_le_ext}
+use Rattle.rational.proofs.Laws.{le_refl, zero_mul}
+use Rattle.min_plus.specs.Functions.{zero_q}
+use Rattle.min_plus.specs.Convolution.{Parts, sum_of, sum_at, IsSubadditive, IsSubadditiveClosure}
+use Rattle.min_plus.proofs.TimeSums.{append_sum, nonneg_sum}
+use Rattle.upp_curve.specs.Curve.{value_at}
+use Rattle.min_plus.specs.closure_laws.Star.{Times, AreStars}
+use Rattle.min_plus.proofs.closure_laws.TimeLists.{append_at, append_nonneg}
 use Rattle.subadd_closure.specs.Lattices.{lattice_curve}
 use Rattle.subadd_closure.proofs.LatticeCurves.{lattice_values}
 

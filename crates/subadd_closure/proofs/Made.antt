@@ -3,40 +3,40 @@ use Rattle.std.specs.Prelude.{◌≡◌, ℕ, ◌*◌, pos, List, Ok}
 use Prim.Native.Nat.{◌∣◌}
 use native.Mathlib.Nat.{dvd-mul_left, dvd_refl, mul-dvd-mul_right}
 use Rattle.std.proofs.Common.{arith, sym, refl, ◌∙◌, subst, inl, inr}
-use Rattle.upp_limits.specs.rational.specs.Rational.{ℚ, neg_ℚ, ◌+ℚ◌, ◌-ℚ◌, ◌*ℚ◌, ◌≤ℚ◌, ◌<ℚ◌, int}
-use Rattle.upp_limits.specs.rational.specs.Extended.{Ext, ◌+ₑ◌}
-use Rattle.upp_limits.specs.rational.specs.Grid.{Whole}
-use Rattle.upp_limits.specs.rational.specs.declared.Extended.TheVariants.{Fin, Inf}
-use Rattle.upp_limits.specs.rational.proofs.Bounds.{infimum_unique}
-use Rattle.upp_limits.specs.rational.proofs.Grid.{whole_sub, whole_neg, whole_weaken, within_nonneg, within_neg, within_weaken}
-use Rattle.upp_limits.specs.rational.proofs.Laws.{le_refl, le_of_lt, le_trans}
-use Rattle.upp_limits.specs.rational.proofs.Linear.{with2, with3}
-use Rattle.upp_limits.specs.upp_curve.specs.declared.affine_segment.line.Piece.{Piece}
+use Rattle.rational.specs.Rational.{ℚ, neg_ℚ, ◌+ℚ◌, ◌-ℚ◌, ◌*ℚ◌, ◌≤ℚ◌, ◌<ℚ◌, int}
+use Rattle.rational.specs.Extended.{Ext, ◌+ₑ◌}
+use Rattle.rational.specs.Grid.{Whole}
+use Rattle.rational.specs.declared.Extended.TheVariants.{Fin, Inf}
+use Rattle.rational.proofs.Bounds.{infimum_unique}
+use Rattle.rational.proofs.Grid.{whole_sub, whole_neg, whole_weaken, within_nonneg, within_neg, within_weaken}
+use Rattle.rational.proofs.Laws.{le_refl, le_of_lt, le_trans}
+use Rattle.rational.proofs.Linear.{with2, with3}
+use Rattle.upp_curve.specs.declared.affine_segment.line.Piece.{Piece}
 use Rattle.upp_limits.specs.declared.op_kind.OpKind.TheVariants.{Convolve}
-use Rattle.upp_limits.specs.min_plus.specs.Convolution.{IsConvolution, Split}
-use Rattle.upp_limits.specs.upp_curve.specs.Curve.{SpecCurve, value_at, repeated}
-use Rattle.upp_limits.specs.upp_curve.specs.Curves.{IsCurve}
-use Rattle.upp_limits.specs.upp_curve.specs.affine_segment.Fits.{ReadFits}
-use Rattle.upp_limits.specs.min_plus.specs.Functions.{zero_q, IsNonnegative}
+use Rattle.min_plus.specs.Convolution.{IsConvolution, Split}
+use Rattle.upp_curve.specs.Curve.{SpecCurve, value_at, repeated}
+use Rattle.upp_curve.specs.Curves.{IsCurve}
+use Rattle.upp_curve.specs.affine_segment.Fits.{ReadFits}
+use Rattle.min_plus.specs.Functions.{zero_q, IsNonnegative}
 use Rattle.upp_limits.specs.Limits.{Sizes}
-use Rattle.upp_limits.specs.upp_curve.specs.affine_segment.Pieces.{StartsAtZero}
-use Rattle.upp_limits.specs.upp_curve.specs.Normal.{IsNormal}
+use Rattle.upp_curve.specs.affine_segment.Pieces.{StartsAtZero}
+use Rattle.upp_curve.specs.Normal.{IsNormal}
 use Rattle.upp_normal.specs.Normalising.{HasValues}
 use Rattle.upp_normal.specs.Operand.{answer_room}
-use Rattle.upp_limits.specs.upp_curve.specs.Readable.{SumFitsAt}
-use Rattle.upp_limits.specs.upp_curve.specs.affine_segment.Reading.{read}
+use Rattle.upp_curve.specs.Readable.{SumFitsAt}
+use Rattle.upp_curve.specs.affine_segment.Reading.{read}
 use Rattle.upp_normal.specs.Room.{ValueHasRoom}
 use Rattle.upp_limits.specs.Sized.{grid_of, times_largest}
-use Rattle.upp_limits.specs.upp_curve.specs.Steady.{Repeats}
+use Rattle.upp_curve.specs.Steady.{Repeats}
 use Rattle.upp_normal.proofs.AnswerRoom.{answer_is_room, room_at_start, largest_room, value_in_room}
 use Rattle.upp_normal.proofs.NormaliseRoom.{at_fits}
 use Rattle.upp_normal.proofs.NormaliseRoomy.{read_fits}
-use Rattle.upp_limits.specs.upp_curve.proofs.Repeats.{repeated_first, repeated_rule}
+use Rattle.upp_curve.proofs.Repeats.{repeated_first, repeated_rule}
 use Rattle.element_envelope.specs.SumWindows.{SumValueAt}
 use Rattle.element_envelope.proofs.SumRoom.{pieces_room}
 use Rattle.element_envelope.proofs.SumSteps.{sum_read}
-use Rattle.plain_operators.specs.curve_call.specs.declared.frame.Frame.{Frame}
-use Rattle.plain_operators.specs.curve_call.specs.Calls.{IsApplied}
+use Rattle.curve_call.specs.declared.frame.Frame.{Frame}
+use Rattle.curve_call.specs.Calls.{IsApplied}
 use Rattle.upp_normal.proofs.UnrollSteps.{ext_cases}
 use Rattle.subadd_closure.specs.Starting.{first_at, started_at, KeepsTail, IsStartedAt}
 use Rattle.subadd_closure.proofs.Starts.{repeated_past, repeated_zero, repeats_on}

@@ -1,17 +1,17 @@
 -- How many stretches end before the next begins.
 use Rattle.std.specs.Prelude.{◌≡◌, ℕ, suc, pos}
 use Rattle.std.proofs.Common.{arith, sym, subst}
-use Rattle.upp_limits.specs.rational.specs.Rational.{ℚ, ◌+ℚ◌, ◌-ℚ◌, ◌*ℚ◌, ◌/ℚ◌, ◌≤ℚ◌, ◌<ℚ◌, int}
-use Rattle.upp_limits.specs.rational.specs.Whole.{whole_part}
-use Rattle.upp_limits.specs.rational.specs.declared.Extended.TheVariants.{Fin, Inf}
-use Rattle.upp_limits.specs.rational.proofs.Linear.{with2, with3, with5}
-use Rattle.upp_limits.specs.rational.proofs.Laws.{le_trans, lt_le_trans, le_of_lt, mul_le_mul_right, mul_lt_mul_right, mul_add, zero_mul, div_mul, not_zero, le_of_mul}
-use Rattle.upp_limits.specs.rational.proofs.Integers.{nat_le}
-use Rattle.upp_limits.specs.rational.proofs.Whole.{one_more_times, whole_le, whole_gt}
-use Rattle.upp_limits.specs.min_plus.specs.Functions.{zero_q}
+use Rattle.rational.specs.Rational.{ℚ, ◌+ℚ◌, ◌-ℚ◌, ◌*ℚ◌, ◌/ℚ◌, ◌≤ℚ◌, ◌<ℚ◌, int}
+use Rattle.rational.specs.Whole.{whole_part}
+use Rattle.rational.specs.declared.Extended.TheVariants.{Fin, Inf}
+use Rattle.rational.proofs.Linear.{with2, with3, with5}
+use Rattle.rational.proofs.Laws.{le_trans, lt_le_trans, le_of_lt, mul_le_mul_right, mul_lt_mul_right, mul_add, zero_mul, div_mul, not_zero, le_of_mul}
+use Rattle.rational.proofs.Integers.{nat_le}
+use Rattle.rational.proofs.Whole.{one_more_times, whole_le, whole_gt}
+use Rattle.min_plus.specs.Functions.{zero_q}
 use Rattle.subadd_closure.specs.ElementCurves.{IsStretch}
 use Rattle.subadd_closure.specs.MeetLaws.{StretchesMeet}
-use Rattle.upp_limits.specs.min_plus.specs.closure_laws.Star.{nat_times}
+use Rattle.min_plus.specs.closure_laws.Star.{nat_times}
 
 -- n b is n a and n lengths
 length_times : (a b : ℚ) (n : ℕ) → (nat_times n b ≤ℚ nat_times n a +ℚ nat_times n (b -ℚ a)) × (nat_times n a +ℚ nat_times n (b -ℚ a) ≤ℚ nat_times n b)

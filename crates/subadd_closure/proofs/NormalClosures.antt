@@ -1,25 +1,25 @@
 -- The curves of a segment's closure are in normal form.
 use Rattle.std.specs.Prelude.{◌≡◌, ◌≢◌, ℕ, zero, suc, ◌+◌, ◌≤◌, pos, List, [], ◌∷◌, Option, Some, None, ◌⊎◌}
 use Rattle.std.proofs.Common.{arith, sym, refl, ap, ◌∙◌, subst, inl, inr}
-use Rattle.upp_limits.specs.rational.specs.Rational.{ℚ, ◌+ℚ◌, ◌*ℚ◌, ◌/ℚ◌, ◌≤ℚ◌, ◌<ℚ◌, int}
-use Rattle.upp_limits.specs.rational.specs.Extended.{Ext, ◌+ₑ◌}
-use Rattle.upp_limits.specs.rational.specs.declared.Extended.TheVariants.{Fin, Inf}
-use Rattle.upp_limits.specs.rational.proofs.Linear.{with2, with3, with4, with6, with7}
-use Rattle.upp_limits.specs.rational.proofs.Laws.{le_trans, lt_le_trans, lt_irrefl, lt_trans, le_refl, le_of_lt, le_or_lt, antisym, between, add_mul, mul_add, mul_comm, mul_assoc, mul_one, one_mul, zero_mul, div_mul, mul_lt_mul, mul_le_mul_right, not_zero, mul_cancel, lt_of_mul, mul_nonneg}
-use Rattle.upp_limits.specs.rational.proofs.Integers.{nat_lt, nat_le, nat_nonneg}
-use Rattle.upp_limits.specs.rational.proofs.ExtendedOrder.{fin_same}
-use Rattle.upp_limits.specs.upp_curve.specs.declared.affine_segment.line.Line.{Line}
-use Rattle.upp_limits.specs.upp_curve.specs.declared.affine_segment.line.Piece.{Piece}
-use Rattle.upp_limits.specs.upp_curve.specs.affine_segment.Values.{line_at, line_value}
-use Rattle.upp_limits.specs.min_plus.specs.Functions.{zero_q}
-use Rattle.upp_limits.specs.upp_curve.specs.Steady.{Repeats, last_line}
-use Rattle.upp_limits.specs.upp_curve.specs.affine_segment.Pieces.{Each, HasStart, RisesFrom, StartsAtZero}
-use Rattle.upp_limits.specs.upp_curve.specs.Normal.{Continues, NoneContinues, NoMerge, IsNormal}
-use Rattle.upp_limits.specs.upp_curve.proofs.Unique.{lines_at_two}
+use Rattle.rational.specs.Rational.{ℚ, ◌+ℚ◌, ◌*ℚ◌, ◌/ℚ◌, ◌≤ℚ◌, ◌<ℚ◌, int}
+use Rattle.rational.specs.Extended.{Ext, ◌+ₑ◌}
+use Rattle.rational.specs.declared.Extended.TheVariants.{Fin, Inf}
+use Rattle.rational.proofs.Linear.{with2, with3, with4, with6, with7}
+use Rattle.rational.proofs.Laws.{le_trans, lt_le_trans, lt_irrefl, lt_trans, le_refl, le_of_lt, le_or_lt, antisym, between, add_mul, mul_add, mul_comm, mul_assoc, mul_one, one_mul, zero_mul, div_mul, mul_lt_mul, mul_le_mul_right, not_zero, mul_cancel, lt_of_mul, mul_nonneg}
+use Rattle.rational.proofs.Integers.{nat_lt, nat_le, nat_nonneg}
+use Rattle.rational.proofs.ExtendedOrder.{fin_same}
+use Rattle.upp_curve.specs.declared.affine_segment.line.Line.{Line}
+use Rattle.upp_curve.specs.declared.affine_segment.line.Piece.{Piece}
+use Rattle.upp_curve.specs.affine_segment.Values.{line_at, line_value}
+use Rattle.min_plus.specs.Functions.{zero_q}
+use Rattle.upp_curve.specs.Steady.{Repeats, last_line}
+use Rattle.upp_curve.specs.affine_segment.Pieces.{Each, HasStart, RisesFrom, StartsAtZero}
+use Rattle.upp_curve.specs.Normal.{Continues, NoneContinues, NoMerge, IsNormal}
+use Rattle.upp_curve.proofs.Unique.{lines_at_two}
 use Rattle.subadd_closure.specs.ElementCurves.{stretch, line_times, stretches, all_stretches, level_closure}
 use Rattle.subadd_closure.proofs.PieceReads.{gap_kept, gap_left, late_start, early_start}
-use Rattle.upp_limits.specs.upp_curve.specs.affine_segment.Reading.{nothing_at}
-use Rattle.upp_limits.specs.min_plus.specs.closure_laws.Star.{nat_times}
+use Rattle.upp_curve.specs.affine_segment.Reading.{nothing_at}
+use Rattle.min_plus.specs.closure_laws.Star.{nat_times}
 
 -- ---- the list
 -- where the stretches lie: they end before the next begins, or just there

@@ -1,31 +1,31 @@
 -- The closures that rise and fall by their numbers are in normal form.
 use Rattle.std.specs.Prelude.{◌≡◌, ◌≢◌, ℕ, zero, suc, ◌≤◌, pos, [], ◌∷◌, Some}
 use Rattle.std.proofs.Common.{arith, sym, refl, ap, ◌∙◌, subst, inl, inr}
-use Rattle.upp_limits.specs.rational.specs.Rational.{ℚ, ◌+ℚ◌, ◌*ℚ◌, ◌≤ℚ◌, ◌<ℚ◌, int}
-use Rattle.upp_limits.specs.rational.specs.Extended.{Ext, ◌+ₑ◌}
-use Rattle.upp_limits.specs.rational.specs.declared.Extended.TheVariants.{Fin, Inf}
-use Rattle.upp_limits.specs.rational.proofs.Linear.{with1, with2, with3, with4}
-use Rattle.upp_limits.specs.rational.proofs.Laws.{le_trans, le_lt_trans, lt_irrefl, le_refl, le_of_lt, antisym, not_zero, mul_le_mul_right, mul_lt_mul, mul_nonneg}
-use Rattle.upp_limits.specs.rational.proofs.Integers.{nat_lt, nat_le, nat_nonneg}
-use Rattle.upp_limits.specs.rational.proofs.Whole.{one_more_times}
-use Rattle.upp_limits.specs.rational.proofs.Bounds.{infimum_unique}
-use Rattle.upp_limits.specs.rational.proofs.ExtendedOrder.{finite_below}
-use Rattle.upp_limits.specs.upp_curve.specs.declared.affine_segment.line.Line.{Line}
-use Rattle.upp_limits.specs.upp_curve.specs.affine_segment.Values.{line_at}
-use Rattle.upp_limits.specs.upp_curve.specs.declared.curve.Tail.TheVariants.{Periodic}
-use Rattle.upp_limits.specs.min_plus.specs.Functions.{zero_q}
-use Rattle.upp_limits.specs.upp_curve.specs.Curve.{SpecCurve, value_at}
-use Rattle.upp_limits.specs.upp_curve.specs.Steady.{Repeats}
-use Rattle.upp_limits.specs.upp_curve.specs.affine_segment.Pieces.{Each}
-use Rattle.upp_limits.specs.upp_curve.specs.Normal.{IsNormal}
-use Rattle.upp_limits.specs.upp_curve.proofs.Normal.{periodic_rule}
+use Rattle.rational.specs.Rational.{ℚ, ◌+ℚ◌, ◌*ℚ◌, ◌≤ℚ◌, ◌<ℚ◌, int}
+use Rattle.rational.specs.Extended.{Ext, ◌+ₑ◌}
+use Rattle.rational.specs.declared.Extended.TheVariants.{Fin, Inf}
+use Rattle.rational.proofs.Linear.{with1, with2, with3, with4}
+use Rattle.rational.proofs.Laws.{le_trans, le_lt_trans, lt_irrefl, le_refl, le_of_lt, antisym, not_zero, mul_le_mul_right, mul_lt_mul, mul_nonneg}
+use Rattle.rational.proofs.Integers.{nat_lt, nat_le, nat_nonneg}
+use Rattle.rational.proofs.Whole.{one_more_times}
+use Rattle.rational.proofs.Bounds.{infimum_unique}
+use Rattle.rational.proofs.ExtendedOrder.{finite_below}
+use Rattle.upp_curve.specs.declared.affine_segment.line.Line.{Line}
+use Rattle.upp_curve.specs.affine_segment.Values.{line_at}
+use Rattle.upp_curve.specs.declared.curve.Tail.TheVariants.{Periodic}
+use Rattle.min_plus.specs.Functions.{zero_q}
+use Rattle.upp_curve.specs.Curve.{SpecCurve, value_at}
+use Rattle.upp_curve.specs.Steady.{Repeats}
+use Rattle.upp_curve.specs.affine_segment.Pieces.{Each}
+use Rattle.upp_curve.specs.Normal.{IsNormal}
+use Rattle.upp_curve.proofs.Normal.{periodic_rule}
 use Rattle.subadd_closure.specs.ElementClosures.{Turn, IsSegmentClosure}
 use Rattle.subadd_closure.specs.ElementCurves.{turn, line_times, all_stretches, rising_closure, falling_closure}
 use Rattle.subadd_closure.proofs.TurnNumbers.{turn_in, more}
 use Rattle.subadd_closure.proofs.StretchReads.{IsLate, first_late, none_at_start}
 use Rattle.subadd_closure.proofs.ClosureValues.{rising_values, falling_values, least_at, greatest_at}
 use Rattle.subadd_closure.proofs.NormalClosures.{HasTurningTail, no_share, not_one, all_each, all_start, all_has, all_unmerged, rest_start}
-use Rattle.upp_limits.specs.min_plus.specs.closure_laws.Star.{nat_times}
+use Rattle.min_plus.specs.closure_laws.Star.{nat_times}
 
 -- infinity at y and a number a period later: no rule from a time up to y
 no_lower : (f : ℚ → Ext) (x y d c q : ℚ) → x ≤ℚ y → f y ≡ Inf → f (y +ℚ d) ≡ Fin q → ¬ (Repeats f x d c)

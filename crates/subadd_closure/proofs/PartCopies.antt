@@ -1,14 +1,14 @@
 -- The copies of an element, by a test of where it starts.
 use Rattle.std.specs.Prelude.{◌≡◌, Bool, true, false, Some, None}
 use Rattle.std.proofs.Common.{sym, refl, ◌∙◌, subst, inl, inr, true≢false}
-use Rattle.upp_limits.specs.rational.specs.Rational.{ℚ, ◌<ℚ◌, lt_q}
-use Rattle.upp_limits.specs.rational.proofs.Laws.{le_or_lt}
-use Rattle.upp_limits.specs.rational.proofs.Over.{le_q_out, lt_q_out, lt_q_in}
-use Rattle.upp_limits.specs.rational.proofs.MinMax.{le_q_not}
-use Rattle.upp_limits.specs.upp_curve.specs.declared.affine_segment.element.Element.{Element}
-use Rattle.upp_limits.specs.upp_curve.specs.affine_segment.Elements.{start_of}
-use Rattle.upp_limits.specs.upp_curve.specs.declared.curve.Tail.{Tail}
-use Rattle.upp_limits.specs.upp_curve.specs.declared.curve.Tail.TheVariants.{Periodic}
+use Rattle.rational.specs.Rational.{ℚ, ◌<ℚ◌, lt_q}
+use Rattle.rational.proofs.Laws.{le_or_lt}
+use Rattle.rational.proofs.Over.{le_q_out, lt_q_out, lt_q_in}
+use Rattle.rational.proofs.MinMax.{le_q_not}
+use Rattle.upp_curve.specs.declared.affine_segment.element.Element.{Element}
+use Rattle.upp_curve.specs.affine_segment.Elements.{start_of}
+use Rattle.upp_curve.specs.declared.curve.Tail.{Tail}
+use Rattle.upp_curve.specs.declared.curve.Tail.TheVariants.{Periodic}
 use Rattle.subadd_closure.specs.CurveParts.{copies_of}
 
 pub early_copies : (tail : Tail) (e : Element) (rank period rise s : ℚ) (b : Bool) → tail ≡ Periodic rank period rise

@@ -2,13 +2,13 @@
 -- of the closure.
 use Rattle.std.specs.Prelude.{◌≡◌, ℕ, Option, Some, None, Result, Ok, Err}
 use Rattle.std.proofs.Common.{sym, refl, ap, ◌∙◌, subst}
-use Rattle.upp_limits.specs.rational.specs.Rational.{ℚ}
-use Rattle.upp_limits.specs.upp_curve.specs.declared.affine_segment.element.Element.{Element}
+use Rattle.rational.specs.Rational.{ℚ}
+use Rattle.upp_curve.specs.declared.affine_segment.element.Element.{Element}
 use Rattle.upp_limits.specs.declared.op_kind.OpKind.TheVariants.{Min, Convolve}
 use Rattle.upp_limits.specs.declared.op_kind.OpFault.{OpFault}
 use Rattle.upp_limits.specs.declared.op_kind.OpFault.TheVariants.{NoMemory}
-use Rattle.upp_limits.specs.upp_curve.specs.Curve.{SpecCurve}
-use Rattle.plain_operators.specs.curve_call.specs.Calls.{Applies}
+use Rattle.upp_curve.specs.Curve.{SpecCurve}
+use Rattle.curve_call.specs.Calls.{Applies}
 use Rattle.outcomes.specs.Calls.{Then, goes_on, stops}
 use Rattle.subadd_closure.specs.ElementAnswers.{IsElementClosure}
 use Rattle.subadd_closure.specs.Lattices.{lattice_curve, origin_curve}

@@ -1,17 +1,17 @@
 -- How a list of pieces is read, piece by piece.
 use Rattle.std.specs.Prelude.{◌≡◌, List, ◌∷◌}
 use Rattle.std.proofs.Common.{refl, ap, ◌∙◌, inl, inr}
-use Rattle.upp_limits.specs.rational.specs.Rational.{ℚ, ◌≤ℚ◌, ◌<ℚ◌}
-use Rattle.upp_limits.specs.rational.specs.declared.Extended.TheVariants.{Fin, Inf}
-use Rattle.upp_limits.specs.rational.proofs.Laws.{le_trans, le_lt_trans, lt_le_trans, le_or_lt}
-use Rattle.upp_limits.specs.rational.proofs.Over.{lt_q_out}
-use Rattle.upp_limits.specs.rational.proofs.MinMax.{lt_q_not}
-use Rattle.upp_limits.specs.upp_curve.specs.declared.affine_segment.line.Piece.{Piece}
-use Rattle.upp_limits.specs.upp_curve.specs.declared.affine_segment.line.Line.{Line}
-use Rattle.upp_limits.specs.upp_curve.specs.affine_segment.Values.{line_at}
-use Rattle.upp_limits.specs.min_plus.specs.Functions.{zero_q}
-use Rattle.upp_limits.specs.upp_curve.specs.affine_segment.Reading.{piece_value, read, nothing_at}
-use Rattle.upp_limits.specs.upp_curve.proofs.affine_segment.PieceIn.{read_go, read_stop, value_by, value_past, nothing_read}
+use Rattle.rational.specs.Rational.{ℚ, ◌≤ℚ◌, ◌<ℚ◌}
+use Rattle.rational.specs.declared.Extended.TheVariants.{Fin, Inf}
+use Rattle.rational.proofs.Laws.{le_trans, le_lt_trans, lt_le_trans, le_or_lt}
+use Rattle.rational.proofs.Over.{lt_q_out}
+use Rattle.rational.proofs.MinMax.{lt_q_not}
+use Rattle.upp_curve.specs.declared.affine_segment.line.Piece.{Piece}
+use Rattle.upp_curve.specs.declared.affine_segment.line.Line.{Line}
+use Rattle.upp_curve.specs.affine_segment.Values.{line_at}
+use Rattle.min_plus.specs.Functions.{zero_q}
+use Rattle.upp_curve.specs.affine_segment.Reading.{piece_value, read, nothing_at}
+use Rattle.upp_curve.proofs.affine_segment.PieceIn.{read_go, read_stop, value_by, value_past, nothing_read}
 use Rattle.subadd_closure.specs.ElementCurves.{opening, after_gap, from_zero}
 
 -- ---- gaps

@@ -1,30 +1,30 @@
 -- The curves of a point's closure: their values and normal form.
 use Rattle.std.specs.Prelude.{◌≡◌, ℕ, suc, ◌≤◌, pos, [], ◌∷◌, Option, Some, None}
 use Rattle.std.proofs.Common.{arith, sym, refl, ap, ◌∙◌, subst, inl, inr}
-use Rattle.upp_limits.specs.rational.specs.Rational.{ℚ, ◌+ℚ◌, ◌-ℚ◌, ◌*ℚ◌, ◌/ℚ◌, ◌≤ℚ◌, ◌<ℚ◌, int}
-use Rattle.upp_limits.specs.rational.specs.Extended.{Ext, ◌+ₑ◌}
-use Rattle.upp_limits.specs.rational.specs.declared.Extended.TheVariants.{Fin, Inf}
-use Rattle.upp_limits.specs.rational.proofs.Linear.{with1, with2, with3, with5, with6}
-use Rattle.upp_limits.specs.rational.proofs.Laws.{le_trans, le_lt_trans, lt_le_trans, lt_irrefl, le_refl, le_of_lt, le_or_lt, antisym, mul_one, mul_zero, zero_mul, one_mul, mul_lt_mul, mul_lt_mul_right, mul_le_mul_right, lt_of_mul, div_mul, not_zero, between}
-use Rattle.upp_limits.specs.rational.proofs.Integers.{nat_lt, nat_le, le_or_more}
-use Rattle.upp_limits.specs.rational.proofs.Whole.{one_more_times}
-use Rattle.upp_limits.specs.rational.proofs.Bounds.{least_member, all_infinite}
-use Rattle.upp_limits.specs.rational.proofs.Over.{le_q_out}
-use Rattle.upp_limits.specs.rational.proofs.MinMax.{le_q_not}
-use Rattle.upp_limits.specs.upp_curve.specs.declared.affine_segment.line.Line.{Line}
-use Rattle.upp_limits.specs.upp_curve.specs.declared.affine_segment.line.Piece.{Piece}
-use Rattle.upp_limits.specs.upp_curve.specs.affine_segment.Values.{line_value}
-use Rattle.upp_limits.specs.min_plus.specs.Functions.{zero_q}
-use Rattle.upp_limits.specs.upp_curve.specs.affine_segment.Reading.{read, nothing_at}
-use Rattle.upp_limits.specs.upp_curve.specs.Curve.{value_at, repeated, cut}
-use Rattle.upp_limits.specs.upp_curve.specs.Steady.{Repeats}
-use Rattle.upp_limits.specs.upp_curve.specs.Normal.{IsNormal}
-use Rattle.upp_limits.specs.upp_curve.proofs.Repeats.{repeated_first}
+use Rattle.rational.specs.Rational.{ℚ, ◌+ℚ◌, ◌-ℚ◌, ◌*ℚ◌, ◌/ℚ◌, ◌≤ℚ◌, ◌<ℚ◌, int}
+use Rattle.rational.specs.Extended.{Ext, ◌+ₑ◌}
+use Rattle.rational.specs.declared.Extended.TheVariants.{Fin, Inf}
+use Rattle.rational.proofs.Linear.{with1, with2, with3, with5, with6}
+use Rattle.rational.proofs.Laws.{le_trans, le_lt_trans, lt_le_trans, lt_irrefl, le_refl, le_of_lt, le_or_lt, antisym, mul_one, mul_zero, zero_mul, one_mul, mul_lt_mul, mul_lt_mul_right, mul_le_mul_right, lt_of_mul, div_mul, not_zero, between}
+use Rattle.rational.proofs.Integers.{nat_lt, nat_le, le_or_more}
+use Rattle.rational.proofs.Whole.{one_more_times}
+use Rattle.rational.proofs.Bounds.{least_member, all_infinite}
+use Rattle.rational.proofs.Over.{le_q_out}
+use Rattle.rational.proofs.MinMax.{le_q_not}
+use Rattle.upp_curve.specs.declared.affine_segment.line.Line.{Line}
+use Rattle.upp_curve.specs.declared.affine_segment.line.Piece.{Piece}
+use Rattle.upp_curve.specs.affine_segment.Values.{line_value}
+use Rattle.min_plus.specs.Functions.{zero_q}
+use Rattle.upp_curve.specs.affine_segment.Reading.{read, nothing_at}
+use Rattle.upp_curve.specs.Curve.{value_at, repeated, cut}
+use Rattle.upp_curve.specs.Steady.{Repeats}
+use Rattle.upp_curve.specs.Normal.{IsNormal}
+use Rattle.upp_curve.proofs.Repeats.{repeated_first}
 use Rattle.subadd_closure.specs.ElementClosures.{Multiple, IsPointClosure}
 use Rattle.subadd_closure.specs.ElementCurves.{point_closure, point_at_zero}
 use Rattle.subadd_closure.proofs.ClosureValues.{Left, left_of, repeated_left}
-use Rattle.upp_limits.specs.upp_curve.proofs.affine_segment.PieceIn.{read_go, read_one, read_stop, value_by, value_past, nothing_read}
-use Rattle.upp_limits.specs.min_plus.specs.closure_laws.Star.{nat_times}
+use Rattle.upp_curve.proofs.affine_segment.PieceIn.{read_go, read_one, read_stop, value_by, value_past, nothing_read}
+use Rattle.min_plus.specs.closure_laws.Star.{nat_times}
 
 -- ---- the closure by a multiple
 -- where t is n and one times a, and no other number of times, or each gives as much

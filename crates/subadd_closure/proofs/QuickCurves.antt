@@ -2,37 +2,37 @@
 use Rattle.curve_conv.proofs.BoundsFound.{slow_rate}
 use Rattle.std.specs.Prelude.{◌≡◌, ℕ, suc, ◌+◌, ◌≤◌, pos, Bool, true, false, not, IsTrue, ◌↔◌, cond, List, [], ◌∷◌, None}
 use Rattle.std.proofs.Common.{arith, sym, refl, ap, ap₂, ◌∙◌, subst, inl, inr, length, get_or, true≢false}
-use Rattle.upp_limits.specs.rational.specs.Rational.{ℚ, ◌+ℚ◌, ◌-ℚ◌, ◌*ℚ◌, ◌/ℚ◌, ◌≤ℚ◌, ◌<ℚ◌, int, le_q}
-use Rattle.upp_limits.specs.rational.specs.Extended.{Ext, ◌<ₑ◌, ◌≤ₑ◌, ◌+ₑ◌}
-use Rattle.upp_limits.specs.rational.specs.declared.Extended.TheVariants.{Fin, Inf}
-use Rattle.upp_limits.specs.rational.proofs.Grid.{whole_int}
-use Rattle.upp_limits.specs.rational.proofs.Linear.{with2, with3, with4, with5, with7}
-use Rattle.upp_limits.specs.rational.proofs.Laws.{le_refl, le_trans, le_of_lt, lt_le_trans, mul_nonneg, not_zero, le_of_not_lt}
-use Rattle.upp_limits.specs.rational.proofs.Integers.{nat_nonneg}
-use Rattle.upp_limits.specs.rational.proofs.Quotients.{div_unique}
-use Rattle.upp_limits.specs.rational.proofs.Whole.{one_more_times}
-use Rattle.upp_limits.specs.upp_curve.specs.declared.affine_segment.line.Piece.{Piece}
-use Rattle.upp_limits.specs.upp_curve.specs.affine_segment.Reading.{read, piece_value}
-use Rattle.upp_limits.specs.upp_curve.specs.affine_segment.Values.{line_value}
-use Rattle.upp_limits.specs.upp_curve.proofs.affine_segment.PieceIn.{piece_in_stop, read_is}
-use Rattle.upp_limits.specs.upp_curve.specs.declared.curve.Tail.{Tail}
-use Rattle.upp_limits.specs.upp_curve.specs.declared.curve.Tail.TheVariants.{Periodic}
-use Rattle.upp_limits.specs.upp_curve.specs.Curve.{SpecCurve, value_at}
-use Rattle.upp_limits.specs.upp_curve.specs.Curves.{IsCurve}
-use Rattle.upp_limits.specs.upp_curve.specs.Normal.{TailFits}
-use Rattle.upp_limits.specs.upp_curve.specs.Steady.{steady, steady_in, rate, rise_over}
-use Rattle.upp_limits.specs.upp_curve.proofs.Repeats.{repeated_first}
+use Rattle.rational.specs.Rational.{ℚ, ◌+ℚ◌, ◌-ℚ◌, ◌*ℚ◌, ◌/ℚ◌, ◌≤ℚ◌, ◌<ℚ◌, int, le_q}
+use Rattle.rational.specs.Extended.{Ext, ◌<ₑ◌, ◌≤ₑ◌, ◌+ₑ◌}
+use Rattle.rational.specs.declared.Extended.TheVariants.{Fin, Inf}
+use Rattle.rational.proofs.Grid.{whole_int}
+use Rattle.rational.proofs.Linear.{with2, with3, with4, with5, with7}
+use Rattle.rational.proofs.Laws.{le_refl, le_trans, le_of_lt, lt_le_trans, mul_nonneg, not_zero, le_of_not_lt}
+use Rattle.rational.proofs.Integers.{nat_nonneg}
+use Rattle.rational.proofs.Quotients.{div_unique}
+use Rattle.rational.proofs.Whole.{one_more_times}
+use Rattle.upp_curve.specs.declared.affine_segment.line.Piece.{Piece}
+use Rattle.upp_curve.specs.affine_segment.Reading.{read, piece_value}
+use Rattle.upp_curve.specs.affine_segment.Values.{line_value}
+use Rattle.upp_curve.proofs.affine_segment.PieceIn.{piece_in_stop, read_is}
+use Rattle.upp_curve.specs.declared.curve.Tail.{Tail}
+use Rattle.upp_curve.specs.declared.curve.Tail.TheVariants.{Periodic}
+use Rattle.upp_curve.specs.Curve.{SpecCurve, value_at}
+use Rattle.upp_curve.specs.Curves.{IsCurve}
+use Rattle.upp_curve.specs.Normal.{TailFits}
+use Rattle.upp_curve.specs.Steady.{steady, steady_in, rate, rise_over}
+use Rattle.upp_curve.proofs.Repeats.{repeated_first}
 use Rattle.upp_normal.specs.Ahead.{IsTimeIn}
 use Rattle.upp_normal.proofs.StretchValues.{value_periodic}
 use Rattle.upp_normal.proofs.UnrollSteps.{ext_cases}
-use Rattle.plain_operators.specs.curve_call.specs.Rises.{CurveRiseFits}
-use Rattle.plain_operators.specs.curve_call.proofs.CurveRises.{rise_is}
-use Rattle.plain_operators.specs.curve_call.specs.Bounds.{own_or, IsFiniteLate}
-use Rattle.plain_operators.specs.curve_call.specs.Gaps.{InWindow, IsLargest}
-use Rattle.plain_operators.specs.curve_call.specs.Levels.{level_curve}
-use Rattle.plain_operators.specs.curve_call.proofs.OwnPeriods.{own_period_is, own_looked}
-use Rattle.plain_operators.specs.curve_call.proofs.RateRises.{rate_rise}
-use Rattle.plain_operators.specs.curve_call.proofs.MostAbove.{own_repeats, finite_rate, not_falling, rates_order, top_bounds, depth_bounds, depth_finite}
+use Rattle.curve_call.specs.Rises.{CurveRiseFits}
+use Rattle.curve_call.proofs.CurveRises.{rise_is}
+use Rattle.curve_call.specs.Bounds.{own_or, IsFiniteLate}
+use Rattle.curve_call.specs.Gaps.{InWindow, IsLargest}
+use Rattle.curve_call.specs.Levels.{level_curve}
+use Rattle.curve_call.proofs.OwnPeriods.{own_period_is, own_looked}
+use Rattle.curve_call.proofs.RateRises.{rate_rise}
+use Rattle.curve_call.proofs.MostAbove.{own_repeats, finite_rate, not_falling, rates_order, top_bounds, depth_bounds, depth_finite}
 use Rattle.curve_conv.specs.Late.{IsLateAfter, IsLateCall}
 use Rattle.curve_conv.specs.LateBounds.{IsTop, IsLateBounds}
 use Rattle.curve_conv.specs.Scans.{sizes_in}

@@ -2,21 +2,21 @@
 -- periods: over functions.
 use Rattle.std.specs.Prelude.{◌≡◌, pos, [], ◌∷◌}
 use Rattle.std.proofs.Common.{arith, sym, ap, ap₂, ◌∙◌, subst, inl, inr}
-use Rattle.upp_limits.specs.rational.specs.Rational.{ℚ, ◌+ℚ◌, ◌-ℚ◌, ◌*ℚ◌, ◌≤ℚ◌, ◌<ℚ◌, int}
-use Rattle.upp_limits.specs.rational.specs.Extended.{Ext, ◌≤ₑ◌, ◌+ₑ◌}
-use Rattle.upp_limits.specs.rational.specs.declared.Extended.TheVariants.{Fin, Inf}
-use Rattle.upp_limits.specs.rational.proofs.Linear.{with_atoms, with2, with3, with4, with5, with6}
-use Rattle.upp_limits.specs.rational.proofs.Laws.{le_refl, le_trans, le_of_lt, add_comm, add_zero, sub_add, mul_add, sub_mul, mul_le_mul, mul_nonneg}
-use Rattle.upp_limits.specs.rational.proofs.Integers.{nat_nonneg}
-use Rattle.upp_limits.specs.rational.proofs.ExtendedOrder.{le_ext_trans, add_le_ext, le_ext_refl, same_le_ext}
-use Rattle.upp_limits.specs.upp_curve.specs.Steady.{Repeats}
+use Rattle.rational.specs.Rational.{ℚ, ◌+ℚ◌, ◌-ℚ◌, ◌*ℚ◌, ◌≤ℚ◌, ◌<ℚ◌, int}
+use Rattle.rational.specs.Extended.{Ext, ◌≤ₑ◌, ◌+ₑ◌}
+use Rattle.rational.specs.declared.Extended.TheVariants.{Fin, Inf}
+use Rattle.rational.proofs.Linear.{with_atoms, with2, with3, with4, with5, with6}
+use Rattle.rational.proofs.Laws.{le_refl, le_trans, le_of_lt, add_comm, add_zero, sub_add, mul_add, sub_mul, mul_le_mul, mul_nonneg}
+use Rattle.rational.proofs.Integers.{nat_nonneg}
+use Rattle.rational.proofs.ExtendedOrder.{le_ext_trans, add_le_ext, le_ext_refl, same_le_ext}
+use Rattle.upp_curve.specs.Steady.{Repeats}
 use Rattle.upp_normal.proofs.UnrollSteps.{ext_cases}
 use Rattle.upp_limits.specs.Windows.{IsLateLeast}
-use Rattle.plain_operators.specs.curve_call.proofs.MostAbove.{moved_back, times_rate}
-use Rattle.plain_operators.specs.curve_call.proofs.Shifts.{later_value}
+use Rattle.curve_call.proofs.MostAbove.{moved_back, times_rate}
+use Rattle.curve_call.proofs.Shifts.{later_value}
 use Rattle.curve_conv.specs.LateBounds.{IsTop, IsDepth}
 use Rattle.subadd_closure.specs.QuickBounds.{Reaches}
-use Rattle.upp_limits.specs.rational.proofs.Stretch.{not_earlier}
+use Rattle.rational.proofs.Stretch.{not_earlier}
 
 -- ---- up
 -- a number of periods costs at most what the line does

@@ -1,19 +1,19 @@
 -- What is nowhere below 0 and repeats rises by a number from 0 on, so what is that much below a value has its room.
 use Rattle.std.specs.Prelude.{◌≡◌, ℕ, pos}
 use Rattle.std.proofs.Common.{arith, ap, ◌∙◌, subst, inl, inr}
-use Rattle.upp_limits.specs.rational.specs.Rational.{ℚ, neg_ℚ, ◌+ℚ◌, ◌-ℚ◌, ◌*ℚ◌, ◌/ℚ◌, ◌≤ℚ◌, ◌<ℚ◌, int}
-use Rattle.upp_limits.specs.rational.specs.Extended.{Ext, ◌≤ₑ◌, ◌+ₑ◌}
-use Rattle.upp_limits.specs.rational.specs.declared.Extended.TheVariants.{Fin}
-use Rattle.upp_limits.specs.rational.proofs.Linear.{with1, with2, with3, with4}
-use Rattle.upp_limits.specs.rational.proofs.Integers.{nat_nonneg}
-use Rattle.upp_limits.specs.rational.proofs.Laws.{le_or_lt, le_refl, le_lt_trans, lt_irrefl, above, div_mul, not_zero}
-use Rattle.upp_limits.specs.rational.proofs.Laws.{mul_lt_mul_right, mul_neg, mul_nonneg}
-use Rattle.upp_limits.specs.rational.proofs.Bounds.{greatest}
-use Rattle.upp_limits.specs.rational.proofs.ExtendedOrder.{add_le_ext, add_zero_ext, fin_same}
-use Rattle.upp_limits.specs.min_plus.specs.Convolution.{IsConvolution, Split}
-use Rattle.upp_limits.specs.min_plus.specs.Functions.{zero_q, IsNonnegative}
-use Rattle.upp_limits.specs.upp_curve.specs.Steady.{Repeats}
-use Rattle.upp_limits.specs.upp_curve.proofs.Repeats.{repeats_times}
+use Rattle.rational.specs.Rational.{ℚ, neg_ℚ, ◌+ℚ◌, ◌-ℚ◌, ◌*ℚ◌, ◌/ℚ◌, ◌≤ℚ◌, ◌<ℚ◌, int}
+use Rattle.rational.specs.Extended.{Ext, ◌≤ₑ◌, ◌+ₑ◌}
+use Rattle.rational.specs.declared.Extended.TheVariants.{Fin}
+use Rattle.rational.proofs.Linear.{with1, with2, with3, with4}
+use Rattle.rational.proofs.Integers.{nat_nonneg}
+use Rattle.rational.proofs.Laws.{le_or_lt, le_refl, le_lt_trans, lt_irrefl, above, div_mul, not_zero}
+use Rattle.rational.proofs.Laws.{mul_lt_mul_right, mul_neg, mul_nonneg}
+use Rattle.rational.proofs.Bounds.{greatest}
+use Rattle.rational.proofs.ExtendedOrder.{add_le_ext, add_zero_ext, fin_same}
+use Rattle.min_plus.specs.Convolution.{IsConvolution, Split}
+use Rattle.min_plus.specs.Functions.{zero_q, IsNonnegative}
+use Rattle.upp_curve.specs.Steady.{Repeats}
+use Rattle.upp_curve.proofs.Repeats.{repeats_times}
 
 -- ---- a convolution of what is nowhere below 0
 sum_nonneg : (x y : Ext) → Fin zero_q ≤ₑ x → Fin zero_q ≤ₑ y → Fin zero_q ≤ₑ x +ₑ y

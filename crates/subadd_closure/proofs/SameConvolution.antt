@@ -1,14 +1,14 @@
 -- A function is subadditive exactly where it is the lesser of itself and its convolution with itself.
 use Rattle.std.specs.Prelude.{◌≡◌}
 use Rattle.std.proofs.Common.{arith, sym, refl, ◌∙◌, subst}
-use Rattle.upp_limits.specs.rational.specs.Rational.{ℚ, ◌+ℚ◌, ◌≤ℚ◌}
-use Rattle.upp_limits.specs.rational.specs.Extended.{Ext, ◌≤ₑ◌, ◌+ₑ◌}
-use Rattle.upp_limits.specs.rational.proofs.Linear.{with2}
-use Rattle.upp_limits.specs.rational.proofs.Bounds.{greatest}
-use Rattle.upp_limits.specs.rational.proofs.ExtendedOrder.{le_ext_trans, min_right, min_ext_of_le}
-use Rattle.upp_limits.specs.min_plus.specs.Functions.{zero_q}
-use Rattle.upp_limits.specs.min_plus.specs.Pointwise.{IsMinimum}
-use Rattle.upp_limits.specs.min_plus.specs.Convolution.{Split, IsConvolution, IsSubadditive}
+use Rattle.rational.specs.Rational.{ℚ, ◌+ℚ◌, ◌≤ℚ◌}
+use Rattle.rational.specs.Extended.{Ext, ◌≤ₑ◌, ◌+ₑ◌}
+use Rattle.rational.proofs.Linear.{with2}
+use Rattle.rational.proofs.Bounds.{greatest}
+use Rattle.rational.proofs.ExtendedOrder.{le_ext_trans, min_right, min_ext_of_le}
+use Rattle.min_plus.specs.Functions.{zero_q}
+use Rattle.min_plus.specs.Pointwise.{IsMinimum}
+use Rattle.min_plus.specs.Convolution.{Split, IsConvolution, IsSubadditive}
 
 pub subadditive_where_same : (f c d : ℚ → Ext) → ((t : ℚ) → zero_q ≤ℚ t → IsConvolution f f t (c t))
     → ((t : ℚ) → zero_q ≤ℚ t → IsMinimum f c t (d t)) → ((t : ℚ) → zero_q ≤ℚ t → d t ≡ f t) → IsSubadditive f

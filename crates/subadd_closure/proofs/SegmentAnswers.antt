@@ -1,32 +1,32 @@
 -- What the calls on a segment answer.
 use Rattle.std.specs.Prelude.{◌≡◌, ◌<◌, ◌≤◌, ◌^◌, ◌+◌, ◌++◌, ◌⊎◌, ℕ, suc, pos, List, [], ◌∷◌, Some, None, Result, Ok, Err}
 use Rattle.std.proofs.Common.{arith, sym, refl, ap, ◌∙◌, subst, inl, inr}
-use Rattle.upp_limits.specs.rational.specs.Rational.{ℚ, ◌+ℚ◌, ◌≤ℚ◌, ◌<ℚ◌, int}
-use Rattle.upp_limits.specs.rational.specs.Ratio.{IsSmall}
-use Rattle.upp_limits.specs.rational.specs.declared.Extended.TheVariants.{Fin, Inf}
-use Rattle.upp_limits.specs.rational.proofs.Linear.{with1}
-use Rattle.upp_limits.specs.rational.proofs.Laws.{le_of_lt, le_or_lt, one_mul, le_lt_trans, lt_irrefl}
-use Rattle.upp_limits.specs.upp_curve.specs.declared.affine_segment.line.Line.{Line}
-use Rattle.upp_limits.specs.upp_curve.specs.declared.affine_segment.line.Piece.{Piece}
-use Rattle.upp_limits.specs.upp_curve.specs.declared.affine_segment.element.Element.{Element}
-use Rattle.upp_limits.specs.upp_curve.specs.declared.affine_segment.element.Element.TheVariants.{Open}
-use Rattle.upp_limits.specs.upp_curve.specs.affine_segment.Elements.{element_value}
-use Rattle.upp_limits.specs.upp_curve.specs.affine_segment.Values.{line_at}
-use Rattle.upp_limits.specs.upp_curve.specs.declared.curve.Tail.{Tail}
-use Rattle.upp_limits.specs.upp_curve.specs.declared.curve.Tail.TheVariants.{Periodic, Affine, Infinite}
+use Rattle.rational.specs.Rational.{ℚ, ◌+ℚ◌, ◌≤ℚ◌, ◌<ℚ◌, int}
+use Rattle.rational.specs.Ratio.{IsSmall}
+use Rattle.rational.specs.declared.Extended.TheVariants.{Fin, Inf}
+use Rattle.rational.proofs.Linear.{with1}
+use Rattle.rational.proofs.Laws.{le_of_lt, le_or_lt, one_mul, le_lt_trans, lt_irrefl}
+use Rattle.upp_curve.specs.declared.affine_segment.line.Line.{Line}
+use Rattle.upp_curve.specs.declared.affine_segment.line.Piece.{Piece}
+use Rattle.upp_curve.specs.declared.affine_segment.element.Element.{Element}
+use Rattle.upp_curve.specs.declared.affine_segment.element.Element.TheVariants.{Open}
+use Rattle.upp_curve.specs.affine_segment.Elements.{element_value}
+use Rattle.upp_curve.specs.affine_segment.Values.{line_at}
+use Rattle.upp_curve.specs.declared.curve.Tail.{Tail}
+use Rattle.upp_curve.specs.declared.curve.Tail.TheVariants.{Periodic, Affine, Infinite}
 use Rattle.upp_limits.specs.declared.op_kind.OpFault.{OpFault}
 use Rattle.upp_limits.specs.declared.op_kind.OpFault.TheVariants.{TooMany, TooWide, NoMemory}
-use Rattle.upp_limits.specs.upp_curve.specs.Curve.{SpecCurve, value_at, HasSameValues}
-use Rattle.upp_limits.specs.upp_curve.specs.Curves.{IsCurve}
-use Rattle.upp_limits.specs.min_plus.specs.Functions.{zero_q}
-use Rattle.upp_limits.specs.upp_curve.specs.affine_segment.Pieces.{Each}
-use Rattle.upp_limits.specs.upp_curve.specs.Normal.{IsRaw, IsNormal}
-use Rattle.upp_limits.specs.upp_curve.specs.Steady.{rank_of}
-use Rattle.upp_limits.specs.upp_curve.proofs.Normal.{each_at}
-use Rattle.upp_limits.specs.upp_curve.specs.affine_segment.Fits.{LineFitsAt}
-use Rattle.upp_limits.specs.upp_curve.specs.Readable.{EachFits}
+use Rattle.upp_curve.specs.Curve.{SpecCurve, value_at, HasSameValues}
+use Rattle.upp_curve.specs.Curves.{IsCurve}
+use Rattle.min_plus.specs.Functions.{zero_q}
+use Rattle.upp_curve.specs.affine_segment.Pieces.{Each}
+use Rattle.upp_curve.specs.Normal.{IsRaw, IsNormal}
+use Rattle.upp_curve.specs.Steady.{rank_of}
+use Rattle.upp_curve.proofs.Normal.{each_at}
+use Rattle.upp_curve.specs.affine_segment.Fits.{LineFitsAt}
+use Rattle.upp_curve.specs.Readable.{EachFits}
 use Rattle.upp_limits.specs.Limits.{Sizes, own_gauge, own_tally}
-use Rattle.upp_limits.specs.min_plus.specs.Convolution.{IsSubadditiveClosure}
+use Rattle.min_plus.specs.Convolution.{IsSubadditiveClosure}
 use Rattle.subadd_closure.proofs.ElementSums.{closure_of_segment}
 use Rattle.subadd_closure.specs.ElementClosures.{IsSegmentClosure}
 use Rattle.subadd_closure.specs.ElementCurves.{opening, line_times, from_zero, turn, stretches, all_stretches, level_closure, rising_closure, falling_closure}
@@ -45,8 +45,8 @@ use Rattle.subadd_closure.proofs.NormalClosures.{level_normal}
 use Rattle.subadd_closure.proofs.NormalTurns.{rising_normal, falling_normal}
 use Rattle.upp_normal.proofs.Bends.{each_first}
 use Rattle.upp_limits.proofs.FewCopies.{periodic_few}
-use Rattle.upp_limits.specs.rational.proofs.Integers.{le_or_more}
-use Rattle.upp_limits.specs.min_plus.specs.closure_laws.Star.{nat_times}
+use Rattle.rational.proofs.Integers.{le_or_more}
+use Rattle.min_plus.specs.closure_laws.Star.{nat_times}
 
 pub unfit_more : (a b : ℚ) (l : Line) (m : ℕ) (e : OpFault) → IsUnfit (stretches a b l 1 m []) e → IsUnfit (all_stretches a b l m []) e
 unfit_more a b l m TooMany h = h

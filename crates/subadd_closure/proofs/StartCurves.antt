@@ -1,21 +1,21 @@
 -- A curve with its value at 0 set to another is one, where its tail stays as it is.
 use Rattle.std.specs.Prelude.{◌≡◌, pos, List, [], ◌∷◌, None, Some}
 use Rattle.std.proofs.Common.{sym, ap, ◌∙◌, subst}
-use Rattle.upp_limits.specs.rational.specs.Rational.{ℚ, ◌+ℚ◌, ◌/ℚ◌, ◌≤ℚ◌, ◌<ℚ◌, int}
-use Rattle.upp_limits.specs.rational.specs.Extended.{Ext}
-use Rattle.upp_limits.specs.rational.proofs.Quotients.{part_pos}
-use Rattle.upp_limits.specs.rational.proofs.Laws.{lt_le_trans, le_lt_trans, le_refl, le_of_lt}
-use Rattle.upp_limits.specs.upp_curve.specs.declared.affine_segment.line.Piece.{Piece}
-use Rattle.upp_limits.specs.upp_curve.specs.declared.curve.Tail.{Tail}
-use Rattle.upp_limits.specs.upp_curve.specs.declared.curve.Tail.TheVariants.{Periodic, Affine, Infinite}
-use Rattle.upp_limits.specs.upp_curve.specs.Curve.{SpecCurve, value_at, with_tail}
-use Rattle.upp_limits.specs.upp_curve.specs.Curves.{IsCurve}
-use Rattle.upp_limits.specs.upp_curve.specs.affine_segment.Reading.{read}
-use Rattle.upp_limits.specs.min_plus.specs.Functions.{zero_q}
-use Rattle.upp_limits.specs.upp_curve.specs.Steady.{Repeats, rank_of}
-use Rattle.upp_limits.specs.upp_curve.specs.affine_segment.Pieces.{Each, RisesFrom, StartsAtZero}
-use Rattle.upp_limits.specs.upp_curve.specs.Normal.{TailFits, TailNormal, IsNormal}
-use Rattle.upp_limits.specs.upp_curve.specs.Readable.{SumFitsAt, TailReadable}
+use Rattle.rational.specs.Rational.{ℚ, ◌+ℚ◌, ◌/ℚ◌, ◌≤ℚ◌, ◌<ℚ◌, int}
+use Rattle.rational.specs.Extended.{Ext}
+use Rattle.rational.proofs.Quotients.{part_pos}
+use Rattle.rational.proofs.Laws.{lt_le_trans, le_lt_trans, le_refl, le_of_lt}
+use Rattle.upp_curve.specs.declared.affine_segment.line.Piece.{Piece}
+use Rattle.upp_curve.specs.declared.curve.Tail.{Tail}
+use Rattle.upp_curve.specs.declared.curve.Tail.TheVariants.{Periodic, Affine, Infinite}
+use Rattle.upp_curve.specs.Curve.{SpecCurve, value_at, with_tail}
+use Rattle.upp_curve.specs.Curves.{IsCurve}
+use Rattle.upp_curve.specs.affine_segment.Reading.{read}
+use Rattle.min_plus.specs.Functions.{zero_q}
+use Rattle.upp_curve.specs.Steady.{Repeats, rank_of}
+use Rattle.upp_curve.specs.affine_segment.Pieces.{Each, RisesFrom, StartsAtZero}
+use Rattle.upp_curve.specs.Normal.{TailFits, TailNormal, IsNormal}
+use Rattle.upp_curve.specs.Readable.{SumFitsAt, TailReadable}
 use Rattle.subadd_closure.specs.Starting.{first_at, started_at, KeepsTail, IsStartedAt}
 use Rattle.subadd_closure.proofs.Starts.{read_past, read_zero, starts_kept, each_kept, start_kept, merge_kept, line_kept, fits_kept, repeated_past, repeated_zero, repeats_on}
 

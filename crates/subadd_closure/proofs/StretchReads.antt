@@ -1,20 +1,20 @@
 -- The pieces of stretches read as the closure of the segment.
 use Rattle.std.specs.Prelude.{◌≡◌, ℕ, zero, suc, ◌+◌, ◌≤◌, List, ◌∷◌}
 use Rattle.std.proofs.Common.{arith, sym, ◌∙◌, subst, inl, inr}
-use Rattle.upp_limits.specs.rational.specs.Rational.{ℚ, ◌≤ℚ◌, ◌<ℚ◌}
-use Rattle.upp_limits.specs.rational.specs.Extended.{Ext}
-use Rattle.upp_limits.specs.rational.specs.declared.Extended.TheVariants.{Fin, Inf}
-use Rattle.upp_limits.specs.rational.proofs.Laws.{le_trans, lt_le_trans, le_refl, le_of_lt, le_or_lt, one_mul}
-use Rattle.upp_limits.specs.upp_curve.specs.declared.affine_segment.line.Line.{Line}
-use Rattle.upp_limits.specs.upp_curve.specs.declared.affine_segment.line.Piece.{Piece}
-use Rattle.upp_limits.specs.min_plus.specs.Functions.{zero_q}
-use Rattle.upp_limits.specs.upp_curve.specs.affine_segment.Reading.{read, nothing_at}
+use Rattle.rational.specs.Rational.{ℚ, ◌≤ℚ◌, ◌<ℚ◌}
+use Rattle.rational.specs.Extended.{Ext}
+use Rattle.rational.specs.declared.Extended.TheVariants.{Fin, Inf}
+use Rattle.rational.proofs.Laws.{le_trans, lt_le_trans, le_refl, le_of_lt, le_or_lt, one_mul}
+use Rattle.upp_curve.specs.declared.affine_segment.line.Line.{Line}
+use Rattle.upp_curve.specs.declared.affine_segment.line.Piece.{Piece}
+use Rattle.min_plus.specs.Functions.{zero_q}
+use Rattle.upp_curve.specs.affine_segment.Reading.{read, nothing_at}
 use Rattle.subadd_closure.specs.ElementClosures.{Turn, IsSegmentClosure}
 use Rattle.subadd_closure.specs.ElementCurves.{stretch, line_times, stretches, all_stretches}
 use Rattle.subadd_closure.proofs.PieceReads.{opening_here, opening_past, over_gap, before_gap, in_gap, late_start, early_start}
 use Rattle.subadd_closure.proofs.TurnNumbers.{fewer, more, least_turn, no_turn}
-use Rattle.upp_limits.specs.upp_curve.proofs.affine_segment.PieceIn.{read_go, read_stop, nothing_read}
-use Rattle.upp_limits.specs.min_plus.specs.closure_laws.Star.{nat_times}
+use Rattle.upp_curve.proofs.affine_segment.PieceIn.{read_go, read_stop, nothing_read}
+use Rattle.min_plus.specs.closure_laws.Star.{nat_times}
 
 -- from n a on each turn is n or more
 abbrev pub IsLate : ℚ → Ext → ℕ → Type 0

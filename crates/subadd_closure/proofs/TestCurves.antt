@@ -1,15 +1,15 @@
 -- Curves that rise from a value that is not below 0, and the convolution of two that are finite.
 use Rattle.std.specs.Prelude.{◌≡◌}
 use Rattle.std.proofs.Common.{arith, sym, ap₂, ◌∙◌, subst}
-use Rattle.upp_limits.specs.rational.specs.Rational.{ℚ, ◌+ℚ◌, ◌≤ℚ◌}
-use Rattle.upp_limits.specs.rational.specs.Extended.{Ext, ◌≤ₑ◌, ◌+ₑ◌}
-use Rattle.upp_limits.specs.rational.specs.declared.Extended.TheVariants.{Fin}
-use Rattle.upp_limits.specs.rational.proofs.ExtendedOrder.{le_ext_trans, finite_below}
-use Rattle.upp_limits.specs.rational.proofs.Laws.{le_refl, le_of_lt}
-use Rattle.upp_limits.specs.rational.proofs.Linear.{with1}
-use Rattle.upp_limits.specs.min_plus.specs.Convolution.{Split}
-use Rattle.upp_limits.specs.min_plus.specs.Functions.{zero_q, IsFinite, IsNonnegative, IsRising}
-use Rattle.upp_limits.specs.min_plus.proofs.FiniteValues.{no_inf}
+use Rattle.rational.specs.Rational.{ℚ, ◌+ℚ◌, ◌≤ℚ◌}
+use Rattle.rational.specs.Extended.{Ext, ◌≤ₑ◌, ◌+ₑ◌}
+use Rattle.rational.specs.declared.Extended.TheVariants.{Fin}
+use Rattle.rational.proofs.ExtendedOrder.{le_ext_trans, finite_below}
+use Rattle.rational.proofs.Laws.{le_refl, le_of_lt}
+use Rattle.rational.proofs.Linear.{with1}
+use Rattle.min_plus.specs.Convolution.{Split}
+use Rattle.min_plus.specs.Functions.{zero_q, IsFinite, IsNonnegative, IsRising}
+use Rattle.min_plus.proofs.FiniteValues.{no_inf}
 use Rattle.subadd_closure.specs.StartsAt.{ConvolvesFinitely}
 
 pub rising_nonneg : (f : ℚ → Ext) (v : ℚ) → IsRising f → f zero_q ≡ Fin v → zero_q ≤ℚ v → IsNonnegative f

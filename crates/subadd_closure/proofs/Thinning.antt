@@ -2,26 +2,26 @@
 -- nowhere below the first do not count in their convolution.
 use Rattle.std.specs.Prelude.{◌≡◌, List, Result, Ok, Err, IfOk, Vec}
 use Rattle.std.proofs.Common.{arith, sym, ◌∙◌, subst, inl, inr, Global}
-use Rattle.upp_limits.specs.rational.specs.Rational.{ℚ, ◌+ℚ◌, ◌≤ℚ◌, ◌<ℚ◌}
-use Rattle.upp_limits.specs.rational.specs.Extended.{Ext, ◌≤ₑ◌, ◌+ₑ◌}
-use Rattle.upp_limits.specs.rational.specs.declared.Extended.TheVariants.{Fin, Inf}
-use Rattle.upp_limits.specs.rational.proofs.Linear.{with2, with3}
-use Rattle.upp_limits.specs.rational.proofs.Laws.{add_zero, le_refl, lt_irrefl, lt_le_trans}
-use Rattle.upp_limits.specs.rational.proofs.ExtendedOrder.{le_ext_refl, le_ext_trans, same_le_ext, add_le_ext}
-use Rattle.upp_limits.specs.upp_curve.specs.declared.affine_segment.line.Piece.{Piece}
-use Rattle.upp_limits.specs.upp_curve.specs.declared.affine_segment.element.Element.{Element}
-use Rattle.upp_limits.specs.upp_curve.specs.declared.affine_segment.element.Element.TheVariants.{Point, Open}
-use Rattle.upp_limits.specs.upp_curve.specs.affine_segment.Elements.{Covers, level}
-use Rattle.upp_limits.specs.upp_curve.specs.affine_segment.Reading.{read}
-use Rattle.upp_limits.specs.min_plus.specs.Functions.{zero_q}
-use Rattle.upp_limits.specs.min_plus.specs.Convolution.{IsSubadditive}
+use Rattle.rational.specs.Rational.{ℚ, ◌+ℚ◌, ◌≤ℚ◌, ◌<ℚ◌}
+use Rattle.rational.specs.Extended.{Ext, ◌≤ₑ◌, ◌+ₑ◌}
+use Rattle.rational.specs.declared.Extended.TheVariants.{Fin, Inf}
+use Rattle.rational.proofs.Linear.{with2, with3}
+use Rattle.rational.proofs.Laws.{add_zero, le_refl, lt_irrefl, lt_le_trans}
+use Rattle.rational.proofs.ExtendedOrder.{le_ext_refl, le_ext_trans, same_le_ext, add_le_ext}
+use Rattle.upp_curve.specs.declared.affine_segment.line.Piece.{Piece}
+use Rattle.upp_curve.specs.declared.affine_segment.element.Element.{Element}
+use Rattle.upp_curve.specs.declared.affine_segment.element.Element.TheVariants.{Point, Open}
+use Rattle.upp_curve.specs.affine_segment.Elements.{Covers, level}
+use Rattle.upp_curve.specs.affine_segment.Reading.{read}
+use Rattle.min_plus.specs.Functions.{zero_q}
+use Rattle.min_plus.specs.Convolution.{IsSubadditive}
 use Rattle.element_envelope.specs.PieceElements.{elements_of, Among}
 use Rattle.element_envelope.specs.Envelopes.{ListSplit, list_sum, IsEnvelope}
 use Rattle.element_envelope.specs.EnvelopeWindows.{EnvelopeRoom, IsEnvelopeWindow}
 use Rattle.element_envelope.specs.ConvolutionWindows.{OperandWindows, IsConvolutionWindow}
 use Rattle.element_envelope.proofs.Cover.{cover, element_times}
 use Rattle.element_envelope.proofs.Members.{Matched, matched_out}
-use Rattle.upp_limits.specs.rational.proofs.ExtendedOrder.{finite_below}
+use Rattle.rational.proofs.ExtendedOrder.{finite_below}
 use Rattle.element_envelope.proofs.OperandElements.{elements_stand}
 use Rattle.element_envelope.proofs.WindowConvolution.{endless}
 use Rattle.element_envelope.proofs.Windows.{windows_convolve}

@@ -1,21 +1,21 @@
 -- Which numbers n have a time between n a and n b, and where their least sum is the closure of a segment.
 use Rattle.std.specs.Prelude.{◌≡◌, ℕ, suc, ◌≤◌, pos}
 use Rattle.std.proofs.Common.{arith, sym, ◌∙◌, subst, inl, inr}
-use Rattle.upp_limits.specs.rational.specs.Rational.{ℚ, ◌+ℚ◌, ◌*ℚ◌, ◌/ℚ◌, ◌≤ℚ◌, ◌<ℚ◌, int, neg_ℚ}
-use Rattle.upp_limits.specs.rational.specs.Extended.{Ext, ◌≤ₑ◌, ◌<ₑ◌}
-use Rattle.upp_limits.specs.rational.specs.declared.Extended.TheVariants.{Fin, Inf}
-use Rattle.upp_limits.specs.rational.proofs.Laws.{le_trans, le_lt_trans, lt_le_trans, lt_irrefl, mul_comm, mul_le_mul_right, mul_lt_mul, lt_of_mul, div_mul, not_zero, mul_neg}
-use Rattle.upp_limits.specs.rational.proofs.Integers.{nat_le, le_or_more}
-use Rattle.upp_limits.specs.rational.proofs.Bounds.{least_member, all_infinite}
-use Rattle.upp_limits.specs.rational.proofs.Linear.{with1, with3, with4}
-use Rattle.upp_limits.specs.upp_curve.specs.declared.affine_segment.line.Line.{Line}
-use Rattle.upp_limits.specs.upp_curve.specs.affine_segment.Values.{line_at}
-use Rattle.upp_limits.specs.min_plus.specs.Functions.{zero_q}
+use Rattle.rational.specs.Rational.{ℚ, ◌+ℚ◌, ◌*ℚ◌, ◌/ℚ◌, ◌≤ℚ◌, ◌<ℚ◌, int, neg_ℚ}
+use Rattle.rational.specs.Extended.{Ext, ◌≤ₑ◌, ◌<ₑ◌}
+use Rattle.rational.specs.declared.Extended.TheVariants.{Fin, Inf}
+use Rattle.rational.proofs.Laws.{le_trans, le_lt_trans, lt_le_trans, lt_irrefl, mul_comm, mul_le_mul_right, mul_lt_mul, lt_of_mul, div_mul, not_zero, mul_neg}
+use Rattle.rational.proofs.Integers.{nat_le, le_or_more}
+use Rattle.rational.proofs.Bounds.{least_member, all_infinite}
+use Rattle.rational.proofs.Linear.{with1, with3, with4}
+use Rattle.upp_curve.specs.declared.affine_segment.line.Line.{Line}
+use Rattle.upp_curve.specs.affine_segment.Values.{line_at}
+use Rattle.min_plus.specs.Functions.{zero_q}
 use Rattle.subadd_closure.specs.ElementClosures.{Turn, IsSegmentClosure}
 use Rattle.subadd_closure.specs.ElementCurves.{line_times, ext_times}
-use Rattle.upp_limits.specs.rational.proofs.Grain.{some_int}
-use Rattle.upp_limits.specs.rational.proofs.ExtendedOrder.{not_past}
-use Rattle.upp_limits.specs.min_plus.specs.closure_laws.Star.{nat_times}
+use Rattle.rational.proofs.Grain.{some_int}
+use Rattle.rational.proofs.ExtendedOrder.{not_past}
+use Rattle.min_plus.specs.closure_laws.Star.{nat_times}
 
 -- ---- the two forms of a turn
 pub share_back : (n : ℕ) (t : ℚ) → nat_times (suc n) (t /ℚ int (pos (suc n))) ≡ t

@@ -1,22 +1,22 @@
 -- The steps by which a turn and the stretches are made.
 use Rattle.std.specs.Prelude.{◌≡◌, ℕ, zero, suc, ◌+◌, ◌≤◌, List, [], ◌∷◌, ◌++◌, Some}
 use Rattle.std.proofs.Common.{arith, sym, refl, ap, ◌∙◌, subst, inl, inr, append_assoc, append-nil}
-use Rattle.upp_limits.specs.rational.specs.Rational.{ℚ, ◌+ℚ◌, ◌-ℚ◌, ◌*ℚ◌, ◌≤ℚ◌, ◌<ℚ◌, neg_ℚ}
-use Rattle.upp_limits.specs.rational.specs.Ratio.{IsSmall, SumFits}
-use Rattle.upp_limits.specs.rational.specs.declared.Extended.TheVariants.{Fin}
-use Rattle.upp_limits.specs.rational.proofs.Linear.{with4}
-use Rattle.upp_limits.specs.rational.proofs.Laws.{le_or_lt, antisym}
-use Rattle.upp_limits.specs.rational.proofs.Whole.{one_more_times}
-use Rattle.upp_limits.specs.upp_curve.specs.declared.affine_segment.line.Line.{Line}
-use Rattle.upp_limits.specs.upp_curve.specs.declared.affine_segment.line.Piece.{Piece}
-use Rattle.upp_limits.specs.upp_curve.specs.affine_segment.Values.{line_at}
-use Rattle.upp_limits.specs.min_plus.specs.Functions.{zero_q}
-use Rattle.upp_limits.specs.upp_curve.specs.affine_segment.Pieces.{Each}
+use Rattle.rational.specs.Rational.{ℚ, ◌+ℚ◌, ◌-ℚ◌, ◌*ℚ◌, ◌≤ℚ◌, ◌<ℚ◌, neg_ℚ}
+use Rattle.rational.specs.Ratio.{IsSmall, SumFits}
+use Rattle.rational.specs.declared.Extended.TheVariants.{Fin}
+use Rattle.rational.proofs.Linear.{with4}
+use Rattle.rational.proofs.Laws.{le_or_lt, antisym}
+use Rattle.rational.proofs.Whole.{one_more_times}
+use Rattle.upp_curve.specs.declared.affine_segment.line.Line.{Line}
+use Rattle.upp_curve.specs.declared.affine_segment.line.Piece.{Piece}
+use Rattle.upp_curve.specs.affine_segment.Values.{line_at}
+use Rattle.min_plus.specs.Functions.{zero_q}
+use Rattle.upp_curve.specs.affine_segment.Pieces.{Each}
 use Rattle.subadd_closure.specs.ElementCurves.{line_times, stretch, turn, after_gap, from_zero, stretches, all_stretches}
 use Rattle.subadd_closure.specs.PieceFits.{PieceFits}
 use Rattle.subadd_closure.proofs.PieceReads.{gap_kept, gap_left, late_start, early_start}
-use Rattle.upp_limits.specs.upp_curve.specs.affine_segment.Reading.{nothing_at}
-use Rattle.upp_limits.specs.min_plus.specs.closure_laws.Star.{nat_times}
+use Rattle.upp_curve.specs.affine_segment.Reading.{nothing_at}
+use Rattle.min_plus.specs.closure_laws.Star.{nat_times}
 
 -- ---- a turn
 -- one more line is k more

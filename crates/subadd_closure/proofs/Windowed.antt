@@ -2,21 +2,21 @@
 -- on.
 use Rattle.std.specs.Prelude.{◌≡◌, ◌+◌, pos, List}
 use Rattle.std.proofs.Common.{arith, refl, inl}
-use Rattle.upp_limits.specs.rational.specs.Rational.{ℚ, ◌+ℚ◌, ◌-ℚ◌, ◌*ℚ◌, ◌≤ℚ◌, ◌<ℚ◌, int}
-use Rattle.upp_limits.specs.rational.specs.Extended.{◌<ₑ◌}
-use Rattle.upp_limits.specs.rational.proofs.Linear.{with2, with3}
-use Rattle.upp_limits.specs.rational.proofs.Laws.{le_of_lt, mul_pos}
-use Rattle.upp_limits.specs.rational.proofs.Integers.{nat_lt}
-use Rattle.upp_limits.specs.upp_curve.specs.declared.affine_segment.line.Piece.{Piece}
-use Rattle.upp_limits.specs.upp_curve.specs.declared.curve.Tail.TheVariants.{Periodic}
-use Rattle.upp_limits.specs.upp_curve.specs.affine_segment.Reading.{read}
-use Rattle.upp_limits.specs.upp_curve.specs.Curve.{SpecCurve, repeated, value_at}
-use Rattle.upp_limits.specs.min_plus.specs.Convolution.{IsConvolution}
-use Rattle.upp_limits.specs.min_plus.specs.Functions.{zero_q}
-use Rattle.upp_limits.specs.upp_curve.specs.Unrolled.{unroll}
-use Rattle.upp_limits.specs.upp_curve.specs.Steady.{rate, rise_over}
+use Rattle.rational.specs.Rational.{ℚ, ◌+ℚ◌, ◌-ℚ◌, ◌*ℚ◌, ◌≤ℚ◌, ◌<ℚ◌, int}
+use Rattle.rational.specs.Extended.{◌<ₑ◌}
+use Rattle.rational.proofs.Linear.{with2, with3}
+use Rattle.rational.proofs.Laws.{le_of_lt, mul_pos}
+use Rattle.rational.proofs.Integers.{nat_lt}
+use Rattle.upp_curve.specs.declared.affine_segment.line.Piece.{Piece}
+use Rattle.upp_curve.specs.declared.curve.Tail.TheVariants.{Periodic}
+use Rattle.upp_curve.specs.affine_segment.Reading.{read}
+use Rattle.upp_curve.specs.Curve.{SpecCurve, repeated, value_at}
+use Rattle.min_plus.specs.Convolution.{IsConvolution}
+use Rattle.min_plus.specs.Functions.{zero_q}
+use Rattle.upp_curve.specs.Unrolled.{unroll}
+use Rattle.upp_curve.specs.Steady.{rate, rise_over}
 use Rattle.upp_limits.specs.Periods.{periods_after}
-use Rattle.plain_operators.specs.curve_call.specs.declared.frame.Frame.{Frame}
+use Rattle.curve_call.specs.declared.frame.Frame.{Frame}
 use Rattle.plain_operators.specs.pointwise.Lattice.{RisesBy}
 use Rattle.plain_operators.proofs.pointwise.LatticeCalls.{operands, from_is, some_end}
 use Rattle.element_envelope.specs.ConvolutionWindows.{OperandWindows, IsConvolutionWindow}

@@ -1,14 +1,14 @@
 -- The numbers of two lines on open stretches: 1 between 2 and 3, and t - 1 after 1.
 use Rattle.std.specs.Prelude.{◌≡◌, pos, negsuc, Some}
 use Rattle.std.proofs.Common.{arith, refl, subst, inl, inr}
-use Rattle.upp_limits.specs.rational.specs.Gcd.{gcd, gcd_steps}
-use Rattle.upp_limits.specs.rational.specs.Rational.{frac, int, neg_ℚ, inv_ℚ, ◌+ℚ◌, ◌-ℚ◌, ◌*ℚ◌, ◌/ℚ◌}
-use Rattle.upp_limits.specs.rational.specs.Whole.{whole_part}
-use Rattle.upp_limits.specs.rational.specs.declared.Extended.TheVariants.{Fin, Inf}
-use Rattle.upp_limits.specs.rational.proofs.Linear.{with1}
-use Rattle.upp_limits.specs.upp_curve.specs.declared.affine_segment.line.Line.{Line}
-use Rattle.upp_limits.specs.min_plus.specs.Functions.{zero_q}
-use Rattle.upp_limits.specs.upp_curve.specs.affine_segment.Fits.{LineFitsAt}
+use Rattle.rational.specs.Gcd.{gcd, gcd_steps}
+use Rattle.rational.specs.Rational.{frac, int, neg_ℚ, inv_ℚ, ◌+ℚ◌, ◌-ℚ◌, ◌*ℚ◌, ◌/ℚ◌}
+use Rattle.rational.specs.Whole.{whole_part}
+use Rattle.rational.specs.declared.Extended.TheVariants.{Fin, Inf}
+use Rattle.rational.proofs.Linear.{with1}
+use Rattle.upp_curve.specs.declared.affine_segment.line.Line.{Line}
+use Rattle.min_plus.specs.Functions.{zero_q}
+use Rattle.upp_curve.specs.affine_segment.Fits.{LineFitsAt}
 use Rattle.subadd_closure.specs.ElementCurves.{IsStretch}
 use Rattle.subadd_closure.specs.ElementAnswers.{IsOpenPart}
 use Rattle.subadd_closure.proofs.MeetNumbers.{stretches_meet}

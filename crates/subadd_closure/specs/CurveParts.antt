@@ -1,14 +1,14 @@
 -- The parts of a curve whose closures make its closure: its points and open segments, those of the period after the
 -- rank with their copies. (Bouillard, Boyer and Le Corronc: decomposition into elementary functions.)
 use Rattle.std.specs.Prelude.{cond, List, map, Option, Some, None}
-use Rattle.upp_limits.specs.rational.specs.Rational.{ℚ, ◌+ℚ◌, le_q}
-use Rattle.upp_limits.specs.rational.specs.Extended.{Ext}
-use Rattle.upp_limits.specs.rational.specs.declared.Extended.TheVariants.{Fin, Inf}
-use Rattle.upp_limits.specs.upp_curve.specs.declared.affine_segment.element.Element.{Element}
-use Rattle.upp_limits.specs.upp_curve.specs.affine_segment.Elements.{start_of, element_value}
-use Rattle.upp_limits.specs.upp_curve.specs.declared.curve.Tail.{Tail}
-use Rattle.upp_limits.specs.upp_curve.specs.declared.curve.Tail.TheVariants.{Periodic, Affine, Infinite}
-use Rattle.upp_limits.specs.upp_curve.specs.Curve.{SpecCurve, repeated}
+use Rattle.rational.specs.Rational.{ℚ, ◌+ℚ◌, le_q}
+use Rattle.rational.specs.Extended.{Ext}
+use Rattle.rational.specs.declared.Extended.TheVariants.{Fin, Inf}
+use Rattle.upp_curve.specs.declared.affine_segment.element.Element.{Element}
+use Rattle.upp_curve.specs.affine_segment.Elements.{start_of, element_value}
+use Rattle.upp_curve.specs.declared.curve.Tail.{Tail}
+use Rattle.upp_curve.specs.declared.curve.Tail.TheVariants.{Periodic, Affine, Infinite}
+use Rattle.upp_curve.specs.Curve.{SpecCurve, repeated}
 use Rattle.element_envelope.specs.PieceElements.{elements_of}
 use Rattle.subadd_closure.specs.declared.part.Copies.{Copies}
 use Rattle.subadd_closure.specs.declared.part.Part.{Part}

@@ -1,15 +1,15 @@
 -- The closures of a point and of a line on an open stretch. (Bouillard, Boyer and Le Corronc: closures of elementary
 -- functions.)
 use Rattle.std.specs.Prelude.{◌≡◌, ℕ, suc, pos}
-use Rattle.upp_limits.specs.rational.specs.Rational.{ℚ, ◌+ℚ◌, ◌*ℚ◌, ◌≤ℚ◌, ◌<ℚ◌, int}
-use Rattle.upp_limits.specs.rational.specs.Extended.{Ext, ◌<ₑ◌}
-use Rattle.upp_limits.specs.rational.specs.Bounds.{IsInfimum}
-use Rattle.upp_limits.specs.rational.specs.declared.Extended.TheVariants.{Fin}
-use Rattle.upp_limits.specs.upp_curve.specs.declared.affine_segment.line.Line.{Line}
-use Rattle.upp_limits.specs.upp_curve.specs.declared.affine_segment.element.Element.TheVariants.{Point, Open}
-use Rattle.upp_limits.specs.upp_curve.specs.affine_segment.Elements.{element_value}
-use Rattle.upp_limits.specs.min_plus.specs.Functions.{zero_q}
-use Rattle.upp_limits.specs.min_plus.specs.Convolution.{IsSubadditiveClosure}
+use Rattle.rational.specs.Rational.{ℚ, ◌+ℚ◌, ◌*ℚ◌, ◌≤ℚ◌, ◌<ℚ◌, int}
+use Rattle.rational.specs.Extended.{Ext, ◌<ₑ◌}
+use Rattle.rational.specs.Bounds.{IsInfimum}
+use Rattle.rational.specs.declared.Extended.TheVariants.{Fin}
+use Rattle.upp_curve.specs.declared.affine_segment.line.Line.{Line}
+use Rattle.upp_curve.specs.declared.affine_segment.element.Element.TheVariants.{Point, Open}
+use Rattle.upp_curve.specs.affine_segment.Elements.{element_value}
+use Rattle.min_plus.specs.Functions.{zero_q}
+use Rattle.min_plus.specs.Convolution.{IsSubadditiveClosure}
 
 -- a whole number n from 1 on such that t is n times the time a
 pub record Multiple (a t : ℚ) : Type 0 where

@@ -1,17 +1,17 @@
 -- The closures of a point and of a line on an open stretch, as curves in normal form. (Bouillard, Boyer and Le Corronc:
 -- closures of elementary functions are ultimately pseudo-periodic.)
 use Rattle.std.specs.Prelude.{ℕ, zero, suc, ◌≤◌, pos, cond, List, [], ◌∷◌, Some, None}
-use Rattle.upp_limits.specs.rational.specs.Rational.{ℚ, ◌*ℚ◌, ◌≤ℚ◌, int, lt_q}
-use Rattle.upp_limits.specs.rational.specs.Extended.{Ext, ◌≤ₑ◌, ◌<ₑ◌}
-use Rattle.upp_limits.specs.rational.specs.declared.Extended.TheVariants.{Fin, Inf}
-use Rattle.upp_limits.specs.upp_curve.specs.declared.affine_segment.line.Line.{Line}
-use Rattle.upp_limits.specs.upp_curve.specs.declared.affine_segment.line.Piece.{Piece}
-use Rattle.upp_limits.specs.upp_curve.specs.affine_segment.Values.{line_at}
-use Rattle.upp_limits.specs.upp_curve.specs.declared.curve.Tail.TheVariants.{Periodic, Affine, Infinite}
-use Rattle.upp_limits.specs.upp_curve.specs.Curve.{SpecCurve}
-use Rattle.upp_limits.specs.min_plus.specs.Functions.{zero_q}
-use Rattle.upp_limits.specs.upp_curve.specs.affine_segment.Reading.{nothing_at}
-use Rattle.upp_limits.specs.min_plus.specs.closure_laws.Star.{nat_times}
+use Rattle.rational.specs.Rational.{ℚ, ◌*ℚ◌, ◌≤ℚ◌, int, lt_q}
+use Rattle.rational.specs.Extended.{Ext, ◌≤ₑ◌, ◌<ₑ◌}
+use Rattle.rational.specs.declared.Extended.TheVariants.{Fin, Inf}
+use Rattle.upp_curve.specs.declared.affine_segment.line.Line.{Line}
+use Rattle.upp_curve.specs.declared.affine_segment.line.Piece.{Piece}
+use Rattle.upp_curve.specs.affine_segment.Values.{line_at}
+use Rattle.upp_curve.specs.declared.curve.Tail.TheVariants.{Periodic, Affine, Infinite}
+use Rattle.upp_curve.specs.Curve.{SpecCurve}
+use Rattle.min_plus.specs.Functions.{zero_q}
+use Rattle.upp_curve.specs.affine_segment.Reading.{nothing_at}
+use Rattle.min_plus.specs.closure_laws.Star.{nat_times}
 
 -- ---- pieces
 -- infinity at x, and then a line

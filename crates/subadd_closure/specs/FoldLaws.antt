@@ -1,12 +1,12 @@
 -- What the fold answers.
 use Rattle.std.specs.Prelude.{Ok}
-use Rattle.upp_limits.specs.rational.specs.Rational.{ℚ, ◌≤ℚ◌}
-use Rattle.upp_limits.specs.upp_curve.specs.Curve.{SpecCurve, value_at}
-use Rattle.upp_limits.specs.min_plus.specs.Functions.{zero_q, IsFinite, IsNonnegative}
-use Rattle.upp_limits.specs.upp_curve.specs.Normal.{IsNormal}
-use Rattle.upp_limits.specs.min_plus.specs.Convolution.{IsSubadditiveClosure}
-use Rattle.plain_operators.specs.curve_call.specs.Determined.{IsDetermined}
-use Rattle.upp_limits.specs.min_plus.specs.closure_laws.Star.{AreStars}
+use Rattle.rational.specs.Rational.{ℚ, ◌≤ℚ◌}
+use Rattle.upp_curve.specs.Curve.{SpecCurve, value_at}
+use Rattle.min_plus.specs.Functions.{zero_q, IsFinite, IsNonnegative}
+use Rattle.upp_curve.specs.Normal.{IsNormal}
+use Rattle.min_plus.specs.Convolution.{IsSubadditiveClosure}
+use Rattle.curve_call.specs.Determined.{IsDetermined}
+use Rattle.min_plus.specs.closure_laws.Star.{AreStars}
 use Rattle.subadd_closure.specs.CurveParts.{part_value}
 use Rattle.subadd_closure.specs.declared.part.Part.{Part}
 use Rattle.subadd_closure.specs.PartLaws.{IsPart}

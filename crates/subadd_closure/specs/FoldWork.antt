@@ -1,7 +1,7 @@
 -- How many calls on curves the fold of a closure makes. Own choice.
 use Rattle.std.specs.Prelude.{ℕ, ◌+◌, ◌-◌, Option, Some, None, List, length}
 use Rattle.std.specs.List.{sum_by}
-use Rattle.upp_limits.specs.upp_curve.specs.Curve.{SpecCurve}
+use Rattle.upp_curve.specs.Curve.{SpecCurve}
 use Rattle.subadd_closure.specs.declared.part.Copies.{Copies}
 use Rattle.subadd_closure.specs.declared.part.Part.{Part}
 use Rattle.subadd_closure.specs.CurveParts.{parts_of}

@@ -1,7 +1,7 @@
 -- A curve that is too wide for any call is refused by the next call that a closure goes through.
 use Rattle.upp_limits.specs.declared.op_kind.OpKind.TheVariants.{Min, Convolve}
-use Rattle.upp_limits.specs.upp_curve.specs.Curve.{SpecCurve}
-use Rattle.upp_limits.specs.upp_curve.specs.Normal.{IsRaw}
+use Rattle.upp_curve.specs.Curve.{SpecCurve}
+use Rattle.upp_curve.specs.Normal.{IsRaw}
 use Rattle.upp_limits.specs.Gauges.{IsTooWide}
 use Rattle.subadd_closure.specs.Heavy.{IsHeavy}
 

@@ -1,13 +1,13 @@
 -- The curves that an element's closure is convolved with and lowered by: a lattice, and the value 0 at 0. (Bouillard,
 -- Boyer and Le Corronc: the copies of a periodic part.)
 use Rattle.std.specs.Prelude.{◌≡◌, [], ◌∷◌, None}
-use Rattle.upp_limits.specs.rational.specs.Rational.{ℚ, ◌≤ℚ◌, ◌<ℚ◌}
-use Rattle.upp_limits.specs.rational.specs.declared.Extended.TheVariants.{Fin}
-use Rattle.upp_limits.specs.upp_curve.specs.declared.curve.Tail.TheVariants.{Periodic}
-use Rattle.upp_limits.specs.upp_curve.specs.Curve.{SpecCurve, value_at}
-use Rattle.upp_limits.specs.min_plus.specs.Functions.{zero_q}
-use Rattle.upp_limits.specs.min_plus.specs.closure_laws.Star.{origin}
-use Rattle.upp_limits.specs.min_plus.specs.closure_laws.ClosureLaws.{IsLattice}
+use Rattle.rational.specs.Rational.{ℚ, ◌≤ℚ◌, ◌<ℚ◌}
+use Rattle.rational.specs.declared.Extended.TheVariants.{Fin}
+use Rattle.upp_curve.specs.declared.curve.Tail.TheVariants.{Periodic}
+use Rattle.upp_curve.specs.Curve.{SpecCurve, value_at}
+use Rattle.min_plus.specs.Functions.{zero_q}
+use Rattle.min_plus.specs.closure_laws.Star.{origin}
+use Rattle.min_plus.specs.closure_laws.ClosureLaws.{IsLattice}
 use Rattle.subadd_closure.specs.ElementCurves.{point_at_zero}
 
 -- n c at n d for each natural n

@@ -1,12 +1,12 @@
 -- What the parts of a curve say of it.
 use Rattle.std.specs.Prelude.{◌≡◌, List, [], ◌∷◌, map, Option, Some, None}
-use Rattle.upp_limits.specs.rational.specs.Rational.{ℚ, ◌≤ℚ◌, ◌<ℚ◌}
-use Rattle.upp_limits.specs.upp_curve.specs.affine_segment.Elements.{IsProper, start_of, element_value}
-use Rattle.upp_limits.specs.upp_curve.specs.Curve.{SpecCurve, value_at}
-use Rattle.upp_limits.specs.min_plus.specs.Functions.{zero_q, IsFinite}
-use Rattle.upp_limits.specs.upp_curve.specs.Normal.{IsNormal}
-use Rattle.upp_limits.specs.min_plus.specs.closure_laws.Star.{least_of}
-use Rattle.upp_limits.specs.min_plus.specs.closure_laws.ClosureLaws.{HasCopies}
+use Rattle.rational.specs.Rational.{ℚ, ◌≤ℚ◌, ◌<ℚ◌}
+use Rattle.upp_curve.specs.affine_segment.Elements.{IsProper, start_of, element_value}
+use Rattle.upp_curve.specs.Curve.{SpecCurve, value_at}
+use Rattle.min_plus.specs.Functions.{zero_q, IsFinite}
+use Rattle.upp_curve.specs.Normal.{IsNormal}
+use Rattle.min_plus.specs.closure_laws.Star.{least_of}
+use Rattle.min_plus.specs.closure_laws.ClosureLaws.{HasCopies}
 use Rattle.subadd_closure.specs.CurveParts.{parts_of, part_value}
 use Rattle.subadd_closure.specs.declared.part.Copies.{Copies}
 use Rattle.subadd_closure.specs.declared.part.Part.{Part}

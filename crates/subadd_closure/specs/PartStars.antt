@@ -1,6 +1,6 @@
 -- The copies of a part as the calls on it take them. Own choice.
 use Rattle.std.specs.Prelude.{Option, Some, None}
-use Rattle.upp_limits.specs.rational.specs.Rational.{ℚ}
+use Rattle.rational.specs.Rational.{ℚ}
 use Rattle.subadd_closure.specs.declared.part.Copies.{Copies}
 
 -- the period and the rise of copies

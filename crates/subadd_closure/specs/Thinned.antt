@@ -1,19 +1,19 @@
 -- The elements of the second operand of a convolution without those that are nowhere below the first operand. (Where f is
 -- subadditive and g is at most 0 at 0, f(s) + g(u) with f(u) at most g(u) is nowhere below f(s + u) + g(0): own choice.)
 use Rattle.std.specs.Prelude.{◌⊎◌, Bool, true, false, List}
-use Rattle.upp_limits.specs.rational.specs.Rational.{ℚ, ◌≤ℚ◌, ◌<ℚ◌}
-use Rattle.upp_limits.specs.rational.specs.Extended.{Ext, ◌≤ₑ◌}
-use Rattle.upp_limits.specs.rational.specs.declared.Extended.TheVariants.{Fin}
-use Rattle.upp_limits.specs.upp_curve.specs.declared.affine_segment.line.Line.{Line}
-use Rattle.upp_limits.specs.upp_curve.specs.declared.affine_segment.line.Piece.{Piece}
-use Rattle.upp_limits.specs.upp_curve.specs.declared.affine_segment.element.Element.{Element}
-use Rattle.upp_limits.specs.upp_curve.specs.declared.affine_segment.element.Element.TheVariants.{Point, Open}
-use Rattle.upp_limits.specs.upp_curve.specs.affine_segment.Elements.{Covers, level}
-use Rattle.upp_limits.specs.upp_curve.specs.affine_segment.Reading.{piece_value}
-use Rattle.upp_limits.specs.upp_curve.specs.affine_segment.Values.{line_at}
-use Rattle.upp_limits.specs.min_plus.specs.Convolution.{IsSubadditive}
-use Rattle.upp_limits.specs.min_plus.specs.Functions.{zero_q}
-use Rattle.upp_limits.specs.upp_curve.specs.Curve.{SpecCurve, value_at}
+use Rattle.rational.specs.Rational.{ℚ, ◌≤ℚ◌, ◌<ℚ◌}
+use Rattle.rational.specs.Extended.{Ext, ◌≤ₑ◌}
+use Rattle.rational.specs.declared.Extended.TheVariants.{Fin}
+use Rattle.upp_curve.specs.declared.affine_segment.line.Line.{Line}
+use Rattle.upp_curve.specs.declared.affine_segment.line.Piece.{Piece}
+use Rattle.upp_curve.specs.declared.affine_segment.element.Element.{Element}
+use Rattle.upp_curve.specs.declared.affine_segment.element.Element.TheVariants.{Point, Open}
+use Rattle.upp_curve.specs.affine_segment.Elements.{Covers, level}
+use Rattle.upp_curve.specs.affine_segment.Reading.{piece_value}
+use Rattle.upp_curve.specs.affine_segment.Values.{line_at}
+use Rattle.min_plus.specs.Convolution.{IsSubadditive}
+use Rattle.min_plus.specs.Functions.{zero_q}
+use Rattle.upp_curve.specs.Curve.{SpecCurve, value_at}
 use Rattle.element_envelope.specs.PieceElements.{Among}
 
 -- ---- what is left out

@@ -1,29 +1,29 @@
 //! The call of a convolution once more: its pieces below the end of its window, and by how much it rises over a period.
 
 ghost use Rattle.std.specs.Prelude.{◌≡◌, IfOk};
-ghost use Rattle.upp_limits.specs.rational.specs.Extended.{◌<ₑ◌, ◌≤ₑ◌};
-ghost use Rattle.upp_limits.specs.rational.specs.declared.Extended.TheVariants.{Fin};
-ghost use Rattle.upp_limits.specs.upp_curve.specs.affine_segment.Reading.{read};
-ghost use Rattle.upp_limits.specs.min_plus.specs.Convolution.{IsSubadditive};
-ghost use Rattle.upp_limits.specs.min_plus.specs.Functions.{zero_q};
-ghost use Rattle.upp_limits.specs.upp_curve.specs.Curve.{value_at};
-ghost use Rattle.upp_limits.specs.upp_curve.specs.Curves.{IsCurve};
-ghost use Rattle.upp_limits.specs.upp_curve.specs.Steady.{rate, rise_over};
-ghost use Rattle.upp_limits.specs.upp_curve.specs.Unrolled.{unroll};
+ghost use Rattle.rational.specs.Extended.{◌<ₑ◌, ◌≤ₑ◌};
+ghost use Rattle.rational.specs.declared.Extended.TheVariants.{Fin};
+ghost use Rattle.upp_curve.specs.affine_segment.Reading.{read};
+ghost use Rattle.min_plus.specs.Convolution.{IsSubadditive};
+ghost use Rattle.min_plus.specs.Functions.{zero_q};
+ghost use Rattle.upp_curve.specs.Curve.{value_at};
+ghost use Rattle.upp_curve.specs.Curves.{IsCurve};
+ghost use Rattle.upp_curve.specs.Steady.{rate, rise_over};
+ghost use Rattle.upp_curve.specs.Unrolled.{unroll};
 ghost use Rattle.element_envelope.specs.ConvolutionWindows.{OperandWindows, IsConvolutionWindow};
 ghost use Rattle.curve_conv.specs.ConvolveCall.{IsConvolveFrame};
 ghost use Rattle.plain_operators.specs.pointwise.Lattice.{RisesBy};
 ghost use Rattle.subadd_closure.specs.Thinned.{MayThin};
 
 use crate::thinned::thinned;
+use curve_call::{Frame, rise_over};
 use curve_conv::is_slower_curve;
 use element_envelope::{cut, envelope, window_convolution};
-use plain_operators::curve_call::{Frame, rise_over};
+use fraction128::Frac;
+use rational::Extended;
 use std::alloc::{AllocError, Global};
-use upp_limits::fraction128::Frac;
-use upp_limits::rational::Extended;
-use upp_limits::upp_curve::Curve;
-use upp_limits::upp_curve::affine_segment::Piece;
+use upp_curve::Curve;
+use upp_curve::affine_segment::Piece;
 use upp_normal::unrolled;
 
 // The pieces of the convolution, of which `left` and `right` are the operands' pieces: with the elements of the second

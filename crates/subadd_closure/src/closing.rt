@@ -1,16 +1,16 @@
 //! The subadditive closure of a curve: the fold of the stars of its parts.
 
 ghost use Rattle.std.specs.Prelude.{◌≡◌, ◌+◌, ◌<◌, ◌≤◌, map, length, take, IfOk, IsTrue, Err};
-ghost use Rattle.upp_limits.specs.rational.specs.Rational.{ℚ, ◌≤ℚ◌};
-ghost use Rattle.upp_limits.specs.upp_curve.specs.Curve.{value_at};
-ghost use Rattle.upp_limits.specs.min_plus.specs.Convolution.{IsSubadditive, IsSubadditiveClosure};
-ghost use Rattle.upp_limits.specs.upp_curve.specs.Curves.{IsCurve};
-ghost use Rattle.upp_limits.specs.min_plus.specs.Functions.{IsFinite, IsNonnegative, zero_q};
+ghost use Rattle.rational.specs.Rational.{ℚ, ◌≤ℚ◌};
+ghost use Rattle.upp_curve.specs.Curve.{value_at};
+ghost use Rattle.min_plus.specs.Convolution.{IsSubadditive, IsSubadditiveClosure};
+ghost use Rattle.upp_curve.specs.Curves.{IsCurve};
+ghost use Rattle.min_plus.specs.Functions.{IsFinite, IsNonnegative, zero_q};
 ghost use Rattle.upp_limits.specs.declared.op_kind.OpKind.TheVariants.{Convolve};
 ghost use Rattle.element_envelope.specs.PieceElements.{elements_of};
-ghost use Rattle.plain_operators.specs.curve_call.specs.Calls.{Applies};
+ghost use Rattle.curve_call.specs.Calls.{Applies};
 ghost use Rattle.outcomes.specs.Calls.{Then};
-ghost use Rattle.upp_limits.specs.min_plus.specs.closure_laws.ClosureLaws.{ClosureKeeps};
+ghost use Rattle.min_plus.specs.closure_laws.ClosureLaws.{ClosureKeeps};
 ghost use Rattle.subadd_closure.specs.CurveParts.{pieces_end, part_of};
 ghost use Rattle.subadd_closure.specs.Folds.{PartAnswer, PartsAnswer, CloseAnswer};
 ghost use Rattle.subadd_closure.specs.FoldMemory.{StopsAt, CloseWants};
@@ -22,15 +22,15 @@ use crate::overlaps::{is_within, own_gauge};
 use crate::part::elements;
 use crate::part_stars::element_star;
 use crate::star_convolution::convolve_counted;
+use curve_call::intact;
+use fraction128::Frac;
 use outcomes::Steps;
-use plain_operators::curve_call::intact;
+use rational::Extended;
 use std::alloc::Global;
 use std::sync::ledger::Ledger;
+use upp_curve::Curve;
+use upp_curve::affine_segment::Element;
 use upp_limits::OpFault;
-use upp_limits::fraction128::Frac;
-use upp_limits::rational::Extended;
-use upp_limits::upp_curve::Curve;
-use upp_limits::upp_curve::affine_segment::Element;
 
 // What the parts so far make, convolved with the star of one more element. Where `next_within` is false, the segment of
 // the next part may be over a limit: then the convolution is counted once it is answered, so that where all calls are

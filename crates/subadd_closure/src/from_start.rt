@@ -1,12 +1,12 @@
 //! The convolution of two curves with the value at 0 set.
 
 ghost use Rattle.std.specs.Prelude.{◌≡◌, ◌+◌, IfOk, IsTrue};
-ghost use Rattle.upp_limits.specs.rational.specs.Rational.{◌≤ℚ◌};
-ghost use Rattle.upp_limits.specs.upp_curve.specs.Curve.{value_at};
-ghost use Rattle.upp_limits.specs.min_plus.specs.Functions.{IsNonnegative, zero_q};
+ghost use Rattle.rational.specs.Rational.{◌≤ℚ◌};
+ghost use Rattle.upp_curve.specs.Curve.{value_at};
+ghost use Rattle.min_plus.specs.Functions.{IsNonnegative, zero_q};
 ghost use Rattle.upp_limits.specs.declared.op_kind.OpKind.TheVariants.{Convolve};
 ghost use Rattle.curve_conv.specs.ConvolveCall.{IsConvolveFrame};
-ghost use Rattle.plain_operators.specs.curve_call.specs.Calls.{Applies};
+ghost use Rattle.curve_call.specs.Calls.{Applies};
 ghost use Rattle.outcomes.specs.Calls.{Then};
 ghost use Rattle.subadd_closure.specs.StartsAt.{ConvolvesFinitely, ConvolvesPastZero, StartsAt};
 ghost use Rattle.subadd_closure.specs.Thinned.{MayThin};
@@ -15,14 +15,14 @@ use crate::again::{slower_rise, window_of};
 use crate::parts::{repeats_start, with_first};
 use crate::star_convolution::{convolve_stars, star_frame};
 use crate::starting::with_start;
+use curve_call::{Frame, answer, intact};
+use fraction128::{Frac, difference};
 use outcomes::Steps;
-use plain_operators::curve_call::{Frame, answer, intact};
+use rational::Extended;
 use std::alloc::{AllocError, Global};
 use std::sync::ledger::Ledger;
+use upp_curve::Curve;
 use upp_limits::OpFault;
-use upp_limits::fraction128::{Frac, difference};
-use upp_limits::rational::Extended;
-use upp_limits::upp_curve::Curve;
 
 // Whether the value at 0 is known to be `start`.
 fn begins_at(c: &Curve, start: Frac) -> bool

@@ -1,16 +1,16 @@
 //! The curves that an element's closure is convolved with and lowered by.
 
 ghost use Rattle.std.specs.Prelude.{◌≡◌, IfOk};
-ghost use Rattle.upp_limits.specs.rational.specs.Rational.{◌<ℚ◌, ◌/ℚ◌};
-ghost use Rattle.upp_limits.specs.rational.specs.Ratio.{IsSmall};
-ghost use Rattle.upp_limits.specs.min_plus.specs.Functions.{zero_q};
+ghost use Rattle.rational.specs.Rational.{◌<ℚ◌, ◌/ℚ◌};
+ghost use Rattle.rational.specs.Ratio.{IsSmall};
+ghost use Rattle.min_plus.specs.Functions.{zero_q};
 ghost use Rattle.subadd_closure.specs.Lattices.{lattice_curve, origin_curve};
 
+use fraction128::Frac;
+use rational::Extended;
 use std::alloc::{AllocError, Global};
-use upp_limits::fraction128::Frac;
-use upp_limits::rational::Extended;
-use upp_limits::upp_curve::affine_segment::Piece;
-use upp_limits::upp_curve::{Curve, Tail};
+use upp_curve::affine_segment::Piece;
+use upp_curve::{Curve, Tail};
 
 /// n times the rise at n times the period for each natural n, and infinity elsewhere. The period is above 0, and rise /
 /// period fits, as of each curve with that tail.

@@ -1,17 +1,17 @@
 //! Whole multiples, and the pieces that are made of them, where the steps fit.
 
 ghost use Rattle.std.specs.Prelude.{◌≡◌, ◌<◌, ◌^◌, suc, Some, IfSome, IsSome};
-ghost use Rattle.upp_limits.specs.rational.specs.Rational.{◌-ℚ◌, neg_ℚ};
-ghost use Rattle.upp_limits.specs.rational.specs.Ratio.{IsSmall, SumFits};
-ghost use Rattle.upp_limits.specs.upp_curve.specs.affine_segment.Values.{line_at};
-ghost use Rattle.upp_limits.specs.upp_curve.specs.affine_segment.Fits.{LineFitsAt};
+ghost use Rattle.rational.specs.Rational.{◌-ℚ◌, neg_ℚ};
+ghost use Rattle.rational.specs.Ratio.{IsSmall, SumFits};
+ghost use Rattle.upp_curve.specs.affine_segment.Values.{line_at};
+ghost use Rattle.upp_curve.specs.affine_segment.Fits.{LineFitsAt};
 ghost use Rattle.subadd_closure.specs.ElementCurves.{line_times, stretch, turn};
-ghost use Rattle.upp_limits.specs.min_plus.specs.closure_laws.Star.{nat_times};
+ghost use Rattle.min_plus.specs.closure_laws.Star.{nat_times};
 ghost use Rattle.subadd_closure.specs.PieceFits.{PieceFits};
 
-use upp_limits::fraction128::Frac;
-use upp_limits::rational::Extended;
-use upp_limits::upp_curve::affine_segment::{Line, Piece, value};
+use fraction128::Frac;
+use rational::Extended;
+use upp_curve::affine_segment::{Line, Piece, value};
 
 /// n times x.
 pub(crate) fn whole_times(n: u64, x: Frac) -> Option<Frac>

@@ -2,18 +2,18 @@
 //! closure's fold: so a closure of too many pieces is never made.
 
 ghost use Rattle.std.specs.Prelude.{◌≡◌, ◌+◌, ◌*◌, ◌<◌, ◌≤◌, ◌^◌, IfOk, IfErr, IsTrue};
-ghost use Rattle.upp_limits.specs.rational.specs.Rational.{◌-ℚ◌, ◌/ℚ◌, ◌<ℚ◌};
-ghost use Rattle.upp_limits.specs.rational.specs.Whole.{whole_part};
-ghost use Rattle.upp_limits.specs.upp_curve.specs.declared.affine_segment.element.Element.TheVariants.{Open};
-ghost use Rattle.upp_limits.specs.min_plus.specs.Functions.{zero_q};
+ghost use Rattle.rational.specs.Rational.{◌-ℚ◌, ◌/ℚ◌, ◌<ℚ◌};
+ghost use Rattle.rational.specs.Whole.{whole_part};
+ghost use Rattle.upp_curve.specs.declared.affine_segment.element.Element.TheVariants.{Open};
+ghost use Rattle.min_plus.specs.Functions.{zero_q};
 ghost use Rattle.subadd_closure.specs.Folds.{segment_number, SegmentWithin, SegmentCause};
 ghost use Rattle.subadd_closure.specs.SegmentLimits.{IsElementOf, IsOwnGauge, LengthsFit, IsOverLimit, IsOverlap};
 
-use plain_operators::curve_call::first_window;
-use upp_limits::fraction128::{Ext, Frac, difference, is_less, quotient};
-use upp_limits::rational::Extended;
-use upp_limits::upp_curve::Curve;
-use upp_limits::upp_curve::affine_segment::{Element, Line};
+use curve_call::first_window;
+use fraction128::{Ext, Frac, difference, is_less, quotient};
+use rational::Extended;
+use upp_curve::Curve;
+use upp_curve::affine_segment::{Element, Line};
 use upp_limits::{OpFault, OpKind, call_numbers};
 
 /// The gauge of a curve by itself; None where it is 2^120 or more. No memory is taken.

@@ -1,18 +1,18 @@
 //! The parts of a curve.
 
 ghost use Rattle.std.specs.Prelude.{◌≡◌, IfOk};
-ghost use Rattle.upp_limits.specs.rational.specs.Rational.{◌+ℚ◌};
-ghost use Rattle.upp_limits.specs.rational.specs.Ratio.{SumFits};
-ghost use Rattle.upp_limits.specs.upp_curve.specs.affine_segment.Elements.{start_of};
+ghost use Rattle.rational.specs.Rational.{◌+ℚ◌};
+ghost use Rattle.rational.specs.Ratio.{SumFits};
+ghost use Rattle.upp_curve.specs.affine_segment.Elements.{start_of};
 ghost use Rattle.subadd_closure.specs.CurveParts.{pieces_end, copies_of, part_of};
 ghost use Rattle.element_envelope.specs.PieceElements.{elements_of};
 
 use element_envelope::cut;
+use fraction128::{Ext, Frac, is_less, sum};
+use rational::Extended;
 use std::alloc::{AllocError, Global};
-use upp_limits::fraction128::{Ext, Frac, is_less, sum};
-use upp_limits::rational::Extended;
-use upp_limits::upp_curve::affine_segment::{Element, start_of};
-use upp_limits::upp_curve::{Curve, Tail};
+use upp_curve::affine_segment::{Element, start_of};
+use upp_curve::{Curve, Tail};
 
 /// Copies, each a period later and a rise higher than the one before.
 #[derive(Debug, Clone, Copy)]

@@ -1,8 +1,8 @@
 //! The star of a part of a curve, as the fold of the closure takes it.
 
 ghost use Rattle.std.specs.Prelude.{◌≡◌, ◌+◌, ◌≤◌, IfOk, Err};
-ghost use Rattle.upp_limits.specs.upp_curve.specs.Curve.{value_at};
-ghost use Rattle.upp_limits.specs.min_plus.specs.Functions.{IsFinite, IsNonnegative};
+ghost use Rattle.upp_curve.specs.Curve.{value_at};
+ghost use Rattle.min_plus.specs.Functions.{IsFinite, IsNonnegative};
 ghost use Rattle.subadd_closure.specs.CurveParts.{part_of};
 ghost use Rattle.subadd_closure.specs.Folds.{PartAnswer};
 ghost use Rattle.subadd_closure.specs.FoldMemory.{PartWants};
@@ -13,13 +13,13 @@ ghost use Rattle.subadd_closure.specs.SegmentLimits.{IsElementOf, IsOwnGauge};
 use crate::overlaps::overlap;
 use crate::part::part_of;
 use crate::stars::{point_star, segment_star};
+use fraction128::Frac;
 use outcomes::Steps;
 use std::alloc::Global;
 use std::sync::ledger::Ledger;
+use upp_curve::affine_segment::Element;
+use upp_curve::{Curve, Tail};
 use upp_limits::OpFault;
-use upp_limits::fraction128::Frac;
-use upp_limits::upp_curve::affine_segment::Element;
-use upp_limits::upp_curve::{Curve, Tail};
 
 // The period and the rise of the copies of an element of a curve with this tail.
 fn turn_of(tail: &Tail, e: &Element) -> Option<(Frac, Frac)>

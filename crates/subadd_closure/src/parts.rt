@@ -1,17 +1,17 @@
 //! Pieces of a window: what is read of them at a time, and the value at the start of the first.
 
 ghost use Rattle.std.specs.Prelude.{◌≡◌, pos, List, ◌∷◌, IsTrue, ◌↔◌};
-ghost use Rattle.upp_limits.specs.rational.specs.Rational.{ℚ, int, ◌+ℚ◌, ◌≤ℚ◌, ◌<ℚ◌, neg_ℚ, le_q};
-ghost use Rattle.upp_limits.specs.upp_curve.specs.affine_segment.Values.{line_value};
-ghost use Rattle.upp_limits.specs.upp_curve.specs.affine_segment.Fits.{ReadFits, LineFitsAt};
-ghost use Rattle.upp_limits.specs.upp_curve.specs.affine_segment.Pieces.{StartsAtZero};
-ghost use Rattle.upp_limits.specs.upp_curve.specs.Readable.{SumFitsAt};
-ghost use Rattle.upp_limits.specs.upp_curve.specs.affine_segment.Reading.{piece_in, piece_value, read};
+ghost use Rattle.rational.specs.Rational.{ℚ, int, ◌+ℚ◌, ◌≤ℚ◌, ◌<ℚ◌, neg_ℚ, le_q};
+ghost use Rattle.upp_curve.specs.affine_segment.Values.{line_value};
+ghost use Rattle.upp_curve.specs.affine_segment.Fits.{ReadFits, LineFitsAt};
+ghost use Rattle.upp_curve.specs.affine_segment.Pieces.{StartsAtZero};
+ghost use Rattle.upp_curve.specs.Readable.{SumFitsAt};
+ghost use Rattle.upp_curve.specs.affine_segment.Reading.{piece_in, piece_value, read};
 ghost use Rattle.subadd_closure.specs.Starting.{first_at};
 
-use upp_limits::fraction128::{Ext, Frac, difference};
-use upp_limits::rational::Extended;
-use upp_limits::upp_curve::affine_segment::{Piece, read};
+use fraction128::{Ext, Frac, difference};
+use rational::Extended;
+use upp_curve::affine_segment::{Piece, read};
 
 /// Whether the value a period after 0 is `start`, risen by `rise`.
 pub(crate) fn repeats_start(pieces: &[Piece], period: Frac, rise: Frac, start: Frac) -> bool

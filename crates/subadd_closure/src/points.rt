@@ -1,19 +1,19 @@
 //! The closure of a point.
 
-ghost use Rattle.upp_limits.specs.rational.specs.Rational.{◌≤ℚ◌, ◌<ℚ◌};
-ghost use Rattle.upp_limits.specs.upp_curve.specs.declared.affine_segment.element.Element.TheVariants.{Point};
-ghost use Rattle.upp_limits.specs.min_plus.specs.Functions.{zero_q};
+ghost use Rattle.rational.specs.Rational.{◌≤ℚ◌, ◌<ℚ◌};
+ghost use Rattle.upp_curve.specs.declared.affine_segment.element.Element.TheVariants.{Point};
+ghost use Rattle.min_plus.specs.Functions.{zero_q};
 ghost use Rattle.subadd_closure.specs.ElementCurves.{point_closure, point_at_zero};
 ghost use Rattle.subadd_closure.specs.ElementAnswers.{ClosureAnswer};
 ghost use Rattle.subadd_closure.specs.PieceFits.{IsMade};
 
 use crate::segments::made;
+use fraction128::{Frac, is_less};
+use rational::Extended;
 use std::alloc::Global;
+use upp_curve::affine_segment::Piece;
+use upp_curve::{Curve, Tail};
 use upp_limits::OpFault;
-use upp_limits::fraction128::{Frac, is_less};
-use upp_limits::rational::Extended;
-use upp_limits::upp_curve::affine_segment::Piece;
-use upp_limits::upp_curve::{Curve, Tail};
 use upp_normal::RawCurve;
 
 // n v at n x, x after 0.

@@ -2,27 +2,25 @@
 //! infinite up to when they repeat, and may be infinite again and again.
 
 ghost use Rattle.std.specs.Prelude.{◌≡◌, ◌+◌, pos, None, IfSome, IsTrue};
-ghost use Rattle.upp_limits.specs.rational.specs.Rational.{ℚ, int, ◌+ℚ◌, ◌-ℚ◌, ◌*ℚ◌, ◌≤ℚ◌, ◌<ℚ◌};
-ghost use Rattle.upp_limits.specs.upp_curve.specs.Steady.{rise_over};
-ghost use Rattle.upp_limits.specs.rational.specs.declared.Extended.TheVariants.{Fin, Inf};
-ghost use Rattle.upp_limits.specs.upp_curve.specs.Curve.{value_at};
-ghost use Rattle.upp_limits.specs.min_plus.specs.Functions.{zero_q};
+ghost use Rattle.rational.specs.Rational.{ℚ, int, ◌+ℚ◌, ◌-ℚ◌, ◌*ℚ◌, ◌≤ℚ◌, ◌<ℚ◌};
+ghost use Rattle.upp_curve.specs.Steady.{rise_over};
+ghost use Rattle.rational.specs.declared.Extended.TheVariants.{Fin, Inf};
+ghost use Rattle.upp_curve.specs.Curve.{value_at};
+ghost use Rattle.min_plus.specs.Functions.{zero_q};
 ghost use Rattle.upp_limits.specs.Limits.{Sizes};
 ghost use Rattle.upp_normal.specs.Ahead.{HasWindow, IsTimeIn};
-ghost use Rattle.plain_operators.specs.curve_call.specs.Gaps.{InWindow, IsLargest};
-ghost use Rattle.plain_operators.specs.curve_call.specs.Levels.{level_curve};
+ghost use Rattle.curve_call.specs.Gaps.{InWindow, IsLargest};
+ghost use Rattle.curve_call.specs.Levels.{level_curve};
 ghost use Rattle.curve_conv.specs.Late.{IsLateCall, IsPartsCall};
 ghost use Rattle.curve_conv.specs.LateBounds.{IsLateBounds, IsSlowerBounds};
 ghost use Rattle.subadd_closure.specs.QuickBounds.{BeginsLate, IsFloor, IsLevel};
 
+use curve_call::{Bounds, Gap, Side, begin, is_slower, period_or, rise_over, side_gap, zero_level};
 use curve_conv::{checked_sum, is_slower_curve, periods_over, value_there};
-use plain_operators::curve_call::{
-    Bounds, Gap, Side, begin, is_slower, period_or, rise_over, side_gap, zero_level,
-};
-use upp_limits::fraction128::{Frac, difference, is_less};
-use upp_limits::rational::Extended;
-use upp_limits::upp_curve::affine_segment::Piece;
-use upp_limits::upp_curve::{Curve, Tail};
+use fraction128::{Frac, difference, is_less};
+use rational::Extended;
+use upp_curve::affine_segment::Piece;
+use upp_curve::{Curve, Tail};
 
 // ---- few numbers of a curve
 // The least number that a curve is nowhere above from `from` up to `end`; none where it is infinite somewhere.

@@ -1,27 +1,27 @@
 //! The closure of a line on an open stretch.
 
 ghost use Rattle.std.specs.Prelude.{◌≡◌, ◌≤◌, ◌+◌, ◌^◌, ℕ, suc, Some};
-ghost use Rattle.upp_limits.specs.upp_curve.specs.affine_segment.Fits.{LineFitsAt};
-ghost use Rattle.upp_limits.specs.rational.specs.Rational.{◌≤ℚ◌, ◌<ℚ◌};
-ghost use Rattle.upp_limits.specs.upp_curve.specs.declared.affine_segment.element.Element.TheVariants.{Open};
-ghost use Rattle.upp_limits.specs.min_plus.specs.Functions.{zero_q};
-ghost use Rattle.upp_limits.specs.upp_curve.specs.Normal.{IsRaw, IsNormal};
+ghost use Rattle.upp_curve.specs.affine_segment.Fits.{LineFitsAt};
+ghost use Rattle.rational.specs.Rational.{◌≤ℚ◌, ◌<ℚ◌};
+ghost use Rattle.upp_curve.specs.declared.affine_segment.element.Element.TheVariants.{Open};
+ghost use Rattle.min_plus.specs.Functions.{zero_q};
+ghost use Rattle.upp_curve.specs.Normal.{IsRaw, IsNormal};
 ghost use Rattle.upp_normal.specs.Normalising.{raw_curve};
 ghost use Rattle.upp_limits.specs.Limits.{own_tally};
 ghost use Rattle.subadd_closure.specs.ElementCurves.{level_closure, rising_closure, falling_closure};
-ghost use Rattle.upp_limits.specs.min_plus.specs.closure_laws.Star.{nat_times};
+ghost use Rattle.min_plus.specs.closure_laws.Star.{nat_times};
 ghost use Rattle.subadd_closure.specs.PieceFits.{IsMade, Turns};
 ghost use Rattle.subadd_closure.specs.ElementAnswers.{ClosureAnswer, IsOpenPart};
 
 use crate::multiples::{falling_turn, rising_turn, value_on, whole_times};
 use crate::stretches::{all_stretches, slopes_read, started, with_last};
+use fraction128::{Ext, Frac, is_less};
+use rational::Extended;
 use std::alloc::Global;
 use std::cmp::Ordering;
+use upp_curve::affine_segment::{Line, Piece};
+use upp_curve::{Curve, Tail};
 use upp_limits::OpFault;
-use upp_limits::fraction128::{Ext, Frac, is_less};
-use upp_limits::rational::Extended;
-use upp_limits::upp_curve::affine_segment::{Line, Piece};
-use upp_limits::upp_curve::{Curve, Tail};
 use upp_normal::{RawCurve, normalise};
 
 /// The normal form of a curve with few pieces that repeats.

@@ -2,33 +2,31 @@
 //! many periods it needs.
 
 ghost use Rattle.std.specs.Prelude.{◌≡◌, ◌⊎◌, ◌+◌, ◌≤◌, IfOk, IfErr, IfSome, IsTrue, Err};
-ghost use Rattle.upp_limits.specs.rational.specs.Rational.{ℚ, ◌-ℚ◌, ◌≤ℚ◌};
-ghost use Rattle.upp_limits.specs.upp_curve.specs.Curve.{value_at};
-ghost use Rattle.upp_limits.specs.upp_curve.specs.Curves.{IsCurve};
-ghost use Rattle.upp_limits.specs.upp_curve.specs.Unrolled.{unroll};
-ghost use Rattle.upp_limits.specs.min_plus.specs.Convolution.{IsConvolution};
-ghost use Rattle.upp_limits.specs.min_plus.specs.Functions.{zero_q};
+ghost use Rattle.rational.specs.Rational.{ℚ, ◌-ℚ◌, ◌≤ℚ◌};
+ghost use Rattle.upp_curve.specs.Curve.{value_at};
+ghost use Rattle.upp_curve.specs.Curves.{IsCurve};
+ghost use Rattle.upp_curve.specs.Unrolled.{unroll};
+ghost use Rattle.min_plus.specs.Convolution.{IsConvolution};
+ghost use Rattle.min_plus.specs.Functions.{zero_q};
 ghost use Rattle.upp_limits.specs.Outcome.{IsCauseOf, IsWithin, KeepsLimits};
 ghost use Rattle.upp_limits.specs.declared.op_kind.OpKind.TheVariants.{Convolve};
-ghost use Rattle.plain_operators.specs.curve_call.specs.FirstWindows.{IsFirstWindow};
+ghost use Rattle.curve_call.specs.FirstWindows.{IsFirstWindow};
 ghost use Rattle.element_envelope.specs.ConvolutionWindows.{IsConvolutionWindow};
-ghost use Rattle.plain_operators.specs.curve_call.specs.Frames.{IsFrame};
+ghost use Rattle.curve_call.specs.Frames.{IsFrame};
 ghost use Rattle.curve_conv.specs.ConvolveCall.{IsConvolveFrame};
 ghost use Rattle.curve_conv.specs.LateBounds.{IsSlowerBounds};
 ghost use Rattle.subadd_closure.specs.Thinned.{MayThin};
 
 use crate::again::{slower_rise, window_of};
 use crate::quick_bounds::quick_bounds;
+use curve_call::{Bounds, CallWindow, Frame, answer, first_window, refuse_between, within};
 use curve_conv::convolve_frame;
+use fraction128::{Frac, difference};
 use outcomes::Steps;
-use plain_operators::curve_call::{
-    Bounds, CallWindow, Frame, answer, first_window, refuse_between, within,
-};
 use std::alloc::{AllocError, Global};
 use std::sync::ledger::Ledger;
-use upp_limits::fraction128::{Frac, difference};
-use upp_limits::upp_curve::Curve;
-use upp_limits::upp_curve::affine_segment::Piece;
+use upp_curve::Curve;
+use upp_curve::affine_segment::Piece;
 use upp_limits::{OpFault, OpKind, tally_over};
 
 // The frame with the upper bound of the number of periods, where the call is within both limits with it, and not much

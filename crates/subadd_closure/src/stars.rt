@@ -2,30 +2,30 @@
 //! point 0 at 0.
 
 ghost use Rattle.std.specs.Prelude.{◌≡◌, ◌+◌, ◌≤◌, ◌^◌, IfOk, Some, None, Err};
-ghost use Rattle.upp_limits.specs.rational.specs.Rational.{◌<ℚ◌, ◌≤ℚ◌, ◌/ℚ◌};
-ghost use Rattle.upp_limits.specs.rational.specs.Ratio.{IsSmall};
-ghost use Rattle.upp_limits.specs.upp_curve.specs.declared.affine_segment.element.Element.TheVariants.{Point, Open};
-ghost use Rattle.upp_limits.specs.min_plus.specs.Functions.{zero_q};
-ghost use Rattle.upp_limits.specs.min_plus.specs.Convolution.{IsSubadditive};
-ghost use Rattle.upp_limits.specs.upp_curve.specs.Curve.{value_at};
+ghost use Rattle.rational.specs.Rational.{◌<ℚ◌, ◌≤ℚ◌, ◌/ℚ◌};
+ghost use Rattle.rational.specs.Ratio.{IsSmall};
+ghost use Rattle.upp_curve.specs.declared.affine_segment.element.Element.TheVariants.{Point, Open};
+ghost use Rattle.min_plus.specs.Functions.{zero_q};
+ghost use Rattle.min_plus.specs.Convolution.{IsSubadditive};
+ghost use Rattle.upp_curve.specs.Curve.{value_at};
 ghost use Rattle.upp_limits.specs.declared.op_kind.OpKind.TheVariants.{Convolve};
-ghost use Rattle.plain_operators.specs.curve_call.specs.Calls.{Applies};
+ghost use Rattle.curve_call.specs.Calls.{Applies};
 ghost use Rattle.subadd_closure.specs.Lattices.{lattice_curve};
-ghost use Rattle.upp_limits.specs.upp_curve.specs.affine_segment.Fits.{LineFitsAt};
+ghost use Rattle.upp_curve.specs.affine_segment.Fits.{LineFitsAt};
 ghost use Rattle.subadd_closure.specs.ElementAnswers.{IsOpenPart};
 ghost use Rattle.subadd_closure.specs.Stars.{Copies, ElementWants, IsPeriodAndRise, Lowers, MakesStar, StarOf, StarWants, turn_work};
 
 use crate::star_convolution::convolve_stars;
 use crate::{lattice, origin, point_closure, segment_closure};
+use curve_call::intact;
+use fraction128::{Ext, Frac};
 use outcomes::Steps;
-use plain_operators::curve_call::intact;
 use plain_operators::pointwise::min;
 use std::alloc::Global;
 use std::sync::ledger::Ledger;
+use upp_curve::Curve;
+use upp_curve::affine_segment::Line;
 use upp_limits::OpFault;
-use upp_limits::fraction128::{Ext, Frac};
-use upp_limits::upp_curve::Curve;
-use upp_limits::upp_curve::affine_segment::Line;
 
 // A curve lowered by the point 0 at 0.
 fn lowered<L: Ledger>(alloc: Global, c: &Curve, steps: &mut Steps<L>) -> Result<Curve, OpFault>

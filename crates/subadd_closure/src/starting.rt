@@ -1,14 +1,14 @@
 //! A curve with its value at 0 set to another.
 
 ghost use Rattle.std.specs.Prelude.{◌≡◌, IfOk};
-ghost use Rattle.upp_limits.specs.upp_curve.specs.Curve.{value_at};
+ghost use Rattle.upp_curve.specs.Curve.{value_at};
 ghost use Rattle.subadd_closure.specs.Starting.{first_at, started_at, KeepsTail, IsStartedAt};
 
+use fraction128::{Ext, Frac};
+use rational::Extended;
 use std::alloc::{AllocError, Global};
-use upp_limits::fraction128::{Ext, Frac};
-use upp_limits::rational::Extended;
-use upp_limits::upp_curve::Curve;
-use upp_limits::upp_curve::affine_segment::Piece;
+use upp_curve::Curve;
+use upp_curve::affine_segment::Piece;
 
 // The pieces with the value v at the start of the first.
 fn first_at(alloc: Global, pieces: &[Piece], v: Frac) -> Result<Vec<Piece>, AllocError>

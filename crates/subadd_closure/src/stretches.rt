@@ -1,17 +1,17 @@
 //! The pieces of the stretches of sums, one after another.
 
 ghost use Rattle.std.specs.Prelude.{◌≡◌, ◌≤◌, ◌<◌, ◌^◌, ◌++◌, ℕ, suc, [], ◌∷◌, IfOk, IfErr, OnOk, None, IsTrue, ◌↔◌};
-ghost use Rattle.upp_limits.specs.rational.specs.Rational.{◌≤ℚ◌};
+ghost use Rattle.rational.specs.Rational.{◌≤ℚ◌};
 ghost use Rattle.subadd_closure.specs.ElementCurves.{after_gap, from_zero, stretches, all_stretches};
-ghost use Rattle.upp_limits.specs.min_plus.specs.closure_laws.Star.{nat_times};
+ghost use Rattle.min_plus.specs.closure_laws.Star.{nat_times};
 ghost use Rattle.subadd_closure.specs.PieceFits.{IsUnfit, SlopeFitsAt, SlopesRead};
 
 use crate::multiples::{stretch, whole_times};
+use fraction128::{Frac, is_less};
+use rational::Extended;
 use std::alloc::{AllocError, Global};
+use upp_curve::affine_segment::{Line, Piece};
 use upp_limits::OpFault;
-use upp_limits::fraction128::{Frac, is_less};
-use upp_limits::rational::Extended;
-use upp_limits::upp_curve::affine_segment::{Line, Piece};
 
 /// A piece at a, after a gap from 0 on where a is after 0.
 pub(crate) fn started(alloc: Global, a: Frac, first: Piece) -> Result<Vec<Piece>, AllocError>

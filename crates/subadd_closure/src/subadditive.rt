@@ -1,18 +1,18 @@
 //! Whether a curve is subadditive.
 
 ghost use Rattle.std.specs.Prelude.{◌≡◌, ◌+◌, ◌≤◌, ◌↔◌, IfOk, IsTrue, Err};
-ghost use Rattle.upp_limits.specs.upp_curve.specs.Curve.{value_at};
-ghost use Rattle.upp_limits.specs.min_plus.specs.Convolution.{IsSubadditive};
+ghost use Rattle.upp_curve.specs.Curve.{value_at};
+ghost use Rattle.min_plus.specs.Convolution.{IsSubadditive};
 ghost use Rattle.subadd_closure.specs.Tests.{TestsSubadditive, TestWants};
 
+use curve_call::intact;
 use curve_conv::convolve;
 use outcomes::Steps;
-use plain_operators::curve_call::intact;
 use plain_operators::pointwise::min;
 use std::alloc::Global;
 use std::sync::ledger::Ledger;
+use upp_curve::{Curve, equal};
 use upp_limits::OpFault;
-use upp_limits::upp_curve::{Curve, equal};
 
 /// Whether f(s + u) is at most f(s) + f(u) for all times s and u from 0 on (Le Boudec and Thiran, chapter 3); f may be
 /// infinite anywhere. Two operators, one step each: the convolution of f with itself, and the lesser of f and that,

@@ -1,23 +1,23 @@
 //! The elements of the second operand of a convolution without those that are nowhere below the first operand.
 
 ghost use Rattle.std.specs.Prelude.{◌≡◌, IfOk, IsTrue, Some};
-ghost use Rattle.upp_limits.specs.rational.specs.Rational.{ℚ, ◌≤ℚ◌, ◌<ℚ◌};
-ghost use Rattle.upp_limits.specs.rational.specs.Extended.{◌≤ₑ◌, ◌<ₑ◌};
-ghost use Rattle.upp_limits.specs.rational.specs.declared.Extended.TheVariants.{Fin};
-ghost use Rattle.upp_limits.specs.upp_curve.specs.affine_segment.Values.{line_at};
-ghost use Rattle.upp_limits.specs.upp_curve.specs.affine_segment.Reading.{read};
-ghost use Rattle.upp_limits.specs.upp_curve.specs.affine_segment.Pieces.{Each, StartsAtZero};
-ghost use Rattle.upp_limits.specs.min_plus.specs.Functions.{zero_q};
-ghost use Rattle.upp_limits.specs.upp_curve.specs.Curve.{value_at};
-ghost use Rattle.upp_limits.specs.upp_curve.specs.Curves.{IsCurve};
-ghost use Rattle.upp_limits.specs.upp_curve.specs.Unrolled.{unroll, upto};
+ghost use Rattle.rational.specs.Rational.{ℚ, ◌≤ℚ◌, ◌<ℚ◌};
+ghost use Rattle.rational.specs.Extended.{◌≤ₑ◌, ◌<ₑ◌};
+ghost use Rattle.rational.specs.declared.Extended.TheVariants.{Fin};
+ghost use Rattle.upp_curve.specs.affine_segment.Values.{line_at};
+ghost use Rattle.upp_curve.specs.affine_segment.Reading.{read};
+ghost use Rattle.upp_curve.specs.affine_segment.Pieces.{Each, StartsAtZero};
+ghost use Rattle.min_plus.specs.Functions.{zero_q};
+ghost use Rattle.upp_curve.specs.Curve.{value_at};
+ghost use Rattle.upp_curve.specs.Curves.{IsCurve};
+ghost use Rattle.upp_curve.specs.Unrolled.{unroll, upto};
 ghost use Rattle.subadd_closure.specs.Thinned.{LiesUnder, IsOver, IsThinned};
 
+use fraction128::{Ext, Frac, is_less};
+use rational::Extended;
 use std::alloc::{AllocError, Global};
-use upp_limits::fraction128::{Ext, Frac, is_less};
-use upp_limits::rational::Extended;
-use upp_limits::upp_curve::Curve;
-use upp_limits::upp_curve::affine_segment::{Element, Line, Piece, start_of, value};
+use upp_curve::Curve;
+use upp_curve::affine_segment::{Element, Line, Piece, start_of, value};
 
 // Whether a is at most b.
 fn is_at_most(a: Frac, b: Frac) -> bool

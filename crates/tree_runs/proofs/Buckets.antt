@@ -1,10 +1,10 @@
 -- Token buckets grow along a tree by the rate times the stay.
 use Rattle.std.proofs.Common.{arith}
-use Rattle.min_plus.specs.rational.specs.Rational.{ℚ, ◌+ℚ◌, ◌*ℚ◌}
-use Rattle.min_plus.specs.rational.specs.Extended.{Ext, ◌≤ₑ◌, ◌+ₑ◌}
-use Rattle.min_plus.specs.rational.specs.declared.Extended.TheVariants.{Fin, Inf}
-use Rattle.min_plus.specs.rational.proofs.Laws.{mul_add}
-use Rattle.min_plus.specs.rational.proofs.Linear.{with5}
+use Rattle.rational.specs.Rational.{ℚ, ◌+ℚ◌, ◌*ℚ◌}
+use Rattle.rational.specs.Extended.{Ext, ◌≤ₑ◌, ◌+ₑ◌}
+use Rattle.rational.specs.declared.Extended.TheVariants.{Fin, Inf}
+use Rattle.rational.proofs.Laws.{mul_add}
+use Rattle.rational.proofs.Linear.{with5}
 use Rattle.min_plus.specs.Pointwise.{scaled, shifted}
 use Rattle.run_laws.specs.Routes.{queue_at}
 use Rattle.tree_runs.specs.Trees.{tree_of, hops_in}

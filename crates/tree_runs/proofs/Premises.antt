@@ -1,11 +1,11 @@
 -- What a run keeps by its premises: the sizes of its packets, and the curves with which its flows enter.
 use Rattle.std.specs.Prelude.{◌≡◌, ℕ, true}
 use Rattle.std.proofs.Common.{arith, sym, ap, ◌∙◌, subst}
-use Rattle.min_plus.specs.rational.specs.Rational.{ℚ, ◌-ℚ◌}
-use Rattle.min_plus.specs.rational.specs.Extended.{Ext, ◌≤ₑ◌}
-use Rattle.min_plus.specs.rational.specs.declared.Extended.TheVariants.{Fin}
-use Rattle.min_plus.specs.rational.proofs.ExtendedOrder.{le_ext_trans}
-use Rattle.min_plus.specs.rational.proofs.Linear.{with2}
+use Rattle.rational.specs.Rational.{ℚ, ◌-ℚ◌}
+use Rattle.rational.specs.Extended.{Ext, ◌≤ₑ◌}
+use Rattle.rational.specs.declared.Extended.TheVariants.{Fin}
+use Rattle.rational.proofs.ExtendedOrder.{le_ext_trans}
+use Rattle.rational.proofs.Linear.{with2}
 use Rattle.run_laws.specs.Routes.{first_server}
 use Rattle.run_laws.specs.RunPremises.{entered_in}
 use Rattle.run_laws.specs.Runs.{SpecRun}

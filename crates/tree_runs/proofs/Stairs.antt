@@ -1,15 +1,15 @@
 -- Stairs grow along a tree by a jitter that takes up the stay.
 use Rattle.std.specs.Prelude.{◌≤◌, suc, pos}
 use Rattle.std.proofs.Common.{arith, inl, inr}
-use Rattle.min_plus.specs.rational.specs.Rational.{ℚ, int, ◌+ℚ◌, ◌≤ℚ◌, ◌<ℚ◌}
-use Rattle.min_plus.specs.rational.specs.Extended.{Ext, ◌≤ₑ◌, ◌+ₑ◌}
-use Rattle.min_plus.specs.rational.specs.declared.Extended.TheVariants.{Fin, Inf}
-use Rattle.min_plus.specs.rational.specs.Whole.{whole_part}
-use Rattle.min_plus.specs.rational.proofs.Integers.{nat_le, nat_lt_out}
-use Rattle.min_plus.specs.rational.proofs.Laws.{le_or_lt, le_trans, le_lt_trans, mul_le_mul}
-use Rattle.min_plus.specs.rational.proofs.Linear.{with2, with4}
-use Rattle.min_plus.specs.rational.proofs.Quotients.{div_mono}
-use Rattle.min_plus.specs.rational.proofs.Whole.{whole_le, whole_gt, whole_small}
+use Rattle.rational.specs.Rational.{ℚ, int, ◌+ℚ◌, ◌≤ℚ◌, ◌<ℚ◌}
+use Rattle.rational.specs.Extended.{Ext, ◌≤ₑ◌, ◌+ₑ◌}
+use Rattle.rational.specs.declared.Extended.TheVariants.{Fin, Inf}
+use Rattle.rational.specs.Whole.{whole_part}
+use Rattle.rational.proofs.Integers.{nat_le, nat_lt_out}
+use Rattle.rational.proofs.Laws.{le_or_lt, le_trans, le_lt_trans, mul_le_mul}
+use Rattle.rational.proofs.Linear.{with2, with4}
+use Rattle.rational.proofs.Quotients.{div_mono}
+use Rattle.rational.proofs.Whole.{whole_le, whole_gt, whole_small}
 use Rattle.min_plus.specs.Formulas.{stair_value}
 use Rattle.min_plus.specs.Pointwise.{shifted}
 use Rattle.run_laws.specs.Routes.{queue_at}

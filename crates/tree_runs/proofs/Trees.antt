@@ -10,7 +10,7 @@ use Rattle.net_laws.proofs.Once.{passes_or}
 use Rattle.net_laws.proofs.Arcs.{IsArc, IsRoot, StaysInside, IsReachedIn, IsSpanned, IsWalk}
 use Rattle.tree_runs.specs.Trees.{Node, Tree, TreeRoutes, tree_of, hops_in, flat_tree, flat, is_from, hanging_on, next_servers, tree_server_before, Hangs, HangsOn, EachHangs, IsTree, IsOverTrees}
 use Rattle.tree_runs.specs.Branches.{GoesOn}
-use Rattle.min_plus.specs.rational.specs.Rational.{int, ◌≤ℚ◌}
+use Rattle.rational.specs.Rational.{int, ◌≤ℚ◌}
 
 -- ---- the route of a flow is that of its tree
 route_from : (ts : List Tree) (i : ℕ)

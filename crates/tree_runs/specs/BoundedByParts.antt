@@ -1,9 +1,9 @@
 -- The same by parts: where each server bounds its queues by the sums of parts that these keep, those over a link cut
 -- by the pace of the server before, all hold. What an analysis of switched networks has to show is this of each port.
 use Rattle.std.specs.Prelude.{◌<◌, ℕ, pos, length}
-use Rattle.min_plus.specs.rational.specs.Rational.{ℚ, int}
-use Rattle.min_plus.specs.rational.specs.Extended.{Ext, ◌≤ₑ◌}
-use Rattle.min_plus.specs.rational.specs.declared.Extended.TheVariants.{Fin}
+use Rattle.rational.specs.Rational.{ℚ, int}
+use Rattle.rational.specs.Extended.{Ext, ◌≤ₑ◌}
+use Rattle.rational.specs.declared.Extended.TheVariants.{Fin}
 use Rattle.run_laws.specs.Runs.{SpecRun}
 use Rattle.run_laws.specs.Cards.{of_queue}
 use Rattle.run_laws.specs.Premises.{KeepsArrivals}

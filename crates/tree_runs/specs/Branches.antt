@@ -1,12 +1,12 @@
 -- The delay of a packet from where it enters to the end of the link behind one server of its flow's tree.
 use Rattle.std.specs.Prelude.{Option, Some, None, ◌≡◌, ℕ, List, [], ◌∷◌}
-use Rattle.min_plus.specs.rational.specs.Rational.{ℚ}
-use Rattle.min_plus.specs.rational.specs.Extended.{Ext, ◌+ₑ◌}
+use Rattle.rational.specs.Rational.{ℚ}
+use Rattle.rational.specs.Extended.{Ext, ◌+ₑ◌}
 use Rattle.run_laws.specs.Runs.{SpecRun}
 use Rattle.run_laws.specs.Delays.{AreAtMost}
 use Rattle.run_laws.specs.Routes.{Hop, PassesServer, first_server, last_server}
 use Rattle.net_laws.specs.Paths.{StaysAtMost, sum_along, IsServedAlong, IsWithinSplits, links_along}
-use Rattle.min_plus.specs.rational.specs.declared.Extended.TheVariants.{Fin}
+use Rattle.rational.specs.declared.Extended.TheVariants.{Fin}
 use Rattle.min_plus.specs.Functions.{IsRising}
 use Rattle.min_plus.specs.Deviations.{IsHorizontalDeviation}
 use Rattle.run_laws.specs.Cards.{of_flow}

@@ -1,9 +1,9 @@
 -- Token buckets as the arrival curves of flows. What grows along a tree is the burst, by the rate times the stay. (Le
 -- Boudec and Thiran, burstiness increase.)
 use Rattle.std.specs.Prelude.{◌≡◌, ℕ, true}
-use Rattle.min_plus.specs.rational.specs.Rational.{ℚ}
-use Rattle.min_plus.specs.rational.specs.Extended.{Ext, ◌≤ₑ◌, ◌+ₑ◌}
-use Rattle.min_plus.specs.rational.specs.declared.Extended.TheVariants.{Fin, Inf}
+use Rattle.rational.specs.Rational.{ℚ}
+use Rattle.rational.specs.Extended.{Ext, ◌≤ₑ◌, ◌+ₑ◌}
+use Rattle.rational.specs.declared.Extended.TheVariants.{Fin, Inf}
 use Rattle.min_plus.specs.Formulas.{bucket_value}
 use Rattle.min_plus.specs.Pointwise.{scaled}
 use Rattle.run_laws.specs.Routes.{queue_at}

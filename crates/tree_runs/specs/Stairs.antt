@@ -1,9 +1,9 @@
 -- Stairs as the arrival curves of flows. A flow that sends one packet each period keeps its stair along a tree: what
 -- grows is the jitter, by the stay. (Le Boudec and Thiran, stair functions; the jitter of a periodic flow.)
 use Rattle.std.specs.Prelude.{◌≡◌, ℕ, pos, true}
-use Rattle.min_plus.specs.rational.specs.Rational.{ℚ, int, ◌≤ℚ◌, ◌<ℚ◌}
-use Rattle.min_plus.specs.rational.specs.Extended.{Ext, ◌≤ₑ◌, ◌+ₑ◌}
-use Rattle.min_plus.specs.rational.specs.declared.Extended.TheVariants.{Fin, Inf}
+use Rattle.rational.specs.Rational.{ℚ, int, ◌≤ℚ◌, ◌<ℚ◌}
+use Rattle.rational.specs.Extended.{Ext, ◌≤ₑ◌, ◌+ₑ◌}
+use Rattle.rational.specs.declared.Extended.TheVariants.{Fin, Inf}
 use Rattle.min_plus.specs.Formulas.{stair_value}
 use Rattle.run_laws.specs.Routes.{queue_at}
 use Rattle.tree_runs.specs.Trees.{TreeRoutes, tree_of, hops_in, Hangs}

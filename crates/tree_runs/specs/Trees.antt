@@ -1,8 +1,8 @@
 -- Networks whose flows are trees of servers (multicast): a packet that leaves a server goes to each server that hangs
 -- on it.
 use Rattle.std.specs.Prelude.{Option, Some, None, ◌≡◌, ℕ, Bool, true, false, ◌==◌, List, [], ◌∷◌, ◌++◌, get_or, map, if◌then◌else◌}
-use Rattle.min_plus.specs.rational.specs.Rational.{ℚ}
-use Rattle.min_plus.specs.rational.specs.Extended.{Ext}
+use Rattle.rational.specs.Rational.{ℚ}
+use Rattle.rational.specs.Extended.{Ext}
 use Rattle.run_laws.specs.Runs.{SpecRun}
 use Rattle.run_laws.specs.RunPremises.{KeepsPremises}
 use Rattle.run_laws.specs.Servers.{Server}

@@ -1,16 +1,16 @@
 -- The value of a curve from its fields, by its tail; and that a bucket is normal.
 use Rattle.std.specs.Prelude.{◌≡◌, pos, List, Some, None}
 use Rattle.std.proofs.Common.{arith, sym, ap, ap₂, ◌∙◌, refl, subst, inl, Ordering, Greater, true≢false, is_some}
-use Rattle.min_plus.specs.rational.specs.Rational.{ℚ, ◌+ℚ◌, ◌-ℚ◌, ◌*ℚ◌, ◌≤ℚ◌, ◌<ℚ◌, int}
-use Rattle.min_plus.specs.rational.specs.Ratio.{cmp_q}
-use Rattle.min_plus.specs.rational.specs.Whole.{periods}
-use Rattle.min_plus.specs.rational.proofs.Whole.{periods_low}
-use Rattle.min_plus.specs.rational.proofs.Laws.{le_refl, le_of_lt}
-use Rattle.min_plus.specs.rational.proofs.Linear.{with3, with4}
-use Rattle.min_plus.specs.rational.proofs.Comparison.{cmp_greater, cmp_not_greater}
-use Rattle.min_plus.specs.rational.proofs.Over.{le_q_out}
-use Rattle.min_plus.specs.rational.specs.Extended.{Ext, ◌+ₑ◌}
-use Rattle.min_plus.specs.rational.specs.declared.Extended.TheVariants.{Fin, Inf}
+use Rattle.rational.specs.Rational.{ℚ, ◌+ℚ◌, ◌-ℚ◌, ◌*ℚ◌, ◌≤ℚ◌, ◌<ℚ◌, int}
+use Rattle.rational.specs.Ratio.{cmp_q}
+use Rattle.rational.specs.Whole.{periods}
+use Rattle.rational.proofs.Whole.{periods_low}
+use Rattle.rational.proofs.Laws.{le_refl, le_of_lt}
+use Rattle.rational.proofs.Linear.{with3, with4}
+use Rattle.rational.proofs.Comparison.{cmp_greater, cmp_not_greater}
+use Rattle.rational.proofs.Over.{le_q_out}
+use Rattle.rational.specs.Extended.{Ext, ◌+ₑ◌}
+use Rattle.rational.specs.declared.Extended.TheVariants.{Fin, Inf}
 use Rattle.upp_curve.specs.declared.affine_segment.line.Line.{Line}
 use Rattle.upp_curve.specs.declared.affine_segment.line.Piece.{Piece}
 use Rattle.upp_curve.specs.declared.curve.Tail.{Tail}
@@ -21,7 +21,7 @@ use Rattle.upp_curve.specs.Normal.{IsNormal, TailFits}
 use Rattle.upp_curve.specs.Kinds.{bucket}
 use Rattle.upp_curve.specs.Steps.{IsWideAt, IsWideValueAt}
 use Rattle.fraction128.specs.declared.fault.Wide.{Wide}
-use Rattle.min_plus.specs.rational.proofs.MinMax.{le_q_not}
+use Rattle.rational.proofs.MinMax.{le_q_not}
 use Rattle.upp_curve.proofs.Repeats.{repeated_first}
 
 -- the value, from the pieces and the kind of tail that a match found

@@ -1,19 +1,19 @@
 -- Pieces that are finite are finite as a function of time, and the other way round.
 use Rattle.std.specs.Prelude.{◌≡◌, pos, List, [], ◌∷◌, Option, Some, None}
 use Rattle.std.proofs.Common.{arith, sym, ap, ◌∙◌, refl, subst, inl, inr}
-use Rattle.min_plus.specs.rational.specs.Rational.{ℚ, ◌+ℚ◌, ◌-ℚ◌, ◌*ℚ◌, ◌≤ℚ◌, ◌<ℚ◌, int}
-use Rattle.min_plus.specs.rational.specs.Extended.{Ext, ◌+ₑ◌}
-use Rattle.min_plus.specs.rational.specs.declared.Extended.TheVariants.{Fin, Inf}
-use Rattle.min_plus.specs.rational.proofs.Linear.{with2}
-use Rattle.min_plus.specs.rational.proofs.Laws.{le_refl, le_of_lt, le_or_lt, le_trans, between}
-use Rattle.min_plus.specs.rational.proofs.MinMax.{le_q_not}
-use Rattle.min_plus.specs.rational.proofs.Over.{le_q_out}
+use Rattle.rational.specs.Rational.{ℚ, ◌+ℚ◌, ◌-ℚ◌, ◌*ℚ◌, ◌≤ℚ◌, ◌<ℚ◌, int}
+use Rattle.rational.specs.Extended.{Ext, ◌+ₑ◌}
+use Rattle.rational.specs.declared.Extended.TheVariants.{Fin, Inf}
+use Rattle.rational.proofs.Linear.{with2}
+use Rattle.rational.proofs.Laws.{le_refl, le_of_lt, le_or_lt, le_trans, between}
+use Rattle.rational.proofs.MinMax.{le_q_not}
+use Rattle.rational.proofs.Over.{le_q_out}
 use Rattle.upp_curve.specs.declared.affine_segment.line.Line.{Line}
 use Rattle.upp_curve.specs.declared.affine_segment.line.Piece.{Piece}
 use Rattle.upp_curve.specs.affine_segment.Values.{line_value}
 use Rattle.upp_curve.specs.declared.shape.End.{End}
 use Rattle.upp_curve.specs.affine_segment.Reading.{piece_in, piece_value}
-use Rattle.min_plus.specs.rational.specs.Whole.{periods}
+use Rattle.rational.specs.Whole.{periods}
 use Rattle.upp_curve.specs.Curve.{repeated}
 use Rattle.upp_curve.specs.affine_segment.Pieces.{Each, RisesFrom}
 use Rattle.upp_curve.specs.Shapes.{IsNumber, IsLine, IsFinitePiece}

@@ -1,11 +1,11 @@
 -- How the first of some pieces is read: at its start, and up to the next start.
-use Rattle.min_plus.specs.rational.proofs.MinMax.{below_min_in, below_min_out}
+use Rattle.rational.proofs.MinMax.{below_min_in, below_min_out}
 use Rattle.std.specs.Prelude.{◌≡◌, List, [], ◌∷◌}
 use Rattle.std.proofs.Common.{ap, ◌∙◌}
-use Rattle.min_plus.specs.rational.specs.Rational.{ℚ, ◌<ℚ◌}
-use Rattle.min_plus.specs.rational.specs.Extended.{Ext}
+use Rattle.rational.specs.Rational.{ℚ, ◌<ℚ◌}
+use Rattle.rational.specs.Extended.{Ext}
 use Rattle.upp_curve.specs.declared.affine_segment.line.Piece.{Piece}
-use Rattle.min_plus.specs.rational.specs.MinMax.{min_q}
+use Rattle.rational.specs.MinMax.{min_q}
 use Rattle.upp_curve.specs.affine_segment.Reading.{piece_in, piece_value}
 use Rattle.upp_curve.specs.affine_segment.Values.{line_value}
 use Rattle.upp_curve.specs.affine_segment.Pieces.{RisesFrom}

@@ -1,17 +1,17 @@
 -- The gate's curve has the gate's values.
 use Rattle.std.specs.Prelude.{◌≡◌, ℕ, suc, pos, cond, List, [], ◌∷◌}
 use Rattle.std.proofs.Common.{arith, sym, ap, ap₂, ◌∙◌, subst, inl, inr}
-use Rattle.min_plus.specs.rational.specs.Rational.{ℚ, ◌+ℚ◌, ◌-ℚ◌, ◌*ℚ◌, ◌/ℚ◌, ◌≤ℚ◌, ◌<ℚ◌, int, le_q, neg_ℚ}
-use Rattle.min_plus.specs.rational.specs.MinMax.{max_q}
-use Rattle.min_plus.specs.rational.specs.Whole.{whole_part, periods}
-use Rattle.min_plus.specs.rational.specs.Extended.{◌+ₑ◌}
-use Rattle.min_plus.specs.rational.specs.declared.Extended.TheVariants.{Fin}
-use Rattle.min_plus.specs.rational.proofs.Linear.{with1, with2, with3, with4, with5, with6, with7}
-use Rattle.min_plus.specs.rational.proofs.Laws.{antisym, le_refl, le_or_lt, lt_le_trans, mul_comm, mul_assoc, mul_add, mul_sub, add_mul, mul_one, div_mul, not_zero, le_of_mul, lt_of_mul, mul_zero}
-use Rattle.min_plus.specs.rational.proofs.Integers.{nat_next}
-use Rattle.min_plus.specs.rational.proofs.MinMax.{le_q_not, max_q_right, max_q_ge_left, max_q_le}
-use Rattle.min_plus.specs.rational.proofs.Over.{le_q_out}
-use Rattle.min_plus.specs.rational.proofs.Whole.{periods_low, periods_high}
+use Rattle.rational.specs.Rational.{ℚ, ◌+ℚ◌, ◌-ℚ◌, ◌*ℚ◌, ◌/ℚ◌, ◌≤ℚ◌, ◌<ℚ◌, int, le_q, neg_ℚ}
+use Rattle.rational.specs.MinMax.{max_q}
+use Rattle.rational.specs.Whole.{whole_part, periods}
+use Rattle.rational.specs.Extended.{◌+ₑ◌}
+use Rattle.rational.specs.declared.Extended.TheVariants.{Fin}
+use Rattle.rational.proofs.Linear.{with1, with2, with3, with4, with5, with6, with7}
+use Rattle.rational.proofs.Laws.{antisym, le_refl, le_or_lt, lt_le_trans, mul_comm, mul_assoc, mul_add, mul_sub, add_mul, mul_one, div_mul, not_zero, le_of_mul, lt_of_mul, mul_zero}
+use Rattle.rational.proofs.Integers.{nat_next}
+use Rattle.rational.proofs.MinMax.{le_q_not, max_q_right, max_q_ge_left, max_q_le}
+use Rattle.rational.proofs.Over.{le_q_out}
+use Rattle.rational.proofs.Whole.{periods_low, periods_high}
 use Rattle.upp_curve.specs.declared.affine_segment.line.Piece.{Piece}
 use Rattle.upp_curve.specs.affine_segment.Reading.{read, piece_in}
 use Rattle.upp_curve.specs.Curve.{value_at, repeated}

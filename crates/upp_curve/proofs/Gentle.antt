@@ -1,15 +1,15 @@
 -- Pieces that join make a function that rises no faster than the steepest of them, and so is continuous where it never falls.
 use Rattle.std.specs.Prelude.{◌≡◌, ℕ, zero, suc, pos, List, [], ◌∷◌, Option, Some, None}
 use Rattle.std.proofs.Common.{arith, sym, ap, ◌∙◌, refl, subst, inl, inr}
-use Rattle.min_plus.specs.rational.specs.Rational.{ℚ, ◌+ℚ◌, ◌-ℚ◌, ◌*ℚ◌, ◌/ℚ◌, ◌≤ℚ◌, ◌<ℚ◌, int}
-use Rattle.min_plus.specs.rational.specs.MinMax.{max_q}
-use Rattle.min_plus.specs.rational.specs.Whole.{periods}
-use Rattle.min_plus.specs.rational.specs.Extended.{Ext, ◌≤ₑ◌, ◌+ₑ◌}
-use Rattle.min_plus.specs.rational.specs.declared.Extended.TheVariants.{Fin, Inf}
-use Rattle.min_plus.specs.rational.proofs.Linear.{with1, with2, with3, with4}
-use Rattle.min_plus.specs.rational.proofs.Laws.{antisym, le_refl, le_or_lt, le_of_lt, le_trans, le_total, mul_le_mul, mul_le_mul_right, mul_comm, mul_sub, mul_add, add_mul, one_mul, div_mul, not_zero}
-use Rattle.min_plus.specs.rational.proofs.Quotients.{div_pos}
-use Rattle.min_plus.specs.rational.proofs.MinMax.{max_q_ge_left, max_q_ge_right}
+use Rattle.rational.specs.Rational.{ℚ, ◌+ℚ◌, ◌-ℚ◌, ◌*ℚ◌, ◌/ℚ◌, ◌≤ℚ◌, ◌<ℚ◌, int}
+use Rattle.rational.specs.MinMax.{max_q}
+use Rattle.rational.specs.Whole.{periods}
+use Rattle.rational.specs.Extended.{Ext, ◌≤ₑ◌, ◌+ₑ◌}
+use Rattle.rational.specs.declared.Extended.TheVariants.{Fin, Inf}
+use Rattle.rational.proofs.Linear.{with1, with2, with3, with4}
+use Rattle.rational.proofs.Laws.{antisym, le_refl, le_or_lt, le_of_lt, le_trans, le_total, mul_le_mul, mul_le_mul_right, mul_comm, mul_sub, mul_add, add_mul, one_mul, div_mul, not_zero}
+use Rattle.rational.proofs.Quotients.{div_pos}
+use Rattle.rational.proofs.MinMax.{max_q_ge_left, max_q_ge_right}
 use Rattle.upp_curve.specs.declared.affine_segment.line.Line.{Line}
 use Rattle.upp_curve.specs.declared.affine_segment.line.Piece.{Piece}
 use Rattle.upp_curve.specs.affine_segment.Values.{line_value}

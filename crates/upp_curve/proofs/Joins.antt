@@ -1,15 +1,15 @@
 -- The pieces of a curve that never falls join exactly where it is continuous.
 use Rattle.std.specs.Prelude.{◌≡◌, ◌↔◌, Bool, IsTrue, pos, List, [], ◌∷◌, Option, Some, None}
 use Rattle.std.proofs.Common.{arith, sym, ap, ◌∙◌, refl, subst, inl, inr}
-use Rattle.min_plus.specs.rational.specs.Rational.{ℚ, ◌+ℚ◌, ◌-ℚ◌, ◌≤ℚ◌, ◌<ℚ◌, int}
-use Rattle.min_plus.specs.rational.specs.MinMax.{min_q, max_q}
-use Rattle.min_plus.specs.rational.specs.Extended.{Ext, ◌≤ₑ◌, ◌+ₑ◌}
-use Rattle.min_plus.specs.rational.specs.declared.Extended.TheVariants.{Fin, Inf}
-use Rattle.min_plus.specs.rational.proofs.Linear.{with1, with2, with3}
-use Rattle.min_plus.specs.rational.proofs.Laws.{le_refl, le_or_lt, le_of_lt, le_trans, le_lt_trans, between, half, half_is, half_pos}
-use Rattle.min_plus.specs.rational.proofs.Integers.{nat_lt}
-use Rattle.min_plus.specs.rational.proofs.MinMax.{below_min_in, below_min_out, max_q_ge_left, max_q_ge_right, max_q_lt}
-use Rattle.min_plus.specs.rational.proofs.ExtendedOrder.{le_ext_refl, le_ext_trans, antisym_ext, add_le_ext}
+use Rattle.rational.specs.Rational.{ℚ, ◌+ℚ◌, ◌-ℚ◌, ◌≤ℚ◌, ◌<ℚ◌, int}
+use Rattle.rational.specs.MinMax.{min_q, max_q}
+use Rattle.rational.specs.Extended.{Ext, ◌≤ₑ◌, ◌+ₑ◌}
+use Rattle.rational.specs.declared.Extended.TheVariants.{Fin, Inf}
+use Rattle.rational.proofs.Linear.{with1, with2, with3}
+use Rattle.rational.proofs.Laws.{le_refl, le_or_lt, le_of_lt, le_trans, le_lt_trans, between, half, half_is, half_pos}
+use Rattle.rational.proofs.Integers.{nat_lt}
+use Rattle.rational.proofs.MinMax.{below_min_in, below_min_out, max_q_ge_left, max_q_ge_right, max_q_lt}
+use Rattle.rational.proofs.ExtendedOrder.{le_ext_refl, le_ext_trans, antisym_ext, add_le_ext}
 use Rattle.upp_curve.specs.declared.affine_segment.line.Line.{Line}
 use Rattle.upp_curve.specs.declared.affine_segment.line.Piece.{Piece}
 use Rattle.upp_curve.specs.affine_segment.Values.{line_value}

@@ -2,16 +2,16 @@
 use Rattle.std.specs.Prelude.{◌≡◌, ℕ, suc, ◌+◌, ◌*◌, ◌≤◌, pos, nat_abs, cond, List, [], ◌∷◌, Option, Some, None}
 use Rattle.std.proofs.Common.{arith, sym, ap, ap₂, ◌∙◌, refl, subst, inl, inr}
 use native.Mathlib.Nat.{mul-le-mul_right}
-use Rattle.min_plus.specs.rational.specs.Rational.{ℚ, ◌+ℚ◌, ◌-ℚ◌, ◌*ℚ◌, ◌/ℚ◌, ◌≤ℚ◌, ◌<ℚ◌, int, neg_ℚ}
-use Rattle.min_plus.specs.rational.specs.MinMax.{min_q}
-use Rattle.min_plus.specs.rational.specs.Whole.{whole_part}
-use Rattle.min_plus.specs.rational.specs.Extended.{Ext, ◌+ₑ◌}
-use Rattle.min_plus.specs.rational.specs.declared.Extended.TheVariants.{Fin}
-use Rattle.min_plus.specs.rational.proofs.Linear.{with1, with2, with3, with7}
-use Rattle.min_plus.specs.rational.proofs.Laws.{antisym, le_refl, le_or_lt, le_of_lt, lt_irrefl, lt_le_trans, le_lt_trans, between, mul_comm, mul_assoc, mul_add, mul_sub, add_mul, mul_one, mul_pos, mul_zero, mul_cancel, div_mul, not_zero, le_of_mul, lt_of_mul, mul_lt_mul_right}
-use Rattle.min_plus.specs.rational.proofs.Integers.{int_mul, int_add, int_same, nat_lt, le_or_more}
-use Rattle.min_plus.specs.rational.proofs.MinMax.{le_q_not, below_min_in, below_min_out}
-use Rattle.min_plus.specs.rational.proofs.Over.{le_q_out}
+use Rattle.rational.specs.Rational.{ℚ, ◌+ℚ◌, ◌-ℚ◌, ◌*ℚ◌, ◌/ℚ◌, ◌≤ℚ◌, ◌<ℚ◌, int, neg_ℚ}
+use Rattle.rational.specs.MinMax.{min_q}
+use Rattle.rational.specs.Whole.{whole_part}
+use Rattle.rational.specs.Extended.{Ext, ◌+ₑ◌}
+use Rattle.rational.specs.declared.Extended.TheVariants.{Fin}
+use Rattle.rational.proofs.Linear.{with1, with2, with3, with7}
+use Rattle.rational.proofs.Laws.{antisym, le_refl, le_or_lt, le_of_lt, lt_irrefl, lt_le_trans, le_lt_trans, between, mul_comm, mul_assoc, mul_add, mul_sub, add_mul, mul_one, mul_pos, mul_zero, mul_cancel, div_mul, not_zero, le_of_mul, lt_of_mul, mul_lt_mul_right}
+use Rattle.rational.proofs.Integers.{int_mul, int_add, int_same, nat_lt, le_or_more}
+use Rattle.rational.proofs.MinMax.{le_q_not, below_min_in, below_min_out}
+use Rattle.rational.proofs.Over.{le_q_out}
 use Rattle.upp_curve.specs.declared.affine_segment.line.Line.{Line}
 use Rattle.upp_curve.specs.declared.affine_segment.line.Piece.{Piece}
 use Rattle.upp_curve.specs.affine_segment.Values.{line_value}
@@ -28,8 +28,8 @@ use Rattle.upp_curve.proofs.Normal.{periodic, periodic_rule}
 use Rattle.upp_curve.proofs.GateValues.{gate_pieces, closed_value, open_value}
 use Rattle.upp_curve.proofs.StairValues.{one_step, first_step, step_pieces, steps_is, ratio_high}
 use Rattle.upp_curve.proofs.Repeats.{repeated_first}
-use Rattle.min_plus.specs.rational.proofs.ExtendedOrder.{fin_same}
-use Rattle.min_plus.specs.rational.proofs.Quotients.{part_pos}
+use Rattle.rational.proofs.ExtendedOrder.{fin_same}
+use Rattle.rational.proofs.Quotients.{part_pos}
 
 -- ---- lines that differ
 abbrev slope_or : ℚ → Option Line → ℚ

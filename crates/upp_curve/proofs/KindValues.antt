@@ -1,13 +1,13 @@
 -- The values of the kinds of curve that are affine: a bucket, a rate after a latency, and that less one packet.
-use Rattle.min_plus.specs.rational.proofs.MinMax.{max_q_left, max_q_right, le_q_not}
+use Rattle.rational.proofs.MinMax.{max_q_left, max_q_right, le_q_not}
 use Rattle.std.specs.Prelude.{◌≡◌}
 use Rattle.std.proofs.Common.{arith, sym, ap, ◌∙◌, refl, subst, inl, inr}
-use Rattle.min_plus.specs.rational.specs.Rational.{ℚ, ◌+ℚ◌, ◌-ℚ◌, ◌*ℚ◌, ◌≤ℚ◌, ◌<ℚ◌, neg_ℚ}
-use Rattle.min_plus.specs.rational.proofs.Linear.{with1, with2, with3, with4}
-use Rattle.min_plus.specs.rational.proofs.Over.{le_q_out}
-use Rattle.min_plus.specs.rational.proofs.Laws.{mul_comm, mul_sub, mul_zero, le_or_lt, antisym}
-use Rattle.min_plus.specs.rational.specs.declared.Extended.TheVariants.{Fin}
-use Rattle.min_plus.specs.rational.specs.MinMax.{max_q}
+use Rattle.rational.specs.Rational.{ℚ, ◌+ℚ◌, ◌-ℚ◌, ◌*ℚ◌, ◌≤ℚ◌, ◌<ℚ◌, neg_ℚ}
+use Rattle.rational.proofs.Linear.{with1, with2, with3, with4}
+use Rattle.rational.proofs.Over.{le_q_out}
+use Rattle.rational.proofs.Laws.{mul_comm, mul_sub, mul_zero, le_or_lt, antisym}
+use Rattle.rational.specs.declared.Extended.TheVariants.{Fin}
+use Rattle.rational.specs.MinMax.{max_q}
 use Rattle.min_plus.specs.Functions.{zero_q}
 use Rattle.upp_curve.specs.Curve.{value_at}
 use Rattle.upp_curve.specs.affine_segment.Reading.{read, piece_in, piece_value}

@@ -1,21 +1,21 @@
 -- Two normal curves with equal values at every time are one.
 use Rattle.std.specs.Prelude.{◌≡◌, pos, List, [], ◌∷◌, None}
 use Rattle.std.proofs.Common.{arith, sym, ap, ap₂, ◌∙◌, refl, subst, inl, inr}
-use Rattle.min_plus.specs.rational.specs.Rational.{ℚ, ◌+ℚ◌, ◌≤ℚ◌, ◌<ℚ◌, int}
-use Rattle.min_plus.specs.rational.proofs.Linear.{with2, with3}
-use Rattle.min_plus.specs.rational.proofs.Laws.{antisym, le_trans, lt_le_trans, le_or_lt, le_of_lt, le_refl}
-use Rattle.min_plus.specs.rational.specs.Extended.{Ext, ◌+ₑ◌}
-use Rattle.min_plus.specs.rational.specs.declared.Extended.TheVariants.{Fin}
+use Rattle.rational.specs.Rational.{ℚ, ◌+ℚ◌, ◌≤ℚ◌, ◌<ℚ◌, int}
+use Rattle.rational.proofs.Linear.{with2, with3}
+use Rattle.rational.proofs.Laws.{antisym, le_trans, lt_le_trans, le_or_lt, le_of_lt, le_refl}
+use Rattle.rational.specs.Extended.{Ext, ◌+ₑ◌}
+use Rattle.rational.specs.declared.Extended.TheVariants.{Fin}
 use Rattle.upp_curve.specs.declared.affine_segment.line.Piece.{Piece}
 use Rattle.upp_curve.specs.declared.curve.Tail.TheVariants.{Periodic}
-use Rattle.min_plus.specs.rational.specs.MinMax.{min_q}
+use Rattle.rational.specs.MinMax.{min_q}
 use Rattle.upp_curve.specs.Curve.{SpecCurve, value_at, with_tail, HasSameValues}
 use Rattle.upp_curve.specs.affine_segment.Reading.{read}
 use Rattle.upp_curve.specs.Normal.{IsNormal, NoMerge}
 use Rattle.upp_curve.specs.affine_segment.Pieces.{Each, HasStart, StartsAtZero, RisesFrom}
 use Rattle.upp_curve.specs.Unrolled.{upto}
 use Rattle.upp_curve.specs.Steady.{Repeats}
-use Rattle.min_plus.specs.rational.proofs.MinMax.{min_q_left, min_q_right, below_min_in}
+use Rattle.rational.proofs.MinMax.{min_q_left, min_q_right, below_min_in}
 use Rattle.upp_curve.proofs.Repeats.{repeated_first, repeated_rule}
 use Rattle.upp_curve.proofs.Unique.{same_lists, upto_none, upto_some, upto_end}
 use Rattle.upp_curve.proofs.Rules.{rule_extends, no_shorter, one_rise}

@@ -1,11 +1,11 @@
 -- Two normal curves with equal values are one, whatever their tails.
 use Rattle.std.specs.Prelude.{◌≡◌, ℕ, pos, List, [], ◌∷◌, Option, Some, None}
 use Rattle.std.proofs.Common.{arith, sym, ap, ap₂, ◌∙◌, refl, subst, inl, inr}
-use Rattle.min_plus.specs.rational.specs.Rational.{ℚ, ◌+ℚ◌, ◌*ℚ◌, ◌≤ℚ◌, ◌<ℚ◌, int}
-use Rattle.min_plus.specs.rational.proofs.Linear.{with1, with2, with3}
-use Rattle.min_plus.specs.rational.proofs.Laws.{antisym, le_trans, le_lt_trans, le_or_lt, le_of_lt, mul_comm, mul_assoc, mul_nonneg}
-use Rattle.min_plus.specs.rational.specs.Extended.{Ext, ◌+ₑ◌}
-use Rattle.min_plus.specs.rational.specs.declared.Extended.TheVariants.{Fin, Inf}
+use Rattle.rational.specs.Rational.{ℚ, ◌+ℚ◌, ◌*ℚ◌, ◌≤ℚ◌, ◌<ℚ◌, int}
+use Rattle.rational.proofs.Linear.{with1, with2, with3}
+use Rattle.rational.proofs.Laws.{antisym, le_trans, le_lt_trans, le_or_lt, le_of_lt, mul_comm, mul_assoc, mul_nonneg}
+use Rattle.rational.specs.Extended.{Ext, ◌+ₑ◌}
+use Rattle.rational.specs.declared.Extended.TheVariants.{Fin, Inf}
 use Rattle.upp_curve.specs.declared.affine_segment.line.Line.{Line}
 use Rattle.upp_curve.specs.declared.affine_segment.line.Piece.{Piece}
 use Rattle.upp_curve.specs.declared.curve.Tail.{Tail}
@@ -17,15 +17,15 @@ use Rattle.upp_curve.specs.Normal.{IsNormal, NoMerge}
 use Rattle.upp_curve.specs.affine_segment.Pieces.{Each, HasStart, StartsAtZero}
 use Rattle.upp_curve.specs.Steady.{last_line, Repeats, slope_times}
 use Rattle.upp_curve.proofs.Repeats.{repeats_times}
-use Rattle.min_plus.specs.rational.proofs.Whole.{nat_nonneg}
+use Rattle.rational.proofs.Whole.{nat_nonneg}
 use Rattle.upp_curve.proofs.Steady.{line_rule, read_past, cut_past}
 use Rattle.min_plus.proofs.FiniteValues.{no_inf}
-use Rattle.min_plus.specs.rational.proofs.MinMax.{max_q_ge_left, max_q_ge_right, le_q_not}
-use Rattle.min_plus.specs.rational.specs.MinMax.{max_q}
+use Rattle.rational.proofs.MinMax.{max_q_ge_left, max_q_ge_right, le_q_not}
+use Rattle.rational.specs.MinMax.{max_q}
 use Rattle.min_plus.proofs.Rates.{enough}
-use Rattle.min_plus.specs.rational.proofs.Over.{le_q_out}
+use Rattle.rational.proofs.Over.{le_q_out}
 use Rattle.upp_curve.proofs.Normal.{lists_read, upto_all, each_at, periodic, periodic_rule, periodic_unique, backward}
-use Rattle.min_plus.specs.rational.proofs.ExtendedOrder.{add_cancel_ext, fin_same}
+use Rattle.rational.proofs.ExtendedOrder.{add_cancel_ext, fin_same}
 
 abbrev pub affine : List Piece → ℚ → SpecCurve
 affine ps r = record { pieces = ps; tail = Affine r }

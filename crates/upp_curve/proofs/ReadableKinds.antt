@@ -3,10 +3,10 @@ use Rattle.std.specs.Prelude.{◌≡◌, ℕ, ◌<◌, ◌/◌, ◌*◌, ◌^◌
 use Rattle.std.proofs.Common.{arith, sym, ap, ap₂, ◌∙◌, refl, subst}
 use Rattle.std.proofs.lemmas.Int.{ints}
 use native.Mathlib.Nat.{div-one}
-use Rattle.min_plus.specs.rational.specs.Gcd.{gcd, gcd_steps}
-use Rattle.min_plus.specs.rational.specs.Rational.{ℚ, int, frac, den}
-use Rattle.min_plus.specs.rational.specs.Ratio.{IsSmall, SumFits, PartsFit}
-use Rattle.min_plus.specs.rational.proofs.Laws.{mul_zero}
+use Rattle.rational.specs.Gcd.{gcd, gcd_steps}
+use Rattle.rational.specs.Rational.{ℚ, int, frac, den}
+use Rattle.rational.specs.Ratio.{IsSmall, SumFits, PartsFit}
+use Rattle.rational.proofs.Laws.{mul_zero}
 use Rattle.fraction128.proofs.Coprime.{gcd_one}
 use Rattle.upp_curve.specs.Curves.{IsCurve}
 use Rattle.upp_curve.specs.Kinds.{bucket}

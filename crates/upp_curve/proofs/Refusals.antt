@@ -1,7 +1,7 @@
 -- What a refusal says, said of another step.
 use Rattle.std.specs.Prelude.{◌≡◌, Result, Ok, Err, IfErr, List, [], ◌∷◌}
 use Rattle.std.proofs.Common.{refl, subst}
-use Rattle.min_plus.specs.rational.specs.Rational.{ℚ}
+use Rattle.rational.specs.Rational.{ℚ}
 use Rattle.fraction128.specs.declared.fault.Wide.{Wide}
 use Rattle.upp_curve.specs.declared.affine_segment.line.Piece.{Piece}
 use Rattle.upp_curve.specs.affine_segment.Pieces.{StartsAtZero}

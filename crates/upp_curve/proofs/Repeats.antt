@@ -1,18 +1,18 @@
 -- What repeats from a rank on: the tail's rule, and that a relation which moves by a period holds of the whole.
 use Rattle.std.specs.Prelude.{◌≡◌, ℕ, zero, suc, pos}
 use Rattle.std.proofs.Common.{arith, sym, ap, ap₂, ◌∙◌, refl, subst, inl, inr}
-use Rattle.min_plus.specs.rational.specs.Rational.{ℚ, ◌+ℚ◌, ◌-ℚ◌, ◌*ℚ◌, ◌≤ℚ◌, ◌<ℚ◌, int}
-use Rattle.min_plus.specs.rational.proofs.Linear.{with1, with2, with3, with4, with5}
-use Rattle.min_plus.specs.rational.proofs.Over.{le_q_out}
-use Rattle.min_plus.specs.rational.proofs.Laws.{le_or_lt, le_refl}
-use Rattle.min_plus.specs.rational.specs.Extended.{Ext, ◌+ₑ◌}
-use Rattle.min_plus.specs.rational.specs.declared.Extended.TheVariants.{Fin, Inf}
-use Rattle.min_plus.specs.rational.specs.Whole.{periods}
+use Rattle.rational.specs.Rational.{ℚ, ◌+ℚ◌, ◌-ℚ◌, ◌*ℚ◌, ◌≤ℚ◌, ◌<ℚ◌, int}
+use Rattle.rational.proofs.Linear.{with1, with2, with3, with4, with5}
+use Rattle.rational.proofs.Over.{le_q_out}
+use Rattle.rational.proofs.Laws.{le_or_lt, le_refl}
+use Rattle.rational.specs.Extended.{Ext, ◌+ₑ◌}
+use Rattle.rational.specs.declared.Extended.TheVariants.{Fin, Inf}
+use Rattle.rational.specs.Whole.{periods}
 use Rattle.upp_curve.specs.Curve.{repeated, cut}
 use Rattle.upp_curve.specs.Steady.{Repeats}
-use Rattle.min_plus.specs.rational.proofs.ExtendedOrder.{add_zero_ext, add_assoc_ext}
-use Rattle.min_plus.specs.rational.proofs.MinMax.{le_q_not}
-use Rattle.min_plus.specs.rational.proofs.Whole.{periods_small, periods_high, periods_next, one_more_times}
+use Rattle.rational.proofs.ExtendedOrder.{add_zero_ext, add_assoc_ext}
+use Rattle.rational.proofs.MinMax.{le_q_not}
+use Rattle.rational.proofs.Whole.{periods_small, periods_high, periods_next, one_more_times}
 
 -- before rank + period it is f
 pub repeated_first : (f : ℚ → Ext) (r d c t : ℚ) → int (pos 0) <ℚ d → t <ℚ r +ℚ d → repeated f r d c t ≡ f t

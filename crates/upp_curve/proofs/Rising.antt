@@ -1,13 +1,13 @@
 -- Pieces that rise from one to the next rise as a function of time, and a tail that repeats keeps that.
 use Rattle.std.specs.Prelude.{◌≡◌, ℕ, zero, suc, pos, List, [], ◌∷◌, Option, Some, None}
 use Rattle.std.proofs.Common.{arith, sym, ap, ◌∙◌, refl, subst, inl, inr}
-use Rattle.min_plus.specs.rational.specs.Rational.{ℚ, ◌+ℚ◌, ◌-ℚ◌, ◌*ℚ◌, ◌≤ℚ◌, ◌<ℚ◌, int}
-use Rattle.min_plus.specs.rational.specs.Whole.{periods}
-use Rattle.min_plus.specs.rational.specs.Extended.{Ext, ◌≤ₑ◌, ◌+ₑ◌}
-use Rattle.min_plus.specs.rational.specs.declared.Extended.TheVariants.{Fin}
-use Rattle.min_plus.specs.rational.proofs.Linear.{with2, with3}
-use Rattle.min_plus.specs.rational.proofs.Laws.{antisym, le_refl, le_or_lt, le_of_lt, le_trans, mul_le_mul}
-use Rattle.min_plus.specs.rational.proofs.ExtendedOrder.{le_ext_trans, same_le_ext, add_le_ext}
+use Rattle.rational.specs.Rational.{ℚ, ◌+ℚ◌, ◌-ℚ◌, ◌*ℚ◌, ◌≤ℚ◌, ◌<ℚ◌, int}
+use Rattle.rational.specs.Whole.{periods}
+use Rattle.rational.specs.Extended.{Ext, ◌≤ₑ◌, ◌+ₑ◌}
+use Rattle.rational.specs.declared.Extended.TheVariants.{Fin}
+use Rattle.rational.proofs.Linear.{with2, with3}
+use Rattle.rational.proofs.Laws.{antisym, le_refl, le_or_lt, le_of_lt, le_trans, mul_le_mul}
+use Rattle.rational.proofs.ExtendedOrder.{le_ext_trans, same_le_ext, add_le_ext}
 use Rattle.upp_curve.specs.declared.affine_segment.line.Line.{Line}
 use Rattle.upp_curve.specs.declared.affine_segment.line.Piece.{Piece}
 use Rattle.upp_curve.specs.affine_segment.Values.{line_value}

@@ -1,15 +1,15 @@
 -- Where a function rises, each of the pieces that it is read from rises to the next.
 use Rattle.std.specs.Prelude.{◌≡◌, pos, List, [], ◌∷◌, Option, Some, None}
 use Rattle.std.proofs.Common.{arith, ap, ◌∙◌, subst}
-use Rattle.min_plus.specs.rational.specs.Rational.{ℚ, ◌+ℚ◌, ◌-ℚ◌, ◌*ℚ◌, ◌≤ℚ◌, ◌<ℚ◌, int}
-use Rattle.min_plus.specs.rational.specs.Extended.{Ext, ◌≤ₑ◌}
-use Rattle.min_plus.specs.rational.specs.declared.Extended.TheVariants.{Fin}
-use Rattle.min_plus.specs.rational.specs.Stretch.{Between}
-use Rattle.min_plus.specs.rational.proofs.Linear.{with2, with3}
-use Rattle.min_plus.specs.rational.proofs.Laws.{le_refl, le_of_lt, le_trans, between, mul_sub, mul_comm, mul_zero}
-use Rattle.min_plus.specs.rational.proofs.Whole.{le_of_mul}
-use Rattle.min_plus.specs.rational.proofs.Bounds.{greatest, smallest}
-use Rattle.min_plus.specs.rational.proofs.Stretch.{rising_infimum, rising_supremum}
+use Rattle.rational.specs.Rational.{ℚ, ◌+ℚ◌, ◌-ℚ◌, ◌*ℚ◌, ◌≤ℚ◌, ◌<ℚ◌, int}
+use Rattle.rational.specs.Extended.{Ext, ◌≤ₑ◌}
+use Rattle.rational.specs.declared.Extended.TheVariants.{Fin}
+use Rattle.rational.specs.Stretch.{Between}
+use Rattle.rational.proofs.Linear.{with2, with3}
+use Rattle.rational.proofs.Laws.{le_refl, le_of_lt, le_trans, between, mul_sub, mul_comm, mul_zero}
+use Rattle.rational.proofs.Whole.{le_of_mul}
+use Rattle.rational.proofs.Bounds.{greatest, smallest}
+use Rattle.rational.proofs.Stretch.{rising_infimum, rising_supremum}
 use Rattle.upp_curve.specs.declared.affine_segment.line.Line.{Line}
 use Rattle.upp_curve.specs.declared.affine_segment.line.Piece.{Piece}
 use Rattle.upp_curve.specs.affine_segment.Values.{line_at, line_value}

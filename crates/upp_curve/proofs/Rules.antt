@@ -3,22 +3,22 @@ use Rattle.std.specs.Prelude.{◌≡◌, ℕ, zero, suc, ◌+◌, ◌*◌, ◌/�
 use Rattle.std.proofs.Common.{arith, sym, ap, ◌∙◌, refl, subst, inl, inr}
 use Rattle.std.proofs.lemmas.Int.{ints}
 use native.Mathlib.Nat.{div-add-mod', div-mul_cancel, le_of_dvd}
-use Rattle.min_plus.specs.rational.specs.Gcd.{gcd, gcd_steps}
-use Rattle.min_plus.specs.rational.specs.Euclid.{gcd_is}
-use Rattle.min_plus.specs.rational.specs.Rational.{ℚ, ◌+ℚ◌, ◌-ℚ◌, ◌*ℚ◌, ◌/ℚ◌, ◌≤ℚ◌, ◌<ℚ◌, int, frac, both}
-use Rattle.min_plus.specs.rational.specs.Fractions.{frac_self, frac-same}
-use Rattle.min_plus.specs.rational.proofs.Over.{lt_frac}
-use Rattle.min_plus.specs.rational.proofs.Over.{mul_frac, both_is, add_over, lt_over}
-use Rattle.min_plus.specs.rational.proofs.Linear.{with1, with2, with3, with4}
-use Rattle.min_plus.specs.rational.proofs.Laws.{antisym, add_comm, add_mul, mul_assoc, mul_comm, mul_cancel, div_mul, le_or_lt, le_of_lt, num_nonneg, mul_nonneg}
-use Rattle.min_plus.specs.rational.specs.Extended.{Ext, ◌+ₑ◌}
-use Rattle.min_plus.specs.rational.specs.declared.Extended.TheVariants.{Fin, Inf}
+use Rattle.rational.specs.Gcd.{gcd, gcd_steps}
+use Rattle.rational.specs.Euclid.{gcd_is}
+use Rattle.rational.specs.Rational.{ℚ, ◌+ℚ◌, ◌-ℚ◌, ◌*ℚ◌, ◌/ℚ◌, ◌≤ℚ◌, ◌<ℚ◌, int, frac, both}
+use Rattle.rational.specs.Fractions.{frac_self, frac-same}
+use Rattle.rational.proofs.Over.{lt_frac}
+use Rattle.rational.proofs.Over.{mul_frac, both_is, add_over, lt_over}
+use Rattle.rational.proofs.Linear.{with1, with2, with3, with4}
+use Rattle.rational.proofs.Laws.{antisym, add_comm, add_mul, mul_assoc, mul_comm, mul_cancel, div_mul, le_or_lt, le_of_lt, num_nonneg, mul_nonneg}
+use Rattle.rational.specs.Extended.{Ext, ◌+ₑ◌}
+use Rattle.rational.specs.declared.Extended.TheVariants.{Fin, Inf}
 use Rattle.upp_curve.specs.Steady.{Repeats}
-use Rattle.min_plus.specs.rational.proofs.ExtendedOrder.{add_assoc_ext, add_cancel_ext, fin_same}
-use Rattle.min_plus.specs.rational.proofs.Whole.{not_zero, lt_of_mul, nat_nonneg}
+use Rattle.rational.proofs.ExtendedOrder.{add_assoc_ext, add_cancel_ext, fin_same}
+use Rattle.rational.proofs.Whole.{not_zero, lt_of_mul, nat_nonneg}
 use Rattle.upp_curve.proofs.Repeats.{repeats_times}
 use Rattle.min_plus.proofs.Rates.{enough}
-use Rattle.min_plus.specs.rational.proofs.Integers.{nat_lt_out}
+use Rattle.rational.proofs.Integers.{nat_lt_out}
 
 pub swap_ext : (x : Ext) (a b : ℚ) → (x +ₑ Fin a) +ₑ Fin b ≡ (x +ₑ Fin b) +ₑ Fin a
 swap_ext x a b = add_assoc_ext x a b ∙ ap (λ y. x +ₑ Fin y) (add_comm a b) ∙ sym (add_assoc_ext x b a)

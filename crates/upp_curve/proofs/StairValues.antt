@@ -1,16 +1,16 @@
 -- The stair's curve has the stair's values.
 use Rattle.std.specs.Prelude.{◌≡◌, ℕ, suc, ◌+◌, pos, cond, List, [], ◌∷◌}
 use Rattle.std.proofs.Common.{arith, sym, ap, ◌∙◌, refl, subst, inl, inr}
-use Rattle.min_plus.specs.rational.specs.Rational.{ℚ, ◌+ℚ◌, ◌-ℚ◌, ◌*ℚ◌, ◌/ℚ◌, ◌≤ℚ◌, ◌<ℚ◌, int, le_q}
-use Rattle.min_plus.specs.rational.specs.Whole.{whole_part, periods}
-use Rattle.min_plus.specs.rational.specs.Extended.{Ext, ◌+ₑ◌}
-use Rattle.min_plus.specs.rational.specs.declared.Extended.TheVariants.{Fin}
-use Rattle.min_plus.specs.rational.proofs.Linear.{with1, with2, with3, with5, with6, with7}
-use Rattle.min_plus.specs.rational.proofs.Laws.{antisym, le_or_lt, mul_comm, mul_add, add_mul, mul_one}
-use Rattle.min_plus.specs.rational.proofs.Integers.{nat_next, int_add}
-use Rattle.min_plus.specs.rational.proofs.MinMax.{le_q_not}
-use Rattle.min_plus.specs.rational.proofs.Over.{le_q_out}
-use Rattle.min_plus.specs.rational.proofs.Whole.{periods_low, periods_high, periods_unique}
+use Rattle.rational.specs.Rational.{ℚ, ◌+ℚ◌, ◌-ℚ◌, ◌*ℚ◌, ◌/ℚ◌, ◌≤ℚ◌, ◌<ℚ◌, int, le_q}
+use Rattle.rational.specs.Whole.{whole_part, periods}
+use Rattle.rational.specs.Extended.{Ext, ◌+ₑ◌}
+use Rattle.rational.specs.declared.Extended.TheVariants.{Fin}
+use Rattle.rational.proofs.Linear.{with1, with2, with3, with5, with6, with7}
+use Rattle.rational.proofs.Laws.{antisym, le_or_lt, mul_comm, mul_add, add_mul, mul_one}
+use Rattle.rational.proofs.Integers.{nat_next, int_add}
+use Rattle.rational.proofs.MinMax.{le_q_not}
+use Rattle.rational.proofs.Over.{le_q_out}
+use Rattle.rational.proofs.Whole.{periods_low, periods_high, periods_unique}
 use Rattle.upp_curve.specs.declared.affine_segment.line.Piece.{Piece}
 use Rattle.upp_curve.specs.affine_segment.Reading.{read, piece_in, piece_value}
 use Rattle.upp_curve.specs.Curve.{value_at, repeated}

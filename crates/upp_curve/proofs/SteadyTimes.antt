@@ -1,9 +1,9 @@
 -- A curve begins to repeat at its rank or 1 later, so at 0 or later.
 use Rattle.std.specs.Prelude.{pos, Bool, true, false, List}
 use Rattle.std.proofs.Common.{arith}
-use Rattle.min_plus.specs.rational.specs.Rational.{ℚ, ◌≤ℚ◌, int}
-use Rattle.min_plus.specs.rational.proofs.Linear.{with1}
-use Rattle.min_plus.specs.rational.proofs.Laws.{le_refl, le_trans}
+use Rattle.rational.specs.Rational.{ℚ, ◌≤ℚ◌, int}
+use Rattle.rational.proofs.Linear.{with1}
+use Rattle.rational.proofs.Laws.{le_refl, le_trans}
 use Rattle.upp_curve.specs.declared.affine_segment.line.Piece.{Piece}
 use Rattle.upp_curve.specs.declared.curve.Tail.{Tail}
 use Rattle.upp_curve.specs.declared.curve.Tail.TheVariants.{Periodic, Affine, Infinite}

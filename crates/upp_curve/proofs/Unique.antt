@@ -1,25 +1,25 @@
 -- Two lists of pieces without needless pieces, which read alike below a time, are one below it.
-use Rattle.min_plus.specs.rational.proofs.MinMax.{below_min_in, below_min_out, lt_q_not}
+use Rattle.rational.proofs.MinMax.{below_min_in, below_min_out, lt_q_not}
 use Rattle.std.specs.Prelude.{◌≡◌, pos, List, [], ◌∷◌, Option, Some, None}
 use Rattle.std.proofs.Common.{arith, sym, ap, ap₂, ◌∙◌, refl, subst, inl, inr}
-use Rattle.min_plus.specs.rational.specs.Rational.{ℚ, ◌+ℚ◌, ◌-ℚ◌, ◌*ℚ◌, ◌≤ℚ◌, ◌<ℚ◌, int}
-use Rattle.min_plus.specs.rational.proofs.Linear.{with2, with3, with4, with6}
-use Rattle.min_plus.specs.rational.proofs.Over.{lt_q_out}
-use Rattle.min_plus.specs.rational.proofs.Laws.{antisym, le_trans, le_lt_trans, le_or_lt, le_of_lt, le_refl, mul_sub, mul_cancel, between}
-use Rattle.min_plus.specs.rational.specs.Extended.{Ext}
+use Rattle.rational.specs.Rational.{ℚ, ◌+ℚ◌, ◌-ℚ◌, ◌*ℚ◌, ◌≤ℚ◌, ◌<ℚ◌, int}
+use Rattle.rational.proofs.Linear.{with2, with3, with4, with6}
+use Rattle.rational.proofs.Over.{lt_q_out}
+use Rattle.rational.proofs.Laws.{antisym, le_trans, le_lt_trans, le_or_lt, le_of_lt, le_refl, mul_sub, mul_cancel, between}
+use Rattle.rational.specs.Extended.{Ext}
 use Rattle.upp_curve.specs.declared.affine_segment.line.Line.{Line}
 use Rattle.upp_curve.specs.declared.affine_segment.line.Piece.{Piece}
-use Rattle.min_plus.specs.rational.specs.MinMax.{min_q}
+use Rattle.rational.specs.MinMax.{min_q}
 use Rattle.upp_curve.specs.affine_segment.Reading.{piece_value}
 use Rattle.upp_curve.specs.affine_segment.Values.{line_value}
 use Rattle.upp_curve.specs.affine_segment.Pieces.{RisesFrom}
 use Rattle.upp_curve.specs.Normal.{NoneContinues}
 use Rattle.upp_curve.specs.Unrolled.{upto}
-use Rattle.min_plus.specs.rational.proofs.Whole.{not_zero}
+use Rattle.rational.proofs.Whole.{not_zero}
 use Rattle.upp_curve.proofs.FirstStretch.{end_of, end_at_most, start_before, read_in, on_stretch, at_start}
 use Rattle.min_plus.proofs.FiniteValues.{no_inf}
 use Rattle.upp_curve.proofs.affine_segment.PieceIn.{piece_in_go}
-use Rattle.min_plus.specs.rational.proofs.ExtendedOrder.{fin_same}
+use Rattle.rational.proofs.ExtendedOrder.{fin_same}
 
 -- ---- two values fix a line
 -- two lines that meet at two times have one slope

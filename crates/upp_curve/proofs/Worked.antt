@@ -1,12 +1,12 @@
 -- Values worked out by hand, as checks of the definitions: each by computation.
 use Rattle.std.specs.Prelude.{◌≡◌, ℕ, pos}
 use Rattle.std.proofs.Common.{ap, refl}
-use Rattle.min_plus.specs.rational.specs.Gcd.{gcd, gcd_steps}
-use Rattle.min_plus.specs.rational.specs.Rational.{◌+ℚ◌, ◌-ℚ◌, ◌*ℚ◌, ◌/ℚ◌, neg_ℚ, inv_ℚ, frac, le_q, lt_q}
-use Rattle.min_plus.specs.rational.specs.Fractions.{same_parts}
-use Rattle.min_plus.specs.rational.specs.MinMax.{min_q, max_q}
-use Rattle.min_plus.specs.rational.specs.Whole.{whole_part, periods}
-use Rattle.min_plus.specs.rational.specs.declared.Extended.TheVariants.{Fin}
+use Rattle.rational.specs.Gcd.{gcd, gcd_steps}
+use Rattle.rational.specs.Rational.{◌+ℚ◌, ◌-ℚ◌, ◌*ℚ◌, ◌/ℚ◌, neg_ℚ, inv_ℚ, frac, le_q, lt_q}
+use Rattle.rational.specs.Fractions.{same_parts}
+use Rattle.rational.specs.MinMax.{min_q, max_q}
+use Rattle.rational.specs.Whole.{whole_part, periods}
+use Rattle.rational.specs.declared.Extended.TheVariants.{Fin}
 use Rattle.upp_curve.specs.affine_segment.Reading.{read, piece_in, piece_value}
 use Rattle.upp_curve.specs.Curve.{value_at, repeated}
 use Rattle.upp_curve.specs.Unrolled.{count, unroll, copies, each_later, upto, from}

@@ -1,14 +1,14 @@
 -- A deconvolution whose supremum is at a downward jump, and is not taken.
 use Rattle.std.specs.Prelude.{◌≡◌}
 use Rattle.std.proofs.Common.{arith, sym, ap, ◌∙◌, inl, inr}
-use Rattle.min_plus.specs.rational.specs.Rational.{ℚ, ◌+ℚ◌, ◌-ℚ◌, ◌*ℚ◌, ◌≤ℚ◌, ◌<ℚ◌}
-use Rattle.min_plus.specs.rational.specs.Extended.{◌≤ₑ◌, ◌<ₑ◌, ◌-ₑ◌}
-use Rattle.min_plus.specs.rational.specs.declared.Extended.TheVariants.{Fin}
-use Rattle.min_plus.specs.rational.specs.MinMax.{max_q}
-use Rattle.min_plus.specs.rational.proofs.Linear.{with1, with2}
-use Rattle.min_plus.specs.rational.proofs.Laws.{le_or_lt, mul_zero}
-use Rattle.min_plus.specs.rational.proofs.MinMax.{max_q_is_left, max_q_ge_left, max_q_ge_right}
-use Rattle.min_plus.specs.rational.proofs.Integers.{nat_nonneg}
+use Rattle.rational.specs.Rational.{ℚ, ◌+ℚ◌, ◌-ℚ◌, ◌*ℚ◌, ◌≤ℚ◌, ◌<ℚ◌}
+use Rattle.rational.specs.Extended.{◌≤ₑ◌, ◌<ₑ◌, ◌-ₑ◌}
+use Rattle.rational.specs.declared.Extended.TheVariants.{Fin}
+use Rattle.rational.specs.MinMax.{max_q}
+use Rattle.rational.proofs.Linear.{with1, with2}
+use Rattle.rational.proofs.Laws.{le_or_lt, mul_zero}
+use Rattle.rational.proofs.MinMax.{max_q_is_left, max_q_ge_left, max_q_ge_right}
+use Rattle.rational.proofs.Integers.{nat_nonneg}
 use Rattle.min_plus.specs.Functions.{zero_q}
 use Rattle.upp_curve.specs.Curve.{value_at}
 use Rattle.upp_curve.specs.Kinds.{rate_latency}
@@ -17,7 +17,7 @@ use Rattle.upp_curve.specs.WorkedStairs.{JumpLeaves}
 use Rattle.upp_curve.proofs.KindValues.{service_is}
 use Rattle.min_plus.specs.Formulas.{IsService}
 use Rattle.upp_curve.proofs.WorkedRunning.{dip_early, dip_late, close}
-use Rattle.min_plus.specs.rational.proofs.ExtendedOrder.{fin_same}
+use Rattle.rational.proofs.ExtendedOrder.{fin_same}
 
 late : IsService (whole 1) (whole 1) (value_at (rate_latency (whole 1) (whole 1)))
 late = service_is (whole 1) (whole 1) (nat_nonneg 1) (nat_nonneg 1)

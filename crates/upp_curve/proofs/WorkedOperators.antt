@@ -1,19 +1,19 @@
 -- Operators worked out for the kinds of curve that are affine, as checks of the definitions.
 use Rattle.std.specs.Prelude.{◌≡◌, ℕ}
 use Rattle.std.proofs.Common.{arith, sym, ap, ◌∙◌, subst, refl}
-use Rattle.min_plus.specs.rational.specs.Rational.{ℚ, ◌+ℚ◌, ◌*ℚ◌, ◌≤ℚ◌}
-use Rattle.min_plus.specs.rational.specs.Fractions.{same_parts}
-use Rattle.min_plus.specs.rational.proofs.Linear.{with1, with5}
-use Rattle.min_plus.specs.rational.proofs.Laws.{mul_add}
-use Rattle.min_plus.specs.rational.specs.Extended.{◌≤ₑ◌, ◌+ₑ◌}
-use Rattle.min_plus.specs.rational.specs.declared.Extended.TheVariants.{Fin}
+use Rattle.rational.specs.Rational.{ℚ, ◌+ℚ◌, ◌*ℚ◌, ◌≤ℚ◌}
+use Rattle.rational.specs.Fractions.{same_parts}
+use Rattle.rational.proofs.Linear.{with1, with5}
+use Rattle.rational.proofs.Laws.{mul_add}
+use Rattle.rational.specs.Extended.{◌≤ₑ◌, ◌+ₑ◌}
+use Rattle.rational.specs.declared.Extended.TheVariants.{Fin}
 use Rattle.min_plus.specs.Functions.{zero_q}
 use Rattle.min_plus.specs.Convolution.{IsDeconvolution, IsSubadditiveClosure, IsConvolution}
 use Rattle.min_plus.specs.Formulas.{IsService, bucket_value, rate_latency_value}
 use Rattle.upp_curve.specs.WorkedRows.{whole, ConvolutionRows}
 use Rattle.upp_curve.specs.Kinds.{bucket, rate_latency}
 use Rattle.upp_curve.specs.Curve.{value_at}
-use Rattle.min_plus.specs.rational.proofs.Whole.{nat_nonneg}
+use Rattle.rational.proofs.Whole.{nat_nonneg}
 use Rattle.min_plus.proofs.BucketOperators.{bucket_convolution, bucket_deconvolution, bucket_closure, bucket_subadditive, service_convolution, service_closure}
 use Rattle.upp_curve.proofs.KindValues.{bucket_is, service_is}
 use Rattle.upp_curve.proofs.Worked.{computing, latencies, bursts, both_bursts}

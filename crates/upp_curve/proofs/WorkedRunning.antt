@@ -1,15 +1,15 @@
 -- The running bounds of a function with a downward jump, worked out by hand.
 use Rattle.std.specs.Prelude.{◌≡◌, pos}
 use Rattle.std.proofs.Common.{arith, ap, ◌∙◌, subst, inl, inr}
-use Rattle.min_plus.specs.rational.specs.Rational.{ℚ, ◌*ℚ◌, ◌/ℚ◌, ◌≤ℚ◌, ◌<ℚ◌, frac}
-use Rattle.min_plus.specs.rational.specs.Extended.{◌≤ₑ◌, ◌<ₑ◌}
-use Rattle.min_plus.specs.rational.specs.declared.Extended.TheVariants.{Fin}
-use Rattle.min_plus.specs.rational.proofs.Linear.{with1, with2, with3}
-use Rattle.min_plus.specs.rational.proofs.Over.{le_q_out}
-use Rattle.min_plus.specs.rational.proofs.Laws.{le_or_lt, le_refl, between, div_mul, mul_comm}
-use Rattle.min_plus.specs.rational.proofs.MinMax.{le_q_not}
-use Rattle.min_plus.specs.rational.proofs.Bounds.{least_member, largest_member}
-use Rattle.min_plus.specs.rational.proofs.Whole.{not_zero}
+use Rattle.rational.specs.Rational.{ℚ, ◌*ℚ◌, ◌/ℚ◌, ◌≤ℚ◌, ◌<ℚ◌, frac}
+use Rattle.rational.specs.Extended.{◌≤ₑ◌, ◌<ₑ◌}
+use Rattle.rational.specs.declared.Extended.TheVariants.{Fin}
+use Rattle.rational.proofs.Linear.{with1, with2, with3}
+use Rattle.rational.proofs.Over.{le_q_out}
+use Rattle.rational.proofs.Laws.{le_or_lt, le_refl, between, div_mul, mul_comm}
+use Rattle.rational.proofs.MinMax.{le_q_not}
+use Rattle.rational.proofs.Bounds.{least_member, largest_member}
+use Rattle.rational.proofs.Whole.{not_zero}
 use Rattle.upp_curve.specs.affine_segment.Reading.{read, piece_in}
 use Rattle.upp_curve.specs.Curve.{value_at}
 use Rattle.min_plus.specs.Functions.{zero_q, UpTo, From}

@@ -1,16 +1,16 @@
 -- Shifts, multiples and differences of curves, worked out by hand.
 use Rattle.std.specs.Prelude.{◌≡◌}
 use Rattle.std.proofs.Common.{arith, ap, subst, inl, inr, refl}
-use Rattle.min_plus.specs.rational.specs.Rational.{ℚ, ◌+ℚ◌, ◌-ℚ◌, ◌*ℚ◌, ◌≤ℚ◌, ◌<ℚ◌}
-use Rattle.min_plus.specs.rational.specs.Fractions.{same_parts}
-use Rattle.min_plus.specs.rational.specs.Extended.{Ext, ◌≤ₑ◌}
-use Rattle.min_plus.specs.rational.specs.declared.Extended.TheVariants.{Fin}
-use Rattle.min_plus.specs.rational.proofs.Linear.{with1, with2}
-use Rattle.min_plus.specs.rational.proofs.Laws.{le_or_lt, le_refl}
-use Rattle.min_plus.specs.rational.proofs.MinMax.{le_q_not, max_q_right, max_q_is_left}
-use Rattle.min_plus.specs.rational.proofs.Over.{le_q_out}
-use Rattle.min_plus.specs.rational.proofs.Bounds.{least_member}
-use Rattle.min_plus.specs.rational.proofs.Integers.{nat_nonneg}
+use Rattle.rational.specs.Rational.{ℚ, ◌+ℚ◌, ◌-ℚ◌, ◌*ℚ◌, ◌≤ℚ◌, ◌<ℚ◌}
+use Rattle.rational.specs.Fractions.{same_parts}
+use Rattle.rational.specs.Extended.{Ext, ◌≤ₑ◌}
+use Rattle.rational.specs.declared.Extended.TheVariants.{Fin}
+use Rattle.rational.proofs.Linear.{with1, with2}
+use Rattle.rational.proofs.Laws.{le_or_lt, le_refl}
+use Rattle.rational.proofs.MinMax.{le_q_not, max_q_right, max_q_is_left}
+use Rattle.rational.proofs.Over.{le_q_out}
+use Rattle.rational.proofs.Bounds.{least_member}
+use Rattle.rational.proofs.Integers.{nat_nonneg}
 use Rattle.min_plus.specs.Functions.{zero_q, From}
 use Rattle.min_plus.specs.Running.{IsRunningInfimum, left_after}
 use Rattle.upp_curve.specs.Curve.{value_at, cut}

@@ -2,19 +2,19 @@
 use Rattle.std.specs.Prelude.{◌≡◌, ℕ, zero, suc, ◌+◌, ◌*◌, ◌<◌, ◌≤◌, pos, ◌⊎◌}
 use Rattle.std.proofs.Common.{arith, sym, ap, ◌∙◌, subst, inl, inr, refl}
 use Rattle.std.proofs.lemmas.Int.{ints}
-use Rattle.min_plus.specs.rational.specs.Rational.{ℚ, ◌+ℚ◌, ◌-ℚ◌, ◌*ℚ◌, ◌≤ℚ◌, ◌<ℚ◌, ◌/ℚ◌, int, frac}
-use Rattle.min_plus.specs.rational.specs.Fractions.{same_parts}
-use Rattle.min_plus.specs.rational.specs.Extended.{Ext, ◌≤ₑ◌, ◌+ₑ◌, ◌-ₑ◌}
-use Rattle.min_plus.specs.rational.specs.declared.Extended.TheVariants.{Fin}
-use Rattle.min_plus.specs.rational.specs.MinMax.{max_q}
-use Rattle.min_plus.specs.rational.specs.Whole.{whole_part, periods}
-use Rattle.min_plus.specs.rational.proofs.Linear.{with1, with2, with3, with4, with5, with6, with8}
-use Rattle.min_plus.specs.rational.proofs.Laws.{le_refl, mul_zero, mul_comm, mul_add, mul_one, zero_mul, one_mul, div_mul, frac_nonneg}
-use Rattle.min_plus.specs.rational.proofs.MinMax.{le_q_not, max_q_ge_left, max_q_ge_right}
-use Rattle.min_plus.specs.rational.proofs.Over.{le_q_out}
-use Rattle.min_plus.specs.rational.proofs.Bounds.{least_member, largest_member}
-use Rattle.min_plus.specs.rational.proofs.Integers.{nat_next, nat_lt, nat_lt_out, nat_le}
-use Rattle.min_plus.specs.rational.proofs.Whole.{nat_nonneg, not_zero, lt_of_mul, whole_small, periods_low, periods_high}
+use Rattle.rational.specs.Rational.{ℚ, ◌+ℚ◌, ◌-ℚ◌, ◌*ℚ◌, ◌≤ℚ◌, ◌<ℚ◌, ◌/ℚ◌, int, frac}
+use Rattle.rational.specs.Fractions.{same_parts}
+use Rattle.rational.specs.Extended.{Ext, ◌≤ₑ◌, ◌+ₑ◌, ◌-ₑ◌}
+use Rattle.rational.specs.declared.Extended.TheVariants.{Fin}
+use Rattle.rational.specs.MinMax.{max_q}
+use Rattle.rational.specs.Whole.{whole_part, periods}
+use Rattle.rational.proofs.Linear.{with1, with2, with3, with4, with5, with6, with8}
+use Rattle.rational.proofs.Laws.{le_refl, mul_zero, mul_comm, mul_add, mul_one, zero_mul, one_mul, div_mul, frac_nonneg}
+use Rattle.rational.proofs.MinMax.{le_q_not, max_q_ge_left, max_q_ge_right}
+use Rattle.rational.proofs.Over.{le_q_out}
+use Rattle.rational.proofs.Bounds.{least_member, largest_member}
+use Rattle.rational.proofs.Integers.{nat_next, nat_lt, nat_lt_out, nat_le}
+use Rattle.rational.proofs.Whole.{nat_nonneg, not_zero, lt_of_mul, whole_small, periods_low, periods_high}
 use Rattle.min_plus.specs.Functions.{zero_q, FiniteTime}
 use Rattle.min_plus.specs.Convolution.{IsDeconvolution, Split, IsConvolution}
 use Rattle.upp_curve.specs.affine_segment.Reading.{read, piece_in}
@@ -26,7 +26,7 @@ use Rattle.upp_curve.proofs.KindValues.{on_line, service_is}
 use Rattle.min_plus.specs.Formulas.{IsService}
 use Rattle.upp_curve.proofs.Rules.{int_add, int_mul}
 use Rattle.upp_curve.proofs.Worked.{computing}
-use Rattle.min_plus.specs.rational.proofs.ExtendedOrder.{fin_same}
+use Rattle.rational.proofs.ExtendedOrder.{fin_same}
 
 -- ---- the value at each time
 no_jitter : (d : ℚ) → zero_q <ℚ d → whole_part (zero_q /ℚ d) ≡ 0

@@ -1,6 +1,6 @@
 -- The curve of each kind has the kind's values and is in normal form. Own choice.
 use Rattle.std.specs.Prelude.{◌≡◌}
-use Rattle.min_plus.specs.rational.specs.Rational.{ℚ, ◌≤ℚ◌, ◌<ℚ◌}
+use Rattle.rational.specs.Rational.{ℚ, ◌≤ℚ◌, ◌<ℚ◌}
 use Rattle.upp_curve.specs.Curve.{value_at}
 use Rattle.upp_curve.specs.Normal.{IsNormal}
 use Rattle.min_plus.specs.Functions.{zero_q}

@@ -1,9 +1,9 @@
 -- The four kinds of curve that a formula gives, each as a curve in normal form.
 -- (Le Boudec and Thiran: token bucket, stair and rate-latency functions. The gate is our own.)
 use Rattle.std.specs.Prelude.{pos, suc, [], ◌∷◌, Some, cond, ◌||◌}
-use Rattle.min_plus.specs.rational.specs.Rational.{ℚ, ◌+ℚ◌, ◌-ℚ◌, ◌*ℚ◌, ◌/ℚ◌, int, le_q, neg_ℚ}
-use Rattle.min_plus.specs.rational.specs.Whole.{whole_part}
-use Rattle.min_plus.specs.rational.specs.declared.Extended.TheVariants.{Fin}
+use Rattle.rational.specs.Rational.{ℚ, ◌+ℚ◌, ◌-ℚ◌, ◌*ℚ◌, ◌/ℚ◌, int, le_q, neg_ℚ}
+use Rattle.rational.specs.Whole.{whole_part}
+use Rattle.rational.specs.declared.Extended.TheVariants.{Fin}
 use Rattle.upp_curve.specs.declared.affine_segment.line.Piece.{Piece}
 use Rattle.upp_curve.specs.declared.curve.Tail.TheVariants.{Periodic, Affine}
 use Rattle.upp_curve.specs.Curve.{SpecCurve}

@@ -14,4 +14,3 @@ pub mod WorkedRows
 pub mod WorkedStairs
 pub mod WorkedShifts
 pub mod affine_segment
-pub use Rattle.fraction128 as fraction128

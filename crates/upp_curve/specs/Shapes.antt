@@ -1,8 +1,8 @@
 -- When pieces are finite and when they rise, by what is read of each. Own choice.
 use Rattle.std.specs.Prelude.{List, [], ◌∷◌, Option, Some, None}
-use Rattle.min_plus.specs.rational.specs.Rational.{ℚ, ◌≤ℚ◌}
-use Rattle.min_plus.specs.rational.specs.Extended.{Ext, ◌≤ₑ◌}
-use Rattle.min_plus.specs.rational.specs.declared.Extended.TheVariants.{Fin, Inf}
+use Rattle.rational.specs.Rational.{ℚ, ◌≤ℚ◌}
+use Rattle.rational.specs.Extended.{Ext, ◌≤ₑ◌}
+use Rattle.rational.specs.declared.Extended.TheVariants.{Fin, Inf}
 use Rattle.upp_curve.specs.declared.affine_segment.line.Line.{Line}
 use Rattle.upp_curve.specs.declared.affine_segment.line.Piece.{Piece}
 use Rattle.upp_curve.specs.affine_segment.Values.{line_value}

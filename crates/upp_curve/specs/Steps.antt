@@ -1,9 +1,9 @@
 -- Which step of a curve's value was too wide. Own choice.
 use Rattle.std.specs.Prelude.{pos, List, [], ◌∷◌, Option, Some, None, ◌⊎◌}
-use Rattle.min_plus.specs.rational.specs.Rational.{ℚ, ◌-ℚ◌, ◌*ℚ◌, ◌≤ℚ◌, ◌<ℚ◌, int}
-use Rattle.min_plus.specs.rational.specs.Whole.{periods}
-use Rattle.min_plus.specs.rational.specs.Extended.{Ext}
-use Rattle.min_plus.specs.rational.specs.declared.Extended.TheVariants.{Fin, Inf}
+use Rattle.rational.specs.Rational.{ℚ, ◌-ℚ◌, ◌*ℚ◌, ◌≤ℚ◌, ◌<ℚ◌, int}
+use Rattle.rational.specs.Whole.{periods}
+use Rattle.rational.specs.Extended.{Ext}
+use Rattle.rational.specs.declared.Extended.TheVariants.{Fin, Inf}
 use Rattle.fraction128.specs.declared.fault.Wide.{Wide}
 use Rattle.upp_curve.specs.declared.affine_segment.line.Line.{Line}
 use Rattle.upp_curve.specs.declared.affine_segment.line.Piece.{Piece}

@@ -1,8 +1,8 @@
 -- Shifts, multiples and differences of curves, worked out by hand from the words of the definitions.
 -- Own choice of examples.
 use Rattle.std.specs.Prelude.{◌≡◌, pos, [], ◌∷◌}
-use Rattle.min_plus.specs.rational.specs.Rational.{ℚ, ◌≤ℚ◌, frac}
-use Rattle.min_plus.specs.rational.specs.declared.Extended.TheVariants.{Fin, Inf}
+use Rattle.rational.specs.Rational.{ℚ, ◌≤ℚ◌, frac}
+use Rattle.rational.specs.declared.Extended.TheVariants.{Fin, Inf}
 use Rattle.upp_curve.specs.declared.curve.Tail.TheVariants.{Infinite}
 use Rattle.upp_curve.specs.Curve.{SpecCurve, value_at}
 use Rattle.min_plus.specs.Functions.{zero_q}

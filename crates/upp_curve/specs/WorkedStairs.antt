@@ -1,8 +1,8 @@
 -- Stairs without jitter, and a supremum at a jump that no time takes, worked out by hand from the words of the
 -- definitions. Own choice of examples.
 use Rattle.std.specs.Prelude.{◌≡◌}
-use Rattle.min_plus.specs.rational.specs.Rational.{ℚ, ◌≤ℚ◌, ◌<ℚ◌}
-use Rattle.min_plus.specs.rational.specs.declared.Extended.TheVariants.{Fin}
+use Rattle.rational.specs.Rational.{ℚ, ◌≤ℚ◌, ◌<ℚ◌}
+use Rattle.rational.specs.declared.Extended.TheVariants.{Fin}
 use Rattle.upp_curve.specs.Curve.{value_at}
 use Rattle.min_plus.specs.Functions.{zero_q}
 use Rattle.min_plus.specs.Convolution.{IsConvolution, IsDeconvolution}

@@ -1,7 +1,7 @@
 //! Curves, and their value at a time.
 
 ghost use Rattle.std.specs.Prelude.{◌≡◌, ◌↔◌, pos, length, IsOk, IfOk, IfErr, IsTrue};
-ghost use Rattle.min_plus.specs.rational.specs.Rational.{int, ◌≤ℚ◌};
+ghost use Rattle.rational.specs.Rational.{int, ◌≤ℚ◌};
 ghost use Rattle.upp_curve.specs.Curve.{SpecCurve, value_at, HasSameValues};
 ghost use Rattle.upp_curve.specs.Curves.{IsCurve};
 ghost use Rattle.min_plus.specs.Functions.{IsFinite, IsRising};
@@ -13,7 +13,7 @@ use crate::reading::{read, read_past};
 use crate::same::{same_pieces, same_tail};
 use crate::shape::{are_finite, last_slope, period_end, rise_to};
 use fraction128::{Ext, Frac, Wide};
-use min_plus::rational::Extended;
+use rational::Extended;
 use std::alloc::{AllocError, Global};
 use std::cmp::Ordering;
 use std::marker::Model;

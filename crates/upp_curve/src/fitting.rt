@@ -1,14 +1,14 @@
 //! A piece moved in time and height, where each step is known to fit.
 
 ghost use Rattle.std.specs.Prelude.{◌≡◌};
-ghost use Rattle.min_plus.specs.rational.specs.Extended.{◌+ₑ◌};
+ghost use Rattle.rational.specs.Extended.{◌+ₑ◌};
 ghost use Rattle.upp_curve.specs.Readable.{SumFitsAt};
 ghost use Rattle.upp_curve.specs.Unrolled.{line_later, later};
 ghost use Rattle.upp_curve.specs.Fitting.{LaterFits, LineLaterFits};
 
 use crate::affine_segment::{Line, Piece};
 use fraction128::{Ext, Frac, difference, product, sum};
-use min_plus::rational::Extended;
+use rational::Extended;
 
 /// A value, risen.
 pub(crate) fn raised(v: Ext, by: Frac) -> Ext

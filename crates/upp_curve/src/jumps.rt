@@ -14,7 +14,7 @@ use crate::affine_segment::{Line, Piece, line_at};
 use crate::curve::{Curve, Tail};
 use crate::shape::{End, period_end};
 use fraction128::{Ext, Frac};
-use min_plus::rational::Extended;
+use rational::Extended;
 
 // Whether the value of a line at x, infinity where there is none, is this one.
 fn line_reaches(line: Option<Line>, x: Frac, at: Ext) -> bool

@@ -13,7 +13,6 @@ mod shape;
 mod worked_laws;
 
 pub use curve::{Curve, Tail, equal};
-pub use fraction128;
 pub use jumps::is_continuous;
 pub use kind_laws::kinds_are_curves;
 pub use worked_laws::{worked_kinds, worked_operators, worked_shifts, worked_stairs};

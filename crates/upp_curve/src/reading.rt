@@ -1,9 +1,9 @@
 //! How pieces are read at a time.
 
 ghost use Rattle.std.specs.Prelude.{◌≡◌, pos, List, ◌∷◌, IfOk, IfErr};
-ghost use Rattle.min_plus.specs.rational.specs.Rational.{ℚ, int, ◌≤ℚ◌, ◌<ℚ◌, le_q};
-ghost use Rattle.min_plus.specs.rational.specs.Extended.{◌+ₑ◌};
-ghost use Rattle.min_plus.specs.rational.specs.Whole.{periods};
+ghost use Rattle.rational.specs.Rational.{ℚ, int, ◌≤ℚ◌, ◌<ℚ◌, le_q};
+ghost use Rattle.rational.specs.Extended.{◌+ₑ◌};
+ghost use Rattle.rational.specs.Whole.{periods};
 ghost use Rattle.upp_curve.specs.affine_segment.Values.{line_value};
 ghost use Rattle.upp_curve.specs.affine_segment.Reading.{piece_in, piece_value, read};
 ghost use Rattle.upp_curve.specs.Curve.{repeated};
@@ -12,7 +12,7 @@ ghost use Rattle.upp_curve.specs.Steps.{IsWideLine, IsWideRead, IsWideRise, IsWi
 
 use crate::affine_segment::{Line, Piece, piece_at, value};
 use fraction128::{Ext, Frac, Wide};
-use min_plus::rational::Extended;
+use rational::Extended;
 use std::cmp::Ordering;
 
 // The value at t of a line that may be missing.

@@ -5,7 +5,7 @@ ghost use Rattle.std.specs.Prelude.{◌≡◌, ◌↔◌, IsTrue};
 use crate::affine_segment::{Line, Piece};
 use crate::curve::Tail;
 use fraction128::Ext;
-use min_plus::rational::Extended;
+use rational::Extended;
 
 /// Whether two values are one.
 pub fn same_ext(a: Ext, b: Ext) -> bool

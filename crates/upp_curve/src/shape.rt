@@ -1,9 +1,9 @@
 //! Whether pieces are finite and whether they rise, by what is read of each.
 
 ghost use Rattle.std.specs.Prelude.{◌≡◌, ◌↔◌, pos, ◌∷◌, IsTrue};
-ghost use Rattle.min_plus.specs.rational.specs.Rational.{int, ◌+ℚ◌, ◌≤ℚ◌};
-ghost use Rattle.min_plus.specs.rational.specs.Ratio.{SumFits};
-ghost use Rattle.min_plus.specs.rational.specs.Extended.{◌≤ₑ◌, ◌+ₑ◌};
+ghost use Rattle.rational.specs.Rational.{int, ◌+ℚ◌, ◌≤ℚ◌};
+ghost use Rattle.rational.specs.Ratio.{SumFits};
+ghost use Rattle.rational.specs.Extended.{◌≤ₑ◌, ◌+ₑ◌};
 ghost use Rattle.upp_curve.specs.affine_segment.Reading.{read};
 ghost use Rattle.upp_curve.specs.affine_segment.Pieces.{Each, HasStart, StartsAtZero};
 ghost use Rattle.upp_curve.specs.affine_segment.Fits.{LineFits, LineFitsAt};
@@ -14,7 +14,7 @@ ghost use Rattle.upp_curve.specs.Shapes.{IsFinitePiece, EndsBelow, PieceRises, P
 use crate::affine_segment::{Line, Piece, line_at, piece_at};
 use crate::fitting::raised;
 use fraction128::{Ext, Frac, sum};
-use min_plus::rational::Extended;
+use rational::Extended;
 use std::cmp::Ordering;
 
 /// The end of a piece's stretch: the next start, and the value there.

@@ -8,16 +8,16 @@ use Rattle.std.proofs.lemmas.Bool.{cases_lt}
 use Rattle.std.proofs.lemmas.Nat.Gcd.{dvd_refl}
 use Rattle.std.proofs.Math.Nat.{le-max_left, le-max_right, max-le}
 use native.Mathlib.Nat.{dvd_trans, dvd_antisymm, one-dvd, zero-lt-suc, div-add-mod', mod-lt, mul-le-mul_right}
-use Rattle.min_plus.specs.rational.specs.Ints.{neg_mul_z}
-use Rattle.min_plus.specs.rational.specs.Rational.{ℚ, den, ◌≤ℚ◌, int, frac}
-use Rattle.min_plus.specs.rational.specs.Fractions.{frac_self}
-use Rattle.min_plus.specs.rational.proofs.Over.{le_frac}
-use Rattle.min_plus.specs.rational.specs.Gauge.{lcm, common_den, common_den_from, size_up, up_over, bound_of}
-use Rattle.min_plus.specs.rational.specs.Grid.{Whole, Within}
-use Rattle.min_plus.specs.rational.proofs.Over.{neg_over}
-use Rattle.min_plus.specs.rational.proofs.Multiples.{lcm_left, lcm_right, lcm_least, lcm_pos}
-use Rattle.min_plus.specs.rational.proofs.Grid.{whole_divides, whole_from_divides, within_weaken}
-use Rattle.min_plus.specs.rational.proofs.Integers.{nat_le}
+use Rattle.rational.specs.Ints.{neg_mul_z}
+use Rattle.rational.specs.Rational.{ℚ, den, ◌≤ℚ◌, int, frac}
+use Rattle.rational.specs.Fractions.{frac_self}
+use Rattle.rational.proofs.Over.{le_frac}
+use Rattle.rational.specs.Gauge.{lcm, common_den, common_den_from, size_up, up_over, bound_of}
+use Rattle.rational.specs.Grid.{Whole, Within}
+use Rattle.rational.proofs.Over.{neg_over}
+use Rattle.rational.proofs.Multiples.{lcm_left, lcm_right, lcm_least, lcm_pos}
+use Rattle.rational.proofs.Grid.{whole_divides, whole_from_divides, within_weaken}
+use Rattle.rational.proofs.Integers.{nat_le}
 use Rattle.upp_limits.proofs.Every.{every_weaken}
 
 -- ---- the least common denominator

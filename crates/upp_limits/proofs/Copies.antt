@@ -2,16 +2,16 @@
 use Rattle.std.specs.Prelude.{◌≡◌, ℕ, zero, suc, ◌<◌, ◌≤◌, pos, cond, Option, Some, None}
 use Rattle.std.proofs.Common.{arith, ap, ◌∙◌, refl, subst, inl, inr}
 use Rattle.std.specs.List.{AllByRecursion}
-use Rattle.min_plus.specs.rational.specs.Rational.{ℚ, ◌+ℚ◌, ◌-ℚ◌, ◌*ℚ◌, ◌/ℚ◌, ◌≤ℚ◌, ◌<ℚ◌, int}
-use Rattle.min_plus.specs.rational.specs.Extended.{Ext, ◌+ₑ◌}
-use Rattle.min_plus.specs.rational.specs.declared.Extended.TheVariants.{Fin, Inf}
-use Rattle.min_plus.specs.rational.specs.Whole.{whole_part}
-use Rattle.min_plus.specs.rational.proofs.Linear.{with1, with2, with3, with4}
-use Rattle.min_plus.specs.rational.proofs.Laws.{le_or_lt, le_of_lt, lt_le_trans, le_lt_trans, mul_zero, div_mul, zero_mul}
-use Rattle.min_plus.specs.rational.proofs.Integers.{nat_lt, nat_lt_out}
-use Rattle.min_plus.specs.rational.proofs.Over.{le_q_out}
-use Rattle.min_plus.specs.rational.proofs.MinMax.{le_q_not}
-use Rattle.min_plus.specs.rational.proofs.Whole.{mul_lt_mul_right, lt_of_mul, not_zero, whole_le, whole_gt, whole_small}
+use Rattle.rational.specs.Rational.{ℚ, ◌+ℚ◌, ◌-ℚ◌, ◌*ℚ◌, ◌/ℚ◌, ◌≤ℚ◌, ◌<ℚ◌, int}
+use Rattle.rational.specs.Extended.{Ext, ◌+ₑ◌}
+use Rattle.rational.specs.declared.Extended.TheVariants.{Fin, Inf}
+use Rattle.rational.specs.Whole.{whole_part}
+use Rattle.rational.proofs.Linear.{with1, with2, with3, with4}
+use Rattle.rational.proofs.Laws.{le_or_lt, le_of_lt, lt_le_trans, le_lt_trans, mul_zero, div_mul, zero_mul}
+use Rattle.rational.proofs.Integers.{nat_lt, nat_lt_out}
+use Rattle.rational.proofs.Over.{le_q_out}
+use Rattle.rational.proofs.MinMax.{le_q_not}
+use Rattle.rational.proofs.Whole.{mul_lt_mul_right, lt_of_mul, not_zero, whole_le, whole_gt, whole_small}
 use Rattle.upp_curve.specs.declared.affine_segment.line.Line.{Line}
 use Rattle.upp_curve.specs.declared.affine_segment.line.Piece.{Piece}
 use Rattle.upp_curve.specs.Unrolled.{line_later, copies_below}

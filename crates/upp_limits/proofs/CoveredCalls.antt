@@ -1,13 +1,13 @@
 -- A call's numbers by the first copies of its operands' pieces.
 use Rattle.std.specs.Prelude.{◌≡◌, ℕ, ◌+◌, ◌*◌, ◌<◌, ◌≤◌, ◌^◌, ◌-◌, pos, ◌≢◌, None}
 use Rattle.std.proofs.Common.{arith, sym, ◌∙◌, subst}
-use Rattle.min_plus.specs.rational.specs.Rational.{ℚ, ◌+ℚ◌, ◌-ℚ◌, ◌*ℚ◌, ◌/ℚ◌, ◌<ℚ◌, int}
-use Rattle.min_plus.specs.rational.specs.Grid.{Within}
-use Rattle.min_plus.specs.rational.specs.Gauge.{cap, bound_of, size_up}
-use Rattle.min_plus.specs.rational.specs.declared.Extended.TheVariants.{Inf}
-use Rattle.min_plus.specs.rational.proofs.Linear.{with4}
-use Rattle.min_plus.specs.rational.proofs.Grid.{within_weaken, within_mul, within_nonneg}
-use Rattle.min_plus.specs.rational.proofs.Integers.{int_mul, nat_le, nat_nonneg}
+use Rattle.rational.specs.Rational.{ℚ, ◌+ℚ◌, ◌-ℚ◌, ◌*ℚ◌, ◌/ℚ◌, ◌<ℚ◌, int}
+use Rattle.rational.specs.Grid.{Within}
+use Rattle.rational.specs.Gauge.{cap, bound_of, size_up}
+use Rattle.rational.specs.declared.Extended.TheVariants.{Inf}
+use Rattle.rational.proofs.Linear.{with4}
+use Rattle.rational.proofs.Grid.{within_weaken, within_mul, within_nonneg}
+use Rattle.rational.proofs.Integers.{int_mul, nat_le, nat_nonneg}
 use Rattle.upp_curve.specs.declared.affine_segment.line.Piece.{Piece}
 use Rattle.upp_curve.specs.declared.curve.Tail.{Tail}
 use Rattle.upp_curve.specs.declared.curve.Tail.TheVariants.{Periodic, Affine, Infinite}

@@ -2,11 +2,11 @@
 use Rattle.std.specs.Prelude.{◌≡◌, ℕ, zero, suc, ◌+◌, ◌*◌, ◌<◌, ◌≤◌, ◌^◌, pos, cond, Bool, true, false, None, List, [], ◌∷◌, length, sum_by}
 use Rattle.std.proofs.Common.{arith, inl, inr}
 use Rattle.std.proofs.lemmas.List.Sums.{sum_by-cons}
-use Rattle.min_plus.specs.rational.specs.Rational.{ℚ, ◌-ℚ◌, ◌*ℚ◌, ◌/ℚ◌, ◌≤ℚ◌, ◌<ℚ◌, int, lt_q}
-use Rattle.min_plus.specs.rational.specs.Gauge.{cap}
-use Rattle.min_plus.specs.rational.specs.declared.Extended.TheVariants.{Inf}
-use Rattle.min_plus.specs.rational.proofs.Laws.{le_or_lt}
-use Rattle.min_plus.specs.rational.proofs.Linear.{with4}
+use Rattle.rational.specs.Rational.{ℚ, ◌-ℚ◌, ◌*ℚ◌, ◌/ℚ◌, ◌≤ℚ◌, ◌<ℚ◌, int, lt_q}
+use Rattle.rational.specs.Gauge.{cap}
+use Rattle.rational.specs.declared.Extended.TheVariants.{Inf}
+use Rattle.rational.proofs.Laws.{le_or_lt}
+use Rattle.rational.proofs.Linear.{with4}
 use Rattle.upp_curve.specs.declared.affine_segment.line.Piece.{Piece}
 use Rattle.upp_curve.specs.declared.curve.Tail.TheVariants.{Periodic}
 use Rattle.upp_curve.specs.Curve.{SpecCurve}

@@ -4,11 +4,11 @@ use Rattle.std.specs.List.{AllByRecursion}
 use Rattle.std.proofs.Common.{arith, sym, ap, subst, append-nil}
 use Rattle.std.proofs.Math.Nat.{le-max_left, le-max_right, max-le}
 use native.Mathlib.Nat.{mul-le-mul_left, mul-le-mul_right}
-use Rattle.min_plus.specs.rational.specs.Rational.{ℚ, ◌+ℚ◌, ◌*ℚ◌, ◌≤ℚ◌, int}
-use Rattle.min_plus.specs.rational.specs.Grid.{Whole, Within}
-use Rattle.min_plus.specs.rational.specs.Gauge.{common_den, bound_of, size_up}
-use Rattle.min_plus.specs.rational.proofs.Grid.{whole_int}
-use Rattle.min_plus.specs.rational.proofs.Integers.{int_add, nat_le, nat_le_out}
+use Rattle.rational.specs.Rational.{ℚ, ◌+ℚ◌, ◌*ℚ◌, ◌≤ℚ◌, int}
+use Rattle.rational.specs.Grid.{Whole, Within}
+use Rattle.rational.specs.Gauge.{common_den, bound_of, size_up}
+use Rattle.rational.proofs.Grid.{whole_int}
+use Rattle.rational.proofs.Integers.{int_add, nat_le, nat_le_out}
 use Rattle.upp_curve.specs.Curve.{SpecCurve}
 use Rattle.min_plus.specs.WholeUp.{whole_up}
 use Rattle.upp_limits.specs.Periods.{HasPeriod}

@@ -3,13 +3,13 @@ use Rattle.std.specs.Prelude.{◌≡◌, ◌<◌, pos, cond, List, [], ◌∷◌
 use Rattle.std.proofs.Common.{arith, sym, subst, inl, inr}
 use Rattle.std.specs.List.{AllByRecursion, flat_map}
 use Rattle.std.proofs.Math.Nat.{le-max_right}
-use Rattle.min_plus.specs.rational.specs.Rational.{ℚ, ◌+ℚ◌, ◌*ℚ◌, ◌≤ℚ◌, ◌<ℚ◌, int}
-use Rattle.min_plus.specs.rational.specs.Grid.{Whole}
-use Rattle.min_plus.specs.rational.proofs.Linear.{with1, with2}
-use Rattle.min_plus.specs.rational.proofs.Laws.{le_or_lt, le_trans, le_lt_trans}
-use Rattle.min_plus.specs.rational.proofs.Integers.{nat_le}
-use Rattle.min_plus.specs.rational.proofs.Over.{lt_q_out}
-use Rattle.min_plus.specs.rational.proofs.MinMax.{lt_q_not}
+use Rattle.rational.specs.Rational.{ℚ, ◌+ℚ◌, ◌*ℚ◌, ◌≤ℚ◌, ◌<ℚ◌, int}
+use Rattle.rational.specs.Grid.{Whole}
+use Rattle.rational.proofs.Linear.{with1, with2}
+use Rattle.rational.proofs.Laws.{le_or_lt, le_trans, le_lt_trans}
+use Rattle.rational.proofs.Integers.{nat_le}
+use Rattle.rational.proofs.Over.{lt_q_out}
+use Rattle.rational.proofs.MinMax.{lt_q_not}
 use Rattle.upp_curve.specs.declared.affine_segment.line.Piece.{Piece}
 use Rattle.upp_curve.specs.declared.curve.Tail.{Tail}
 use Rattle.upp_curve.specs.declared.curve.Tail.TheVariants.{Periodic, Affine, Infinite}

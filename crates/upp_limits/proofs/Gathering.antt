@@ -2,12 +2,12 @@
 use Rattle.std.specs.Prelude.{◌≡◌, ℕ, ◌+◌, ◌*◌, ◌/◌, ◌%◌, ◌<◌, ◌^◌, max, pos, ◌*ℤ◌, nat_abs, List, [], ◌∷◌, ◌++◌}
 use Rattle.std.proofs.Common.{arith, sym, ap, ◌∙◌, refl, subst, append-nil}
 use Rattle.std.proofs.Math.Nat.{le-max_left}
-use Rattle.min_plus.specs.rational.specs.Ints.{mul_comm_z}
-use Rattle.min_plus.specs.rational.specs.Rational.{ℚ, den, int, ◌*ℚ◌, frac}
-use Rattle.min_plus.specs.rational.specs.Fractions.{frac_self, abs-mul}
-use Rattle.min_plus.specs.rational.specs.Gauge.{Kept, cap, lcm, common_den, common_den_from, bound_of, size_up}
-use Rattle.min_plus.specs.rational.proofs.Integers.{mul_whole}
-use Rattle.min_plus.specs.rational.proofs.Gauges.{kept_one}
+use Rattle.rational.specs.Ints.{mul_comm_z}
+use Rattle.rational.specs.Rational.{ℚ, den, int, ◌*ℚ◌, frac}
+use Rattle.rational.specs.Fractions.{frac_self, abs-mul}
+use Rattle.rational.specs.Gauge.{Kept, cap, lcm, common_den, common_den_from, bound_of, size_up}
+use Rattle.rational.proofs.Integers.{mul_whole}
+use Rattle.rational.proofs.Gauges.{kept_one}
 use Rattle.upp_limits.specs.declared.gathered.Gathered.{Gathered}
 use Rattle.upp_limits.specs.Limits.{Numbers, no_numbers, joined, twice, time_alone, value_alone, slope_alone}
 use Rattle.upp_limits.specs.Gathered.{Gathers}

@@ -3,21 +3,21 @@ use Rattle.std.specs.Prelude.{◌≡◌, ℕ, suc, ◌*◌, ◌-◌, ◌<◌, �
 use Rattle.std.proofs.Common.{arith, ap, ◌∙◌, subst}
 use Rattle.std.proofs.lemmas.Int.{ints}
 use native.Mathlib.Nat.{mul-le-mul_left}
-use Rattle.min_plus.specs.rational.specs.Rational.{ℚ, den, int, ◌*ℚ◌, ◌≤ℚ◌, frac}
-use Rattle.min_plus.specs.rational.specs.Fractions.{frac_self}
-use Rattle.min_plus.specs.rational.proofs.Over.{le_frac}
-use Rattle.min_plus.specs.rational.specs.Ints.{mul_comm_z}
-use Rattle.min_plus.specs.rational.specs.Gauge.{Kept, cap, bound_of}
-use Rattle.min_plus.specs.rational.proofs.Integers.{mul_whole}
-use Rattle.min_plus.specs.rational.proofs.Laws.{num_nonneg}
-use Rattle.min_plus.specs.rational.proofs.Grid.{den_bound}
+use Rattle.rational.specs.Rational.{ℚ, den, int, ◌*ℚ◌, ◌≤ℚ◌, frac}
+use Rattle.rational.specs.Fractions.{frac_self}
+use Rattle.rational.proofs.Over.{le_frac}
+use Rattle.rational.specs.Ints.{mul_comm_z}
+use Rattle.rational.specs.Gauge.{Kept, cap, bound_of}
+use Rattle.rational.proofs.Integers.{mul_whole}
+use Rattle.rational.proofs.Laws.{num_nonneg}
+use Rattle.rational.proofs.Grid.{den_bound}
 use Rattle.upp_limits.specs.declared.gathered.Gathered.{Gathered}
 use Rattle.min_plus.specs.WholeUp.{whole_up}
 use Rattle.upp_limits.specs.Limits.{Numbers, Sizes, joined, time_alone, twice, sizes_of, gauge_of}
 use Rattle.upp_limits.specs.Sized.{AreSizes}
 use Rattle.upp_limits.specs.Gathered.{Gathers}
 use Rattle.upp_limits.proofs.Gathering.{kept_max}
-use Rattle.min_plus.specs.rational.proofs.Gauges.{le_times}
+use Rattle.rational.proofs.Gauges.{le_times}
 
 grown : (m a b : ℕ) → m ≤ a → 0 < b → m ≤ a * b
 grown m a b h k = let l = le_times a b k in omega arith

@@ -1,7 +1,7 @@
 -- Lists of numbers joined one after another.
 use Rattle.std.specs.Prelude.{◌≡◌, List, [], ◌∷◌, ◌++◌}
 use Rattle.std.proofs.Common.{ap, ◌∙◌, append_assoc, append-nil}
-use Rattle.min_plus.specs.rational.specs.Rational.{ℚ}
+use Rattle.rational.specs.Rational.{ℚ}
 use Rattle.upp_limits.specs.Limits.{Numbers, no_numbers, joined, time_alone, values_alone, slopes_alone}
 
 -- three lists as numbers; it opens only where a proof asks

@@ -1,15 +1,15 @@
 -- A curve of rate 0 that rises ends at one value; and when one curve ends above another.
 use Rattle.std.specs.Prelude.{◌≡◌, ℕ, suc, pos, List, Option, Some, None, ◌↔◌}
 use Rattle.std.proofs.Common.{arith, sym, ap, ◌∙◌, refl, subst}
-use Rattle.min_plus.specs.rational.specs.Rational.{ℚ, ◌+ℚ◌, ◌*ℚ◌, ◌/ℚ◌, ◌≤ℚ◌, ◌<ℚ◌, int}
-use Rattle.min_plus.specs.rational.specs.Extended.{Ext, ◌≤ₑ◌, ◌<ₑ◌, ◌+ₑ◌}
-use Rattle.min_plus.specs.rational.specs.declared.Extended.TheVariants.{Fin, Inf}
-use Rattle.min_plus.specs.rational.proofs.Linear.{with2, with4}
-use Rattle.min_plus.specs.rational.proofs.Laws.{le_refl, le_trans, le_of_lt, le_lt_trans, lt_le_trans, mul_comm, mul_zero, div_mul}
-use Rattle.min_plus.specs.rational.specs.MinMax.{max_q}
-use Rattle.min_plus.specs.rational.proofs.MinMax.{max_q_ge_left, max_q_ge_right}
-use Rattle.min_plus.specs.rational.proofs.Whole.{not_zero, periods_high, one_more_times}
-use Rattle.min_plus.specs.rational.specs.Whole.{periods}
+use Rattle.rational.specs.Rational.{ℚ, ◌+ℚ◌, ◌*ℚ◌, ◌/ℚ◌, ◌≤ℚ◌, ◌<ℚ◌, int}
+use Rattle.rational.specs.Extended.{Ext, ◌≤ₑ◌, ◌<ₑ◌, ◌+ₑ◌}
+use Rattle.rational.specs.declared.Extended.TheVariants.{Fin, Inf}
+use Rattle.rational.proofs.Linear.{with2, with4}
+use Rattle.rational.proofs.Laws.{le_refl, le_trans, le_of_lt, le_lt_trans, lt_le_trans, mul_comm, mul_zero, div_mul}
+use Rattle.rational.specs.MinMax.{max_q}
+use Rattle.rational.proofs.MinMax.{max_q_ge_left, max_q_ge_right}
+use Rattle.rational.proofs.Whole.{not_zero, periods_high, one_more_times}
+use Rattle.rational.specs.Whole.{periods}
 use Rattle.upp_curve.specs.declared.affine_segment.line.Line.{Line}
 use Rattle.upp_curve.specs.declared.affine_segment.line.Piece.{Piece}
 use Rattle.upp_curve.specs.affine_segment.Values.{line_value}
@@ -25,7 +25,7 @@ use Rattle.upp_limits.specs.Levels.{icept_of, level_of, IsLevelAbove}
 use Rattle.upp_limits.specs.Gauges.{ValueAbove, EndsAbove}
 use Rattle.upp_curve.proofs.Steady.{read_past}
 use Rattle.upp_curve.proofs.Repeats.{repeated_rule, repeats_times}
-use Rattle.min_plus.specs.rational.proofs.ExtendedOrder.{antisym_ext, fin_same}
+use Rattle.rational.proofs.ExtendedOrder.{antisym_ext, fin_same}
 
 -- f is nowhere above x, and is x from some time on
 pub record EndsAt (x : ℚ) (f : ℚ → Ext) : Type 0 where

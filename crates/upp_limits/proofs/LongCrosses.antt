@@ -3,12 +3,12 @@ use Rattle.std.specs.Prelude.{◌≡◌, ℕ, suc, ◌+◌, ◌*◌, ◌^◌, �
 use Rattle.std.proofs.Common.{arith, sym, ap, ap₂, ◌∙◌, refl, subst}
 use Rattle.std.proofs.lemmas.Int.{ints}
 use native.Mathlib.Nat.{mul-le-mul_left, mul-lt-mul_of_pos_right}
-use Rattle.min_plus.specs.rational.specs.Rational.{ℚ, den, frac, both, int, ◌+ℚ◌, ◌*ℚ◌, ◌≤ℚ◌, ◌<ℚ◌}
-use Rattle.min_plus.specs.rational.proofs.Over.{lt_frac}
-use Rattle.min_plus.specs.rational.proofs.Integers.{mul_whole, nat_nonneg}
-use Rattle.min_plus.specs.rational.proofs.Linear.{with2}
-use Rattle.min_plus.specs.rational.proofs.Over.{add_frac, both_is}
-use Rattle.min_plus.specs.rational.proofs.Laws.{lt_irrefl, le_of_lt, le_lt_trans, lt_le_trans, mul_nonneg, nonneg_frac}
+use Rattle.rational.specs.Rational.{ℚ, den, frac, both, int, ◌+ℚ◌, ◌*ℚ◌, ◌≤ℚ◌, ◌<ℚ◌}
+use Rattle.rational.proofs.Over.{lt_frac}
+use Rattle.rational.proofs.Integers.{mul_whole, nat_nonneg}
+use Rattle.rational.proofs.Linear.{with2}
+use Rattle.rational.proofs.Over.{add_frac, both_is}
+use Rattle.rational.proofs.Laws.{lt_irrefl, le_of_lt, le_lt_trans, lt_le_trans, mul_nonneg, nonneg_frac}
 
 product_below : (m n M N : ℕ) → m < M → n < N → m * n < M * N
 product_below m n M N h k =

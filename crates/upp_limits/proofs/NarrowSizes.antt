@@ -3,14 +3,14 @@ use Rattle.std.specs.Prelude.{◌≡◌, ℕ, ◌+◌, ◌*◌, ◌<◌, ◌≤�
 use Rattle.std.proofs.Common.{arith, sym, ap, ◌∙◌, refl, subst}
 use Prim.Native.Nat.{◌∣◌}
 use native.Mathlib.Nat.{dvd-mul_left, dvd-mul_right, mul-pos, mul-le-mul_right, mul_assoc}
-use Rattle.min_plus.specs.rational.specs.Rational.{ℚ, ◌+ℚ◌, ◌-ℚ◌, ◌*ℚ◌, ◌≤ℚ◌, int}
-use Rattle.min_plus.specs.rational.specs.Ratio.{IsSmall, SumFits}
-use Rattle.min_plus.specs.rational.specs.Grid.{Whole, Within}
-use Rattle.min_plus.specs.rational.proofs.Linear.{with1, with2, with3}
-use Rattle.min_plus.specs.rational.proofs.Laws.{le_trans, le_refl, mul_le_mul, add_mul, mul_assoc as mul_assoc_q, one_mul}
-use Rattle.min_plus.specs.rational.proofs.Integers.{mul_whole, int_add, nat_le, nat_nonneg}
-use Rattle.min_plus.specs.rational.proofs.Grid.{whole_weaken, whole_sub, whole_mul, within_sub, within_mul, within_nonneg, within_weaken}
-use Rattle.min_plus.specs.rational.proofs.Sizes.{largest_part, small_on_grid, sum_on_grid}
+use Rattle.rational.specs.Rational.{ℚ, ◌+ℚ◌, ◌-ℚ◌, ◌*ℚ◌, ◌≤ℚ◌, int}
+use Rattle.rational.specs.Ratio.{IsSmall, SumFits}
+use Rattle.rational.specs.Grid.{Whole, Within}
+use Rattle.rational.proofs.Linear.{with1, with2, with3}
+use Rattle.rational.proofs.Laws.{le_trans, le_refl, mul_le_mul, add_mul, mul_assoc as mul_assoc_q, one_mul}
+use Rattle.rational.proofs.Integers.{mul_whole, int_add, nat_le, nat_nonneg}
+use Rattle.rational.proofs.Grid.{whole_weaken, whole_sub, whole_mul, within_sub, within_mul, within_nonneg, within_weaken}
+use Rattle.rational.proofs.Sizes.{largest_part, small_on_grid, sum_on_grid}
 use Rattle.upp_limits.specs.Limits.{Sizes, gauge_of}
 use Rattle.upp_limits.specs.Sized.{IsValue, IsSlope, AreSizes, grid_of, times_largest}
 use Rattle.upp_limits.proofs.GaugeProduct.{whole_part_of, time_part_of, slope_part_of}

@@ -3,16 +3,16 @@ use Rattle.std.specs.Prelude.{◌≡◌, ℕ, suc, ◌+◌, ◌-◌, ◌*◌, �
 use Rattle.std.specs.List.{AllByRecursion}
 use Rattle.std.proofs.Common.{arith, sym, ap, ◌∙◌, refl, subst, inl, inr, get_or}
 use Rattle.std.proofs.lemmas.Bool.{cases_lt}
-use Rattle.min_plus.specs.rational.specs.Rational.{ℚ, ◌+ℚ◌, ◌*ℚ◌, ◌≤ℚ◌, int}
-use Rattle.min_plus.specs.rational.specs.Ratio.{SumFits}
-use Rattle.min_plus.specs.rational.specs.Grid.{Whole}
-use Rattle.min_plus.specs.rational.specs.declared.Extended.TheVariants.{Inf}
-use Rattle.min_plus.specs.rational.proofs.Linear.{with2, with3}
-use Rattle.min_plus.specs.rational.proofs.Laws.{le_trans, le_of_lt, antisym, mul_comm, mul_one, mul_le_mul_right}
+use Rattle.rational.specs.Rational.{ℚ, ◌+ℚ◌, ◌*ℚ◌, ◌≤ℚ◌, int}
+use Rattle.rational.specs.Ratio.{SumFits}
+use Rattle.rational.specs.Grid.{Whole}
+use Rattle.rational.specs.declared.Extended.TheVariants.{Inf}
+use Rattle.rational.proofs.Linear.{with2, with3}
+use Rattle.rational.proofs.Laws.{le_trans, le_of_lt, antisym, mul_comm, mul_one, mul_le_mul_right}
 use native.Mathlib.Nat.{mul-le-mul_right}
-use Rattle.min_plus.specs.rational.proofs.Integers.{nat_le, nat_nonneg, int_add, mul_whole}
-use Rattle.min_plus.specs.rational.proofs.Grid.{whole_int, whole_add, within_nonneg}
-use Rattle.min_plus.specs.rational.proofs.Sizes.{largest_part, sum_on_grid}
+use Rattle.rational.proofs.Integers.{nat_le, nat_nonneg, int_add, mul_whole}
+use Rattle.rational.proofs.Grid.{whole_int, whole_add, within_nonneg}
+use Rattle.rational.proofs.Sizes.{largest_part, sum_on_grid}
 use Rattle.upp_curve.specs.declared.affine_segment.line.Piece.{Piece}
 use Rattle.upp_curve.specs.affine_segment.Values.{line_value}
 use Rattle.upp_curve.specs.declared.curve.Tail.{Tail}

@@ -2,8 +2,8 @@
 use Rattle.std.specs.Prelude.{◌≡◌, ℕ, zero, suc, ◌+◌, ◌<◌, ◌≤◌, pos, List, [], ◌∷◌, length, drop, Option}
 use Rattle.std.proofs.Common.{arith, sym, ap, ap₂, ◌∙◌, refl, subst, get_or, drop-cons, drop_of_length-le}
 use Rattle.std.specs.List.{AllByRecursion}
-use Rattle.min_plus.specs.rational.specs.Rational.{ℚ, ◌≤ℚ◌, int}
-use Rattle.min_plus.specs.rational.proofs.Laws.{le_refl, le_of_lt, le_trans}
+use Rattle.rational.specs.Rational.{ℚ, ◌≤ℚ◌, int}
+use Rattle.rational.proofs.Laws.{le_refl, le_of_lt, le_trans}
 use Rattle.upp_curve.specs.declared.affine_segment.line.Piece.{Piece}
 use Rattle.upp_curve.specs.declared.curve.Tail.{Tail}
 use Rattle.upp_curve.specs.affine_segment.Pieces.{RisesFrom, StartsAtZero, start_after}

@@ -3,14 +3,14 @@ use Rattle.std.specs.Prelude.{◌≡◌, ℕ, zero, suc, ◌+◌, ◌-◌, ◌*�
 use Rattle.std.proofs.Common.{arith, sym, ap, ◌∙◌, refl, subst, inl, inr}
 use Rattle.std.proofs.lemmas.Bool.{cases_lt, true≢false}
 use native.Mathlib.Nat.{div-add-mod', mod-lt, mul_comm, le_of_mul-le-mul_right, lt_of_mul-lt-mul_right, zero-lt-suc}
-use Rattle.min_plus.specs.rational.specs.Ints.{mul_comm_z}
-use Rattle.min_plus.specs.rational.specs.Rational.{ℚ, den, int, frac, ◌+ℚ◌, ◌-ℚ◌, ◌*ℚ◌, ◌/ℚ◌, ◌≤ℚ◌, ◌<ℚ◌}
-use Rattle.min_plus.specs.rational.specs.Fractions.{frac_self, abs-mul}
-use Rattle.min_plus.specs.rational.specs.Gauge.{cap, size_up}
-use Rattle.min_plus.specs.rational.specs.declared.Extended.TheVariants.{Inf}
-use Rattle.min_plus.specs.rational.proofs.Laws.{lt_irrefl, le_lt_trans, le_of_lt, le_or_lt, mul_nonneg, mul_le_mul, mul_zero}
-use Rattle.min_plus.specs.rational.proofs.Integers.{nat_nonneg, mul_whole}
-use Rattle.min_plus.specs.rational.proofs.Grid.{within_nonneg}
+use Rattle.rational.specs.Ints.{mul_comm_z}
+use Rattle.rational.specs.Rational.{ℚ, den, int, frac, ◌+ℚ◌, ◌-ℚ◌, ◌*ℚ◌, ◌/ℚ◌, ◌≤ℚ◌, ◌<ℚ◌}
+use Rattle.rational.specs.Fractions.{frac_self, abs-mul}
+use Rattle.rational.specs.Gauge.{cap, size_up}
+use Rattle.rational.specs.declared.Extended.TheVariants.{Inf}
+use Rattle.rational.proofs.Laws.{lt_irrefl, le_lt_trans, le_of_lt, le_or_lt, mul_nonneg, mul_le_mul, mul_zero}
+use Rattle.rational.proofs.Integers.{nat_nonneg, mul_whole}
+use Rattle.rational.proofs.Grid.{within_nonneg}
 use Rattle.upp_curve.specs.declared.affine_segment.line.Piece.{Piece}
 use Rattle.min_plus.specs.WholeUp.{whole_up}
 use Rattle.upp_limits.proofs.CommonDen.{size_up_within, size_up_least, within_parts, within_parts_out}

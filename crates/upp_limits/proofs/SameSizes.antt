@@ -2,9 +2,9 @@
 use Rattle.std.specs.Prelude.{◌≡◌, ℕ, ◌≤◌, pos, List, [], ◌∷◌, max}
 use Rattle.std.specs.List.{AllByRecursion}
 use Rattle.std.proofs.Common.{arith, ap, ap₂, ◌∙◌}
-use Rattle.min_plus.specs.rational.specs.Rational.{ℚ, ◌*ℚ◌, int}
-use Rattle.min_plus.specs.rational.specs.Grid.{Whole, Within}
-use Rattle.min_plus.specs.rational.specs.Gauge.{common_den, bound_of}
+use Rattle.rational.specs.Rational.{ℚ, ◌*ℚ◌, int}
+use Rattle.rational.specs.Grid.{Whole, Within}
+use Rattle.rational.specs.Gauge.{common_den, bound_of}
 use Rattle.upp_curve.specs.Curve.{SpecCurve}
 use Rattle.min_plus.specs.WholeUp.{whole_up}
 use Rattle.upp_limits.specs.Limits.{Numbers, Sizes, joined, twice, curve_numbers, sizes_of, gauge_of}

@@ -1,10 +1,10 @@
 -- What the count of a span's copies, kept up to the largest u128, says of its numbers.
 use Rattle.std.specs.Prelude.{◌≡◌, ◌≢◌, ℕ, ◌-◌, ◌<◌, ◌^◌, cond, Option, Some, None, IfSome}
 use Rattle.std.proofs.Common.{arith, sym, ap, ◌∙◌, subst}
-use Rattle.min_plus.specs.rational.specs.Rational.{ℚ, ◌≤ℚ◌, ◌<ℚ◌}
-use Rattle.min_plus.specs.rational.specs.Gauge.{cap}
-use Rattle.min_plus.specs.rational.proofs.Over.{lt_q_out}
-use Rattle.min_plus.specs.rational.proofs.MinMax.{lt_q_not}
+use Rattle.rational.specs.Rational.{ℚ, ◌≤ℚ◌, ◌<ℚ◌}
+use Rattle.rational.specs.Gauge.{cap}
+use Rattle.rational.proofs.Over.{lt_q_out}
+use Rattle.rational.proofs.MinMax.{lt_q_not}
 use Rattle.upp_curve.specs.declared.curve.Tail.{Tail}
 use Rattle.upp_curve.specs.declared.curve.Tail.TheVariants.{Periodic}
 use Rattle.upp_curve.specs.Unrolled.{copies_below}

@@ -3,10 +3,10 @@ use Rattle.std.specs.Prelude.{ℕ, ◌≤◌, pos, ◌∷◌, ◌++◌, Option, 
 use Rattle.std.proofs.Common.{arith}
 use Rattle.std.specs.List.{AllByRecursion}
 use Rattle.std.proofs.Math.Nat.{le-max_left}
-use Rattle.min_plus.specs.rational.specs.Rational.{ℚ, ◌*ℚ◌, int}
-use Rattle.min_plus.specs.rational.specs.Extended.{Ext}
-use Rattle.min_plus.specs.rational.specs.declared.Extended.TheVariants.{Fin, Inf}
-use Rattle.min_plus.specs.rational.specs.Grid.{Whole, Within}
+use Rattle.rational.specs.Rational.{ℚ, ◌*ℚ◌, int}
+use Rattle.rational.specs.Extended.{Ext}
+use Rattle.rational.specs.declared.Extended.TheVariants.{Fin, Inf}
+use Rattle.rational.specs.Grid.{Whole, Within}
 use Rattle.upp_curve.specs.declared.affine_segment.line.Line.{Line}
 use Rattle.upp_curve.specs.affine_segment.Values.{line_value}
 use Rattle.upp_limits.specs.Spans.{Span}

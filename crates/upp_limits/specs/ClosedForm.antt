@@ -1,7 +1,7 @@
 -- The numbers of a curve without unrolling: of each piece the first copy and the values of the last one that starts
 -- below `end`. With the rise they have the sizes of all copies. Own choice.
 use Rattle.std.specs.Prelude.{ℕ, zero, suc, pos, cond, List, [], ◌∷◌, ◌++◌}
-use Rattle.min_plus.specs.rational.specs.Rational.{ℚ, ◌*ℚ◌, int, lt_q}
+use Rattle.rational.specs.Rational.{ℚ, ◌*ℚ◌, int, lt_q}
 use Rattle.upp_curve.specs.declared.affine_segment.line.Piece.{Piece}
 use Rattle.upp_limits.specs.declared.seen.Seen.{Seen}
 use Rattle.upp_curve.specs.declared.curve.Tail.{Tail}

@@ -1,10 +1,10 @@
 -- The numbers of a call's operands without unrolling, and that each of them is known. Own choice.
 use Rattle.std.specs.Prelude.{Option, Some, None}
 use Rattle.std.specs.List.{AllByRecursion}
-use Rattle.min_plus.specs.rational.specs.Rational.{ℚ, ◌*ℚ◌, ◌<ℚ◌}
-use Rattle.min_plus.specs.rational.specs.Ratio.{IsSmall}
-use Rattle.min_plus.specs.rational.specs.Extended.{Ext}
-use Rattle.min_plus.specs.rational.specs.declared.Extended.TheVariants.{Fin, Inf}
+use Rattle.rational.specs.Rational.{ℚ, ◌*ℚ◌, ◌<ℚ◌}
+use Rattle.rational.specs.Ratio.{IsSmall}
+use Rattle.rational.specs.Extended.{Ext}
+use Rattle.rational.specs.declared.Extended.TheVariants.{Fin, Inf}
 use Rattle.upp_curve.specs.declared.affine_segment.line.Line.{Line}
 use Rattle.upp_curve.specs.declared.affine_segment.line.Piece.{Piece}
 use Rattle.upp_curve.specs.declared.curve.Tail.{Tail}

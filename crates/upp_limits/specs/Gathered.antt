@@ -1,5 +1,5 @@
 -- What the code keeps of the numbers that it has seen: their sizes, each up to the largest u128. Own choice.
-use Rattle.min_plus.specs.rational.specs.Gauge.{Kept, common_den, bound_of}
+use Rattle.rational.specs.Gauge.{Kept, common_den, bound_of}
 use Rattle.upp_limits.specs.declared.gathered.Gathered.{Gathered}
 use Rattle.upp_limits.specs.Limits.{Numbers, twice}
 

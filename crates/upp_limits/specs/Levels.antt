@@ -1,6 +1,6 @@
 -- The value at which a curve of rate 0 that rises ends. Own choice.
 use Rattle.std.specs.Prelude.{List, Option, Some, None}
-use Rattle.min_plus.specs.rational.specs.Rational.{ℚ, ◌<ℚ◌}
+use Rattle.rational.specs.Rational.{ℚ, ◌<ℚ◌}
 use Rattle.upp_curve.specs.declared.affine_segment.line.Line.{Line}
 use Rattle.upp_curve.specs.declared.affine_segment.line.Piece.{Piece}
 use Rattle.upp_curve.specs.declared.curve.Tail.{Tail}

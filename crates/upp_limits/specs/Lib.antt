@@ -16,7 +16,3 @@ pub mod CallNumbers
 pub mod Covered
 pub mod LimitTest
 pub mod OwnLimits
-pub use Rattle.upp_curve.specs.fraction128 as fraction128
-pub use Rattle.min_plus as min_plus
-pub use Rattle.min_plus.specs.rational as rational
-pub use Rattle.upp_curve as upp_curve

@@ -1,8 +1,8 @@
 -- The end of a curve's own window by its last piece and its tail, and which steps to it have to fit. Own choice.
 use Rattle.std.specs.Prelude.{◌≡◌, ◌*◌, pos, Bool}
-use Rattle.min_plus.specs.rational.specs.Rational.{ℚ, ◌+ℚ◌, ◌≤ℚ◌, int}
-use Rattle.min_plus.specs.rational.specs.Ratio.{SumFits}
-use Rattle.min_plus.specs.rational.specs.declared.Extended.TheVariants.{Inf}
+use Rattle.rational.specs.Rational.{ℚ, ◌+ℚ◌, ◌≤ℚ◌, int}
+use Rattle.rational.specs.Ratio.{SumFits}
+use Rattle.rational.specs.declared.Extended.TheVariants.{Inf}
 use Rattle.upp_curve.specs.declared.affine_segment.line.Piece.{Piece}
 use Rattle.upp_curve.specs.affine_segment.Values.{line_value}
 use Rattle.upp_curve.specs.declared.curve.Tail.{Tail}

@@ -1,8 +1,8 @@
 -- The periods of curves: a curve's own, and the common one of two. Own choice.
 use Rattle.std.specs.Prelude.{ℕ, pos, Option, Some, None}
-use Rattle.min_plus.specs.rational.specs.Rational.{ℚ, ◌+ℚ◌, ◌*ℚ◌, ◌<ℚ◌, int}
-use Rattle.min_plus.specs.rational.specs.MinMax.{max_q}
-use Rattle.upp_curve.specs.fraction128.specs.Multiple.{common_multiple}
+use Rattle.rational.specs.Rational.{ℚ, ◌+ℚ◌, ◌*ℚ◌, ◌<ℚ◌, int}
+use Rattle.rational.specs.MinMax.{max_q}
+use Rattle.fraction128.specs.Multiple.{common_multiple}
 use Rattle.upp_curve.specs.declared.curve.Tail.{Tail}
 use Rattle.upp_curve.specs.declared.curve.Tail.TheVariants.{Periodic, Affine, Infinite}
 use Rattle.upp_curve.specs.Curve.{SpecCurve}

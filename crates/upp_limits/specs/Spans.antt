@@ -1,7 +1,7 @@
 -- A curve's pieces with their ends, and the copies of them that start below a time. Own choice.
 use Rattle.std.specs.Prelude.{◌≡◌, ℕ, zero, suc, pos, cond, List, [], ◌∷◌, Option, Some, None}
 use Rattle.std.specs.List.{flat_map}
-use Rattle.min_plus.specs.rational.specs.Rational.{ℚ, ◌+ℚ◌, ◌*ℚ◌, int, lt_q}
+use Rattle.rational.specs.Rational.{ℚ, ◌+ℚ◌, ◌*ℚ◌, int, lt_q}
 use Rattle.upp_curve.specs.declared.affine_segment.line.Line.{Line}
 use Rattle.upp_curve.specs.declared.affine_segment.line.Piece.{Piece}
 use Rattle.upp_curve.specs.declared.curve.Tail.{Tail}

@@ -12,9 +12,9 @@ use crate::gathered::Gathered;
 use crate::op_kind::OpKind;
 use crate::operand_numbers::with_operands;
 use crate::own_window::{OwnNumbers, numbers_of};
-use min_plus::rational::Extended;
+use fraction128::Frac;
+use rational::Extended;
 use upp_curve::Curve;
-use upp_curve::fraction128::Frac;
 
 /// The gauge of a call over a window's end, and the grids of its times and of its values.
 #[derive(Debug, Clone, Copy)]

@@ -1,7 +1,7 @@
 //! How many unrolled pieces of a curve start before a time.
 
 ghost use Rattle.std.specs.Prelude.{ℕ, ◌≡◌, ◌-◌, ◌*◌, ◌≤◌, ◌^◌, min, pos, sum_by, length, IfSome};
-ghost use Rattle.min_plus.specs.rational.specs.Rational.{ℚ, int, ◌≤ℚ◌, ◌<ℚ◌};
+ghost use Rattle.rational.specs.Rational.{ℚ, int, ◌≤ℚ◌, ◌<ℚ◌};
 ghost use Rattle.upp_curve.specs.Curve.{SpecCurve};
 ghost use Rattle.upp_curve.specs.affine_segment.Pieces.{StartsAtZero};
 ghost use Rattle.upp_curve.specs.Unrolled.{count};
@@ -10,8 +10,8 @@ ghost use Rattle.upp_limits.specs.Spans.{once, number_below};
 ghost use Rattle.upp_limits.specs.Covered.{MostCopies};
 
 use crate::start_counts::count_before;
+use fraction128::{Frac, is_less};
 use upp_curve::affine_segment::Piece;
-use upp_curve::fraction128::{Frac, is_less};
 use upp_curve::{Curve, Tail};
 
 /// 1 where the piece starts before `end`, else 0.

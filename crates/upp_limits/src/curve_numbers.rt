@@ -2,7 +2,7 @@
 
 ghost use Rattle.std.specs.Prelude.{ℕ, ◌≡◌, ◌<◌, ◌+◌, ◌^◌, pos, IfSome, IsSome, length, drop, ◌∷◌};
 ghost use Rattle.std.specs.List.{AllByRecursion};
-ghost use Rattle.min_plus.specs.rational.specs.Rational.{ℚ, int, ◌*ℚ◌, ◌≤ℚ◌, ◌<ℚ◌};
+ghost use Rattle.rational.specs.Rational.{ℚ, int, ◌*ℚ◌, ◌≤ℚ◌, ◌<ℚ◌};
 ghost use Rattle.upp_curve.specs.affine_segment.Pieces.{start_after};
 ghost use Rattle.upp_limits.specs.Spans.{IsListed, Span, piece_read, spans};
 ghost use Rattle.upp_limits.specs.Limits.{Numbers, joined};
@@ -14,9 +14,9 @@ ghost use Rattle.upp_limits.specs.Periods.{HasPeriod};
 
 use crate::gathered::Gathered;
 use crate::start_counts::count_before;
+use fraction128::{Frac, is_less};
 use upp_curve::Tail;
 use upp_curve::affine_segment::Piece;
-use upp_curve::fraction128::{Frac, is_less};
 
 /// The pieces of a curve, of any form, that are read one after another.
 #[derive(Debug, Clone, Copy)]

@@ -1,8 +1,8 @@
 //! The numbers of a call's operands by the first copies of their pieces alone, and how far the others are from them.
 
 ghost use Rattle.std.specs.Prelude.{ℕ, ◌≡◌, ◌+◌, ◌*◌, ◌≤◌, ◌<◌, pos, IfSome};
-ghost use Rattle.min_plus.specs.rational.specs.Rational.{ℚ, int, ◌≤ℚ◌, ◌<ℚ◌};
-ghost use Rattle.min_plus.specs.rational.specs.Gauge.{bound_of};
+ghost use Rattle.rational.specs.Rational.{ℚ, int, ◌≤ℚ◌, ◌<ℚ◌};
+ghost use Rattle.rational.specs.Gauge.{bound_of};
 ghost use Rattle.upp_limits.specs.Limits.{Numbers, joined, time_alone, value_alone, sizes_of};
 ghost use Rattle.upp_limits.specs.Gathered.{Gathers};
 ghost use Rattle.upp_limits.specs.OwnWindow.{AreNumbers};
@@ -15,7 +15,7 @@ use crate::op_kind::Operands;
 use crate::operand_numbers::listing_of;
 use crate::own_window::{OwnNumbers, numbers_of};
 use crate::start_counts::count_before;
-use upp_curve::fraction128::{Frac, is_less};
+use fraction128::{Frac, is_less};
 use upp_curve::{Curve, Tail};
 
 /// The numbers of a curve's first copies more.

@@ -1,8 +1,8 @@
 //! The sizes of the numbers of a call, gathered one by one.
 
 ghost use Rattle.std.specs.Prelude.{ℕ, ◌≡◌, ◌<◌, pos, IfSome, IsSome};
-ghost use Rattle.min_plus.specs.rational.specs.Rational.{ℚ, int, ◌*ℚ◌};
-ghost use Rattle.min_plus.specs.rational.specs.Gauge.{Kept, lcm, size_up};
+ghost use Rattle.rational.specs.Rational.{ℚ, int, ◌*ℚ◌};
+ghost use Rattle.rational.specs.Gauge.{Kept, lcm, size_up};
 ghost use Rattle.upp_limits.specs.Limits.{Numbers, no_numbers, joined, time_alone, value_alone, slope_alone};
 ghost use Rattle.upp_limits.specs.Limits.{values_alone, slopes_alone, finite, line_slope};
 ghost use Rattle.upp_limits.specs.Spans.{Span};
@@ -12,9 +12,9 @@ ghost use Rattle.upp_limits.specs.Gathered.{Gathers};
 
 use crate::seen::{seen_risen, seen_values};
 use crate::starts::sizes;
-use min_plus::rational::Extended;
+use fraction128::{Ext, Frac, gcd_of};
+use rational::Extended;
 use upp_curve::affine_segment::{Line, Piece};
-use upp_curve::fraction128::{Ext, Frac, gcd_of};
 
 /// The sizes of the numbers so far: the least common denominators of values, times and slopes, twice the largest slope
 /// and the largest value rounded up. Each is right up to the largest number and stays there.

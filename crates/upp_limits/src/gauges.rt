@@ -1,15 +1,15 @@
 //! The gauge of a call.
 
 ghost use Rattle.std.specs.Prelude.{ℕ, ◌≡◌, ◌<◌, ◌≤◌, ◌*◌, ◌^◌, pos, nat_abs, IfSome, IfNone, MatchOption};
-ghost use Rattle.min_plus.specs.rational.specs.Rational.{ℚ, int, ◌*ℚ◌, ◌≤ℚ◌};
-ghost use Rattle.min_plus.specs.rational.specs.Gauge.{Kept};
+ghost use Rattle.rational.specs.Rational.{ℚ, int, ◌*ℚ◌, ◌≤ℚ◌};
+ghost use Rattle.rational.specs.Gauge.{Kept};
 ghost use Rattle.min_plus.specs.WholeUp.{whole_up};
 ghost use Rattle.upp_limits.specs.Limits.{Numbers, joined, time_alone, sizes_of, gauge_of};
 ghost use Rattle.upp_limits.specs.Gathered.{Gathers};
 
 use crate::gathered::Gathered;
 use crate::starts::sizes;
-use upp_curve::fraction128::{Frac, is_less};
+use fraction128::{Frac, is_less};
 
 /// steepness times `end`, rounded up, and 0 below 0. None where it is past the largest number before it is divided.
 pub fn reach(steepness: u128, end: Frac) -> Option<u128>

@@ -1,19 +1,19 @@
 //! Calls whose answer is known by what is infinite or by the rates, so that they look at no piece.
 
 ghost use Rattle.std.specs.Prelude.{◌≡◌, ◌↔◌, ◌⊎◌, pos, IsTrue};
-ghost use Rattle.min_plus.specs.rational.specs.Extended.{◌<ₑ◌};
+ghost use Rattle.rational.specs.Extended.{◌<ₑ◌};
 ghost use Rattle.upp_curve.specs.Steady.{rate, last_line};
 ghost use Rattle.upp_limits.specs.Levels.{icept_of, level_of, IsLevelAbove};
 ghost use Rattle.upp_curve.specs.Curve.{value_at};
 ghost use Rattle.upp_curve.specs.Curves.{IsCurve};
 ghost use Rattle.min_plus.specs.Functions.{IsFinite};
-ghost use Rattle.min_plus.specs.rational.specs.Rational.{int};
+ghost use Rattle.rational.specs.Rational.{int};
 ghost use Rattle.upp_limits.specs.Gauges.{EndsAbove, IsKnownAtOnce};
 
 use crate::op_kind::OpKind;
-use min_plus::rational::Extended;
+use fraction128::{Ext, Frac, is_less};
+use rational::Extended;
 use upp_curve::affine_segment::Piece;
-use upp_curve::fraction128::{Ext, Frac, is_less};
 use upp_curve::{Curve, Tail};
 
 /// The long-run rate.

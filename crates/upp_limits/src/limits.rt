@@ -1,7 +1,7 @@
 //! The tally and the gauge of a call: both are numbers of its operands and its window alone.
 
 ghost use Rattle.std.specs.Prelude.{ℕ, ◌≡◌, ◌-◌, ◌^◌, ◌≤◌, ◌↔◌, min, Option, Some, None, MatchOption, IfSome, IsTrue};
-ghost use Rattle.min_plus.specs.rational.specs.Rational.{ℚ};
+ghost use Rattle.rational.specs.Rational.{ℚ};
 ghost use Rattle.upp_curve.specs.Unrolled.{count};
 ghost use Rattle.upp_limits.specs.Gauges.{IsKnownAtOnce, tallied, tally_of, tally_over, gauge_over};
 
@@ -9,8 +9,8 @@ use crate::call_sizes::call_numbers;
 use crate::counts::{count_below, most_below};
 use crate::known::is_known_at_once;
 use crate::op_kind::{OpKind, Tallied, Window};
+use fraction128::Frac;
 use upp_curve::Curve;
-use upp_curve::fraction128::Frac;
 
 /// How many unrolled pieces of a curve start before `end`, up to the largest u64.
 fn count_of(c: &Curve, end: Frac) -> u64

@@ -3,8 +3,8 @@
 ghost use Rattle.std.specs.Prelude.{◌≡◌};
 ghost use Rattle.upp_limits.specs.Gauges.{tallied, operands_of};
 
+use fraction128::{Ext, Frac};
 use std::alloc::AllocError;
-use upp_curve::fraction128::{Ext, Frac};
 
 /// What a call computes of its operands f and g. A kind with one operand does not look at g.
 #[derive(Debug, Clone, Copy)]

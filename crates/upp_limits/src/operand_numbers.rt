@@ -15,7 +15,7 @@ use crate::curve_numbers::{Listing, with_curve};
 use crate::gathered::Gathered;
 use crate::op_kind::Operands;
 use crate::scaled_numbers::with_scaled;
-use upp_curve::fraction128::{Frac, sum};
+use fraction128::{Frac, sum};
 use upp_curve::{Curve, Tail};
 
 /// Where the next piece starts after the last one: a period after the rank, or at the rank of an infinite tail.

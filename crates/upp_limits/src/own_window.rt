@@ -1,8 +1,8 @@
 //! A curve by itself: the end of its window, and its gauge, in whatever form it is given.
 
 ghost use Rattle.std.specs.Prelude.{◌≡◌, ◌^◌, ◌≤◌, pos, false, IfNone, IfSome, IsSome, MatchOption};
-ghost use Rattle.min_plus.specs.rational.specs.Rational.{ℚ, int, ◌+ℚ◌, ◌≤ℚ◌};
-ghost use Rattle.min_plus.specs.rational.specs.declared.Extended.TheVariants.{Inf};
+ghost use Rattle.rational.specs.Rational.{ℚ, int, ◌+ℚ◌, ◌≤ℚ◌};
+ghost use Rattle.rational.specs.declared.Extended.TheVariants.{Inf};
 ghost use Rattle.upp_curve.specs.affine_segment.Values.{line_value};
 ghost use Rattle.upp_curve.specs.affine_segment.Reading.{piece_value};
 ghost use Rattle.upp_curve.specs.Curve.{SpecCurve};
@@ -10,7 +10,7 @@ ghost use Rattle.upp_curve.specs.Steady.{same_ext, later_unless};
 ghost use Rattle.upp_limits.specs.OwnWindow.{LastBy, end_from, EndFits, EndsAt, AreNumbers};
 ghost use Rattle.upp_limits.specs.Periods.{HasPeriod};
 ghost use Rattle.upp_limits.specs.Spans.{IsListed, end_of};
-ghost use Rattle.min_plus.specs.rational.specs.Ratio.{SumFits};
+ghost use Rattle.rational.specs.Ratio.{SumFits};
 ghost use Rattle.upp_curve.specs.Normal.{IsRaw};
 ghost use Rattle.upp_limits.specs.Gathered.{Gathers};
 ghost use Rattle.upp_limits.specs.Limits.{Numbers, joined, time_alone, own_end, own_gauge, own_sizes, gauge_of, sizes_of, curve_numbers};
@@ -20,10 +20,10 @@ use crate::curve_numbers::{Listing, with_curve};
 use crate::gathered::Gathered;
 use crate::gauges::gauge_of;
 use crate::seen::line_value;
-use min_plus::rational::Extended;
+use fraction128::{Ext, Frac, is_less};
+use rational::Extended;
 use upp_curve::Tail;
 use upp_curve::affine_segment::Piece;
-use upp_curve::fraction128::{Ext, Frac, is_less};
 use upp_curve::same::same_ext;
 
 /// Whether the value at the rank, of a last piece that starts at it or before, is that of the piece's line.

@@ -2,8 +2,8 @@
 
 ghost use Rattle.std.specs.Prelude.{◌≡◌, pos, IfSome, IsSome, map, Some};
 ghost use Rattle.std.specs.List.{AllByRecursion};
-ghost use Rattle.min_plus.specs.rational.specs.Rational.{ℚ, int, ◌≤ℚ◌, ◌*ℚ◌};
-ghost use Rattle.min_plus.specs.rational.specs.Ratio.{IsSmall};
+ghost use Rattle.rational.specs.Rational.{ℚ, int, ◌≤ℚ◌, ◌*ℚ◌};
+ghost use Rattle.rational.specs.Ratio.{IsSmall};
 ghost use Rattle.min_plus.specs.Pointwise.{scaled};
 ghost use Rattle.upp_curve.specs.Curve.{SpecCurve};
 ghost use Rattle.upp_limits.specs.Periods.{HasPeriod};
@@ -17,10 +17,10 @@ ghost use Rattle.upp_limits.specs.ClosedOperands.{ValueScales, LineScales, Piece
 
 use crate::curve_numbers::{Listing, span_at, with_below, with_tail};
 use crate::gathered::Gathered;
-use min_plus::rational::Extended;
+use fraction128::{Ext, Frac, is_less};
+use rational::Extended;
 use upp_curve::Tail;
 use upp_curve::affine_segment::{Line, Piece};
-use upp_curve::fraction128::{Ext, Frac, is_less};
 
 /// A value times a factor.
 fn scaled(v: Ext, factor: Frac) -> Option<Ext>

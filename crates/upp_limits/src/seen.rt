@@ -1,17 +1,17 @@
 //! The values of a piece that count in a gauge.
 
 ghost use Rattle.std.specs.Prelude.{◌≡◌, ◌<◌, ◌^◌, pos, IfSome, IsSome};
-ghost use Rattle.min_plus.specs.rational.specs.Rational.{ℚ, int, ◌*ℚ◌};
-ghost use Rattle.min_plus.specs.rational.specs.Extended.{◌+ₑ◌};
+ghost use Rattle.rational.specs.Rational.{ℚ, int, ◌*ℚ◌};
+ghost use Rattle.rational.specs.Extended.{◌+ₑ◌};
 ghost use Rattle.upp_curve.specs.affine_segment.Values.{line_value};
 ghost use Rattle.upp_curve.specs.affine_segment.Fits.{LineFitsAt};
 ghost use Rattle.upp_limits.specs.Spans.{Span};
 ghost use Rattle.upp_limits.specs.Limits.{limit_before};
 ghost use Rattle.upp_limits.specs.Seen.{seen_of, seen_risen, NextFits, SpanFits, ValueRises, SeenRises};
 
-use min_plus::rational::Extended;
+use fraction128::{Ext, Frac};
+use rational::Extended;
 use upp_curve::affine_segment::{Line, Piece, value};
-use upp_curve::fraction128::{Ext, Frac};
 
 /// The values of a piece at its start, just after it, and just before the next start; infinity where there is none.
 #[derive(Clone, Copy)]

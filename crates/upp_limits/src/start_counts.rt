@@ -1,12 +1,12 @@
 //! How many copies of a piece start before a time.
 
 ghost use Rattle.std.specs.Prelude.{ℕ, ◌≡◌, ◌<◌, pos, IfSome};
-ghost use Rattle.min_plus.specs.rational.specs.Rational.{ℚ, int, ◌-ℚ◌, ◌/ℚ◌, ◌≤ℚ◌, ◌<ℚ◌};
-ghost use Rattle.min_plus.specs.rational.specs.Gauge.{cap};
+ghost use Rattle.rational.specs.Rational.{ℚ, int, ◌-ℚ◌, ◌/ℚ◌, ◌≤ℚ◌, ◌<ℚ◌};
+ghost use Rattle.rational.specs.Gauge.{cap};
 ghost use Rattle.min_plus.specs.WholeUp.{whole_up};
 
 use crate::starts::is_before;
-use upp_curve::fraction128::{Frac, is_less};
+use fraction128::{Frac, is_less};
 
 /// The least whole number that is at least x, and 0 below 0.
 pub(crate) fn whole_up(x: Frac) -> u128

@@ -1,11 +1,11 @@
 //! Whether the copies of a start come before a time, exactly, also where no step on the way fits a fraction.
 
 ghost use Rattle.std.specs.Prelude.{ℕ, ◌≡◌, ◌↔◌, ◌<◌, ◌^◌, ◌+◌, ◌*◌, pos, nat_abs, IsTrue};
-ghost use Rattle.min_plus.specs.rational.specs.Rational.{ℚ, den, int, ◌+ℚ◌, ◌*ℚ◌, ◌≤ℚ◌, ◌<ℚ◌, lt_q};
+ghost use Rattle.rational.specs.Rational.{ℚ, den, int, ◌+ℚ◌, ◌*ℚ◌, ◌≤ℚ◌, ◌<ℚ◌, lt_q};
 ghost use Rattle.upp_limits.specs.Long.{long_value};
 
 use crate::long::Long;
-use upp_curve::fraction128::{Frac, is_less};
+use fraction128::{Frac, is_less};
 
 /// a / b + n p / q over the denominator b q, times v.
 fn cross_sum(a: u128, b: u128, n: u128, p: u128, q: u128, v: u128) -> Long

@@ -4,25 +4,25 @@ use Rattle.std.specs.Prelude.{◌≡◌, ◌≢◌, ℕ, ◌+◌, ◌*◌, ◌<�
 use Rattle.std.proofs.Common.{arith, sym, ap, ◌∙◌, refl, subst, inl, inr}
 use Prim.Native.Nat.{◌∣◌}
 use native.Mathlib.Nat.{dvd-mul_left, dvd-mul_right, dvd_refl, mul-pos, mul-dvd-mul_right, mul-le-mul_right, mul-le-mul_left, mul_comm as mul_comm_n}
-use Rattle.upp_limits.specs.rational.specs.Gcd.{gcd, gcd_steps}
-use Rattle.upp_limits.specs.rational.specs.Rational.{ℚ, neg_ℚ, ◌+ℚ◌, ◌-ℚ◌, ◌*ℚ◌, ◌/ℚ◌, ◌≤ℚ◌, int, inv_ℚ, frac}
-use Rattle.upp_limits.specs.rational.specs.Ratio.{IsSmall, SumFits}
-use Rattle.upp_limits.specs.rational.specs.Grid.{Whole, Within}
-use Rattle.upp_limits.specs.rational.proofs.Grid.{whole_weaken, whole_int, whole_add, whole_sub, whole_mul, whole_neg, within_weaken, within_add, within_sub, within_neg, within_mul, within_nonneg, whole_div, steps_bound, num_bound}
-use Rattle.upp_limits.specs.rational.proofs.Sizes.{sum_on_grid, quotient_on_grid}
-use Rattle.upp_limits.specs.rational.proofs.Integers.{nat_le, nat_le_out, nat_nonneg, int_add, int_mul}
-use Rattle.upp_limits.specs.rational.proofs.Quotients.{div_unique}
+use Rattle.rational.specs.Gcd.{gcd, gcd_steps}
+use Rattle.rational.specs.Rational.{ℚ, neg_ℚ, ◌+ℚ◌, ◌-ℚ◌, ◌*ℚ◌, ◌/ℚ◌, ◌≤ℚ◌, int, inv_ℚ, frac}
+use Rattle.rational.specs.Ratio.{IsSmall, SumFits}
+use Rattle.rational.specs.Grid.{Whole, Within}
+use Rattle.rational.proofs.Grid.{whole_weaken, whole_int, whole_add, whole_sub, whole_mul, whole_neg, within_weaken, within_add, within_sub, within_neg, within_mul, within_nonneg, whole_div, steps_bound, num_bound}
+use Rattle.rational.proofs.Sizes.{sum_on_grid, quotient_on_grid}
+use Rattle.rational.proofs.Integers.{nat_le, nat_le_out, nat_nonneg, int_add, int_mul}
+use Rattle.rational.proofs.Quotients.{div_unique}
 use Rattle.std.proofs.lemmas.Int.{ints}
-use Rattle.upp_limits.specs.fraction128.specs.declared.fault.Wide.{Wide}
-use Rattle.upp_limits.specs.upp_curve.specs.affine_segment.Steps.{IsWideCross}
-use Rattle.upp_limits.specs.rational.proofs.Laws.{le_refl, le_trans, mul_le_mul, mul_le_mul_right, mul_assoc, mul_comm, mul_one, mul_zero, add_mul, sub_mul, num_some}
-use Rattle.upp_limits.specs.rational.proofs.Linear.{with1, with2, with3, with4}
-use Rattle.upp_limits.specs.rational.specs.Extended.{Ext}
-use Rattle.upp_limits.specs.rational.specs.declared.Extended.TheVariants.{Fin, Inf}
-use Rattle.upp_limits.specs.upp_curve.specs.declared.affine_segment.line.Line.{Line}
-use Rattle.upp_limits.specs.upp_curve.specs.affine_segment.Values.{line_at, line_value}
+use Rattle.fraction128.specs.declared.fault.Wide.{Wide}
+use Rattle.upp_curve.specs.affine_segment.Steps.{IsWideCross}
+use Rattle.rational.proofs.Laws.{le_refl, le_trans, mul_le_mul, mul_le_mul_right, mul_assoc, mul_comm, mul_one, mul_zero, add_mul, sub_mul, num_some}
+use Rattle.rational.proofs.Linear.{with1, with2, with3, with4}
+use Rattle.rational.specs.Extended.{Ext}
+use Rattle.rational.specs.declared.Extended.TheVariants.{Fin, Inf}
+use Rattle.upp_curve.specs.declared.affine_segment.line.Line.{Line}
+use Rattle.upp_curve.specs.affine_segment.Values.{line_at, line_value}
 use Rattle.upp_limits.specs.Limits.{Sizes, gauge_of}
-use Rattle.upp_limits.specs.upp_curve.specs.affine_segment.Fits.{LineFitsAt}
+use Rattle.upp_curve.specs.affine_segment.Fits.{LineFitsAt}
 use Rattle.upp_limits.specs.Sized.{grid_of, times_largest, ValueStands}
 pub use Rattle.upp_normal.specs.Crossings.{IsCrossing}
 use Rattle.upp_normal.specs.Operand.{AreLimited, OperandLine, OperandLineAt, answer_room}

@@ -3,33 +3,33 @@
 use Rattle.std.specs.Prelude.{◌≡◌, ℕ, zero, suc, ◌+◌, ◌*◌, ◌<◌, ◌≤◌, Bool, true, false, pos, List, [], ◌∷◌, ◌++◌, Option, Some, None, ◌⊎◌, length}
 use Rattle.std.proofs.Common.{arith, sym, ap, ◌∙◌, refl, subst, inl, inr, append_assoc}
 use Prim.Native.Nat.{◌∣◌}
-use Rattle.upp_limits.specs.rational.specs.Rational.{ℚ, ◌+ℚ◌, ◌*ℚ◌, ◌/ℚ◌, ◌≤ℚ◌, ◌<ℚ◌, int}
-use Rattle.upp_limits.specs.rational.specs.Grid.{Whole}
-use Rattle.upp_limits.specs.rational.proofs.Grid.{whole_add, whole_sub}
-use Rattle.upp_limits.specs.rational.proofs.Laws.{not_zero, add_assoc, le_or_lt, le_of_lt, antisym, lt_trans, lt_irrefl, mul_comm, add_mul}
-use Rattle.upp_limits.specs.rational.proofs.Integers.{int_add, nat_lt}
-use Rattle.upp_limits.specs.rational.proofs.Linear.{with1, with2, with3}
-use Rattle.upp_limits.specs.rational.proofs.Quotients.{div_unique}
-use Rattle.upp_limits.specs.rational.proofs.ExtendedOrder.{add_assoc_ext}
-use Rattle.upp_limits.specs.rational.specs.Extended.{Ext, ◌+ₑ◌}
-use Rattle.upp_limits.specs.rational.specs.declared.Extended.TheVariants.{Fin, Inf}
-use Rattle.upp_limits.specs.upp_curve.specs.declared.affine_segment.line.Line.{Line}
-use Rattle.upp_limits.specs.upp_curve.specs.declared.affine_segment.line.Piece.{Piece}
-use Rattle.upp_limits.specs.upp_curve.specs.affine_segment.Values.{line_value}
-use Rattle.upp_limits.specs.upp_curve.specs.affine_segment.Reading.{read, piece_in, piece_value}
-use Rattle.upp_limits.specs.upp_curve.specs.Curve.{repeated}
-use Rattle.upp_limits.specs.upp_curve.specs.Steady.{Repeats}
-use Rattle.upp_limits.specs.upp_curve.specs.Unrolled.{line_later, later, each_later, copies, upto}
-use Rattle.upp_limits.specs.upp_curve.specs.affine_segment.Pieces.{Each, RisesFrom, StartsAtZero}
-use Rattle.upp_limits.specs.upp_curve.specs.Normal.{FitsPeriod}
+use Rattle.rational.specs.Rational.{ℚ, ◌+ℚ◌, ◌*ℚ◌, ◌/ℚ◌, ◌≤ℚ◌, ◌<ℚ◌, int}
+use Rattle.rational.specs.Grid.{Whole}
+use Rattle.rational.proofs.Grid.{whole_add, whole_sub}
+use Rattle.rational.proofs.Laws.{not_zero, add_assoc, le_or_lt, le_of_lt, antisym, lt_trans, lt_irrefl, mul_comm, add_mul}
+use Rattle.rational.proofs.Integers.{int_add, nat_lt}
+use Rattle.rational.proofs.Linear.{with1, with2, with3}
+use Rattle.rational.proofs.Quotients.{div_unique}
+use Rattle.rational.proofs.ExtendedOrder.{add_assoc_ext}
+use Rattle.rational.specs.Extended.{Ext, ◌+ₑ◌}
+use Rattle.rational.specs.declared.Extended.TheVariants.{Fin, Inf}
+use Rattle.upp_curve.specs.declared.affine_segment.line.Line.{Line}
+use Rattle.upp_curve.specs.declared.affine_segment.line.Piece.{Piece}
+use Rattle.upp_curve.specs.affine_segment.Values.{line_value}
+use Rattle.upp_curve.specs.affine_segment.Reading.{read, piece_in, piece_value}
+use Rattle.upp_curve.specs.Curve.{repeated}
+use Rattle.upp_curve.specs.Steady.{Repeats}
+use Rattle.upp_curve.specs.Unrolled.{line_later, later, each_later, copies, upto}
+use Rattle.upp_curve.specs.affine_segment.Pieces.{Each, RisesFrom, StartsAtZero}
+use Rattle.upp_curve.specs.Normal.{FitsPeriod}
 use Rattle.upp_normal.specs.Normalising.{IsMerged, IsTwoPeriods, IsOneLine, Turned, OnGridsUnlessLine, cut_at, past, first_start, second_copy}
 use Rattle.upp_normal.specs.Bends.{ValueOn, LineOn, NumbersOn, SlopeTurns, BendAfter, OnlyBend}
-use Rattle.upp_limits.specs.upp_curve.proofs.Unique.{upto_some, upto_none, upto_end}
-use Rattle.upp_limits.specs.upp_curve.proofs.affine_segment.PieceIn.{value_past, value_at_start, piece_in_go, piece_in_stop}
+use Rattle.upp_curve.proofs.Unique.{upto_some, upto_none, upto_end}
+use Rattle.upp_curve.proofs.affine_segment.PieceIn.{value_past, value_at_start, piece_in_go, piece_in_stop}
 use Rattle.upp_normal.proofs.UnrolledValues.{copies_some}
-use Rattle.upp_limits.specs.upp_curve.proofs.Repeats.{repeated_rule, repeated_first}
+use Rattle.upp_curve.proofs.Repeats.{repeated_rule, repeated_first}
 use Rattle.upp_normal.proofs.NormaliseLoops.{later_none, later_some, past_go, past_stop, past_none}
-use Rattle.upp_limits.specs.upp_curve.proofs.affine_segment.PieceOrder.{rises_down, each_map}
+use Rattle.upp_curve.proofs.affine_segment.PieceOrder.{rises_down, each_map}
 use Rattle.upp_normal.proofs.NormaliseLists.{past_all}
 use Rattle.upp_normal.proofs.NormaliseMerge.{merged_none, merged_skip, merged_keep}
 use Rattle.upp_normal.proofs.NormalisePeriods.{two_periods_are, agree_from, repeats_after}

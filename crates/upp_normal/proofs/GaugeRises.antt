@@ -4,27 +4,27 @@ use Rattle.std.proofs.Common.{arith, sym, subst, inl, inr}
 use Rattle.std.specs.List.{AllByRecursion, flat_map}
 use Rattle.std.proofs.Math.Nat.{max-le}
 use native.Mathlib.Nat.{le_of_dvd, mul-le-mul}
-use Rattle.upp_limits.specs.rational.specs.Rational.{ℚ, ◌*ℚ◌, ◌≤ℚ◌, ◌<ℚ◌, int}
-use Rattle.upp_limits.specs.rational.specs.Ratio.{IsSmall}
-use Rattle.upp_limits.specs.rational.specs.Grid.{Whole, Within}
-use Rattle.upp_limits.specs.rational.specs.Gauge.{bound_of, common_den}
-use Rattle.upp_limits.specs.rational.proofs.Integers.{nat_le, nat_nonneg}
-use Rattle.upp_limits.specs.rational.proofs.Laws.{le_or_lt, le_of_lt, le_trans, lt_le_trans, mul_le_mul, mul_le_mul_right, mul_zero}
-use Rattle.upp_limits.specs.rational.proofs.MinMax.{lt_q_not}
-use Rattle.upp_limits.specs.rational.proofs.Over.{lt_q_out}
-use Rattle.upp_limits.specs.upp_curve.specs.declared.curve.Tail.{Tail}
-use Rattle.upp_limits.specs.upp_curve.specs.declared.curve.Tail.TheVariants.{Periodic, Affine, Infinite}
+use Rattle.rational.specs.Rational.{ℚ, ◌*ℚ◌, ◌≤ℚ◌, ◌<ℚ◌, int}
+use Rattle.rational.specs.Ratio.{IsSmall}
+use Rattle.rational.specs.Grid.{Whole, Within}
+use Rattle.rational.specs.Gauge.{bound_of, common_den}
+use Rattle.rational.proofs.Integers.{nat_le, nat_nonneg}
+use Rattle.rational.proofs.Laws.{le_or_lt, le_of_lt, le_trans, lt_le_trans, mul_le_mul, mul_le_mul_right, mul_zero}
+use Rattle.rational.proofs.MinMax.{lt_q_not}
+use Rattle.rational.proofs.Over.{lt_q_out}
+use Rattle.upp_curve.specs.declared.curve.Tail.{Tail}
+use Rattle.upp_curve.specs.declared.curve.Tail.TheVariants.{Periodic, Affine, Infinite}
 use Rattle.upp_limits.specs.declared.op_kind.OpKind.{OpKind}
 use Rattle.upp_limits.specs.declared.op_kind.Operands.{Operands}
 use Rattle.upp_limits.specs.declared.op_kind.Operands.TheVariants.{First, Both, FirstScaled}
-use Rattle.upp_limits.specs.upp_curve.specs.Curve.{SpecCurve}
+use Rattle.upp_curve.specs.Curve.{SpecCurve}
 use Rattle.upp_limits.specs.Gauges.{gauge_over, kind_numbers, numbers_over, operand_numbers, operands_of, scaled_curve}
 use Rattle.upp_limits.specs.Limits.{Numbers, Sizes, curve_numbers, gauge_of, joined, sizes_of, span_slopes, span_values, stored_period, stored_rise, twice}
 use Rattle.upp_normal.specs.Operand.{AreLimited}
 use Rattle.upp_limits.specs.Periods.{HasPeriod}
 use Rattle.upp_limits.specs.Sized.{AreSizes, IsSlope, IsValue, Stands}
 use Rattle.upp_limits.specs.Spans.{Span, copies_of, once_below, span_below, spans, spans_below}
-use Rattle.upp_limits.specs.upp_curve.specs.Unrolled.{copies_below}
+use Rattle.upp_curve.specs.Unrolled.{copies_below}
 use Rattle.upp_normal.specs.Unrolling.{IsOperandTo}
 use Rattle.upp_limits.proofs.CommonDen.{bound_least, common_den_least}
 use Rattle.upp_limits.proofs.Copies.{copies_in, copies_out, copy_among, every_copy}

@@ -1,14 +1,14 @@
 -- The last start tells of all of them, since starts rise.
 use Rattle.std.specs.Prelude.{◌≡◌, ◌-◌, ◌↔◌, pos, Bool, true, false, not, IsTrue, List, [], ◌∷◌, length, slice_index_or as get_or}
 use Rattle.std.proofs.Common.{sym, ap, ◌∙◌, refl, subst}
-use Rattle.upp_limits.specs.rational.specs.Rational.{ℚ, ◌+ℚ◌, ◌*ℚ◌, ◌≤ℚ◌, ◌<ℚ◌, int}
-use Rattle.upp_limits.specs.rational.proofs.Laws.{le_lt_trans, le_trans, not_le_of_lt, one_mul}
-use Rattle.upp_limits.specs.upp_curve.specs.declared.affine_segment.line.Piece.{Piece}
-use Rattle.upp_limits.specs.upp_curve.specs.Normal.{FitsPeriod, FitsRank}
-use Rattle.upp_limits.specs.upp_curve.specs.affine_segment.Pieces.{StartsAtZero}
-use Rattle.upp_limits.specs.upp_curve.specs.Steady.{last_of}
-use Rattle.upp_limits.specs.rational.proofs.Compared.{iff_none, iff_some, not_less_out}
-use Rattle.upp_limits.specs.upp_curve.proofs.affine_segment.PieceOrder.{each_map}
+use Rattle.rational.specs.Rational.{ℚ, ◌+ℚ◌, ◌*ℚ◌, ◌≤ℚ◌, ◌<ℚ◌, int}
+use Rattle.rational.proofs.Laws.{le_lt_trans, le_trans, not_le_of_lt, one_mul}
+use Rattle.upp_curve.specs.declared.affine_segment.line.Piece.{Piece}
+use Rattle.upp_curve.specs.Normal.{FitsPeriod, FitsRank}
+use Rattle.upp_curve.specs.affine_segment.Pieces.{StartsAtZero}
+use Rattle.upp_curve.specs.Steady.{last_of}
+use Rattle.rational.proofs.Compared.{iff_none, iff_some, not_less_out}
+use Rattle.upp_curve.proofs.affine_segment.PieceOrder.{each_map}
 use Rattle.upp_normal.proofs.NormaliseLists.{last_is_last}
 use Rattle.upp_limits.proofs.OwnGauge.{last_each, last_is}
 

@@ -1,11 +1,11 @@
 -- A curve by itself that is over no limit has what its normal form takes.
 use Rattle.std.specs.Prelude.{◌≡◌, ◌<◌, ◌^◌, List}
 use Rattle.std.proofs.Common.{subst, sym}
-use Rattle.upp_limits.specs.upp_curve.specs.declared.affine_segment.line.Piece.{Piece}
-use Rattle.upp_limits.specs.upp_curve.specs.declared.curve.Tail.{Tail}
+use Rattle.upp_curve.specs.declared.affine_segment.line.Piece.{Piece}
+use Rattle.upp_curve.specs.declared.curve.Tail.{Tail}
 use Rattle.upp_limits.specs.declared.own_window.OwnNumbers.{OwnNumbers}
 use Rattle.upp_limits.specs.Limits.{own_end, own_sizes}
-use Rattle.upp_limits.specs.upp_curve.specs.Normal.{IsRaw}
+use Rattle.upp_curve.specs.Normal.{IsRaw}
 use Rattle.upp_limits.specs.OwnLimits.{IsWithinOwn}
 use Rattle.upp_limits.specs.OwnWindow.{AreNumbers}
 use Rattle.upp_normal.proofs.NormaliseOwn.{Found, own_found}

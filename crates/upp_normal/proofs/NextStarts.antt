@@ -3,29 +3,29 @@ use Rattle.std.specs.Prelude.{◌≡◌, ◌⊎◌, ℕ, zero, suc, ◌<◌, ◌
 use Rattle.std.proofs.Common.{arith, sym, ap, ◌∙◌, refl, subst, inl, inr}
 use Rattle.std.proofs.lemmas.Bool.{cases_lt}
 use Rattle.std.specs.List.{AllByRecursion}
-use Rattle.upp_limits.specs.rational.specs.Rational.{ℚ, ◌+ℚ◌, ◌-ℚ◌, ◌*ℚ◌, ◌≤ℚ◌, ◌<ℚ◌, int}
-use Rattle.upp_limits.specs.rational.proofs.Integers.{nat_le, nat_nonneg}
-use Rattle.upp_limits.specs.rational.proofs.Laws.{add_lt_add, antisym, le_lt_trans, le_of_lt, le_or_lt, le_refl, le_trans, lt_irrefl, lt_le_trans, mul_le_mul_right, mul_nonneg}
-use Rattle.upp_limits.specs.rational.proofs.Linear.{with3, with4, with6}
-use Rattle.upp_limits.specs.rational.proofs.MinMax.{lt_q_not}
-use Rattle.upp_limits.specs.rational.proofs.Over.{lt_q_out}
-use Rattle.upp_limits.specs.rational.proofs.Whole.{one_more_times}
-use Rattle.upp_limits.specs.upp_curve.specs.declared.affine_segment.line.Piece.{Piece}
-use Rattle.upp_limits.specs.upp_curve.specs.declared.curve.Tail.{Tail}
-use Rattle.upp_limits.specs.upp_curve.specs.declared.curve.Tail.TheVariants.{Periodic, Affine, Infinite}
-use Rattle.upp_limits.specs.upp_curve.specs.Curve.{SpecCurve}
-use Rattle.upp_limits.specs.upp_curve.specs.affine_segment.Pieces.{Each, HasStart, RisesFrom, StartsAtZero, start_after}
-use Rattle.upp_limits.specs.upp_curve.specs.Normal.{IsNormal}
+use Rattle.rational.specs.Rational.{ℚ, ◌+ℚ◌, ◌-ℚ◌, ◌*ℚ◌, ◌≤ℚ◌, ◌<ℚ◌, int}
+use Rattle.rational.proofs.Integers.{nat_le, nat_nonneg}
+use Rattle.rational.proofs.Laws.{add_lt_add, antisym, le_lt_trans, le_of_lt, le_or_lt, le_refl, le_trans, lt_irrefl, lt_le_trans, mul_le_mul_right, mul_nonneg}
+use Rattle.rational.proofs.Linear.{with3, with4, with6}
+use Rattle.rational.proofs.MinMax.{lt_q_not}
+use Rattle.rational.proofs.Over.{lt_q_out}
+use Rattle.rational.proofs.Whole.{one_more_times}
+use Rattle.upp_curve.specs.declared.affine_segment.line.Piece.{Piece}
+use Rattle.upp_curve.specs.declared.curve.Tail.{Tail}
+use Rattle.upp_curve.specs.declared.curve.Tail.TheVariants.{Periodic, Affine, Infinite}
+use Rattle.upp_curve.specs.Curve.{SpecCurve}
+use Rattle.upp_curve.specs.affine_segment.Pieces.{Each, HasStart, RisesFrom, StartsAtZero, start_after}
+use Rattle.upp_curve.specs.Normal.{IsNormal}
 use Rattle.upp_normal.specs.PieceLaws.{IsNext, IsNextStart, SpansAreUnrolled}
 use Rattle.upp_limits.specs.Spans.{Span, copies_of, end_of, next_later, once_below, span_below, spans, spans_below}
-use Rattle.upp_limits.specs.upp_curve.specs.Unrolled.{copies_below, later, unroll, unrolled, upto}
+use Rattle.upp_curve.specs.Unrolled.{copies_below, later, unroll, unrolled, upto}
 use Rattle.upp_limits.proofs.Copies.{every_copy}
 use Rattle.upp_limits.proofs.Every.{every_flat, every_weaken}
-use Rattle.upp_limits.specs.upp_curve.proofs.affine_segment.PieceOrder.{each_map}
+use Rattle.upp_curve.proofs.affine_segment.PieceOrder.{each_map}
 use Rattle.upp_normal.proofs.NormaliseLists.{each_upto}
 use Rattle.upp_normal.proofs.SamePieces.{each_at, each_contained, each_whole, once_in, periodic_given, same_pieces}
 use Rattle.upp_normal.proofs.UnrolledPieces.{IsGiven, each_with, no_later, periodic_each}
-use Rattle.upp_limits.specs.upp_curve.proofs.affine_segment.PieceIn.{low_start}
+use Rattle.upp_curve.proofs.affine_segment.PieceIn.{low_start}
 use Rattle.upp_normal.proofs.NormaliseRank.{rises_late}
 
 -- ---- where the next of a curve's own pieces starts

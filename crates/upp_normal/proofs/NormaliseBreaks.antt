@@ -1,31 +1,31 @@
 -- A tail without a break in a period is one line; and where there is one, a period from it ends in a break.
 use Rattle.std.specs.Prelude.{◌≡◌, pos, List, [], ◌∷◌, ◌⊎◌, Option, Some, None}
 use Rattle.std.proofs.Common.{arith, sym, ap, ◌∙◌, refl, subst, inl, inr}
-use Rattle.upp_limits.specs.rational.specs.Rational.{ℚ, ◌+ℚ◌, ◌-ℚ◌, ◌*ℚ◌, ◌≤ℚ◌, ◌<ℚ◌, int}
-use Rattle.upp_limits.specs.rational.proofs.Laws.{antisym, between, le_or_lt, le_of_lt, le_refl, le_trans, le_lt_trans}
-use Rattle.upp_limits.specs.rational.proofs.Linear.{with2, with3, with4}
-use Rattle.upp_limits.specs.rational.specs.Extended.{Ext, ◌+ₑ◌}
-use Rattle.upp_limits.specs.rational.specs.declared.Extended.TheVariants.{Fin}
-use Rattle.upp_limits.specs.upp_curve.specs.declared.affine_segment.line.Line.{Line}
-use Rattle.upp_limits.specs.upp_curve.specs.declared.affine_segment.line.Piece.{Piece}
-use Rattle.upp_limits.specs.upp_curve.specs.affine_segment.Reading.{read}
-use Rattle.upp_limits.specs.upp_curve.specs.affine_segment.Values.{line_value}
-use Rattle.upp_limits.specs.upp_curve.specs.Unrolled.{line_later, later, upto}
-use Rattle.upp_limits.specs.upp_curve.specs.affine_segment.Pieces.{RisesFrom, Each}
-use Rattle.upp_limits.specs.upp_curve.specs.Normal.{Continues, NoneContinues}
-use Rattle.upp_limits.specs.upp_curve.specs.Steady.{Repeats, last_of, last_line}
+use Rattle.rational.specs.Rational.{ℚ, ◌+ℚ◌, ◌-ℚ◌, ◌*ℚ◌, ◌≤ℚ◌, ◌<ℚ◌, int}
+use Rattle.rational.proofs.Laws.{antisym, between, le_or_lt, le_of_lt, le_refl, le_trans, le_lt_trans}
+use Rattle.rational.proofs.Linear.{with2, with3, with4}
+use Rattle.rational.specs.Extended.{Ext, ◌+ₑ◌}
+use Rattle.rational.specs.declared.Extended.TheVariants.{Fin}
+use Rattle.upp_curve.specs.declared.affine_segment.line.Line.{Line}
+use Rattle.upp_curve.specs.declared.affine_segment.line.Piece.{Piece}
+use Rattle.upp_curve.specs.affine_segment.Reading.{read}
+use Rattle.upp_curve.specs.affine_segment.Values.{line_value}
+use Rattle.upp_curve.specs.Unrolled.{line_later, later, upto}
+use Rattle.upp_curve.specs.affine_segment.Pieces.{RisesFrom, Each}
+use Rattle.upp_curve.specs.Normal.{Continues, NoneContinues}
+use Rattle.upp_curve.specs.Steady.{Repeats, last_of, last_line}
 use Rattle.upp_normal.specs.Normalising.{past}
-use Rattle.upp_limits.specs.upp_curve.proofs.Steady.{line_rule, read_past}
-use Rattle.upp_limits.specs.upp_curve.proofs.OneForm.{rise_is}
+use Rattle.upp_curve.proofs.Steady.{line_rule, read_past}
+use Rattle.upp_curve.proofs.OneForm.{rise_is}
 use Rattle.upp_normal.proofs.UnrolledValues.{line_value_later}
-use Rattle.upp_limits.specs.upp_curve.proofs.Unique.{lines_same, upto_some}
-use Rattle.upp_limits.specs.upp_curve.proofs.affine_segment.PieceIn.{value_past, read_stop, read_go}
+use Rattle.upp_curve.proofs.Unique.{lines_same, upto_some}
+use Rattle.upp_curve.proofs.affine_segment.PieceIn.{value_past, read_stop, read_go}
 use Rattle.upp_normal.proofs.Below.{read_upto}
 use Rattle.upp_normal.proofs.NormaliseLoops.{past_go, past_none}
 use Rattle.upp_normal.proofs.NormaliseLists.{past_all, last_is_last, last_in, rises_upto, continues_back}
-use Rattle.upp_limits.specs.upp_curve.proofs.affine_segment.PieceOrder.{heads_same, nil_not_cons}
+use Rattle.upp_curve.proofs.affine_segment.PieceOrder.{heads_same, nil_not_cons}
 use Rattle.upp_normal.proofs.NormalisePeriods.{agree_from}
-use Rattle.upp_limits.specs.rational.proofs.ExtendedOrder.{add_cancel_ext}
+use Rattle.rational.proofs.ExtendedOrder.{add_cancel_ext}
 use Rattle.upp_limits.proofs.PieceCounts.{upto_early}
 
 -- ---- one line

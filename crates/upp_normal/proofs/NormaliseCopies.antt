@@ -2,34 +2,34 @@
 use Rattle.std.specs.Prelude.{◌≡◌, ℕ, zero, suc, ◌+◌, ◌-◌, ◌*◌, ◌≤◌, pos, List, [], ◌∷◌, ◌++◌, length, map}
 use Rattle.std.proofs.Common.{arith, sym, ap, ap₂, ◌∙◌, refl, subst, take, drop, append_assoc, append-nil}
 use Rattle.std.proofs.lemmas.List.{take-append-drop, take_at, drop_at, length-append, length-take-le, take-take, drop-take, take_all, take-map, length-map, map-append}
-use Rattle.upp_limits.specs.rational.specs.Rational.{ℚ, ◌+ℚ◌, ◌-ℚ◌, ◌*ℚ◌, ◌≤ℚ◌, ◌<ℚ◌, int}
-use Rattle.upp_limits.specs.rational.proofs.Laws.{le_of_lt, add_assoc, add_comm, mul_nonneg}
-use Rattle.upp_limits.specs.rational.proofs.Linear.{with1, with2, with3, with4, with5}
-use Rattle.upp_limits.specs.rational.proofs.Whole.{one_more_times, nat_nonneg}
-use Rattle.upp_limits.specs.rational.proofs.ExtendedOrder.{add_assoc_ext}
-use Rattle.upp_limits.specs.rational.specs.Extended.{Ext, ◌+ₑ◌}
-use Rattle.upp_limits.specs.rational.specs.declared.Extended.TheVariants.{Fin}
-use Rattle.upp_limits.specs.upp_curve.specs.declared.affine_segment.line.Piece.{Piece}
-use Rattle.upp_limits.specs.upp_curve.specs.affine_segment.Values.{line_value}
-use Rattle.upp_limits.specs.upp_curve.specs.affine_segment.Reading.{read}
-use Rattle.upp_limits.specs.upp_curve.specs.Curve.{repeated}
-use Rattle.upp_limits.specs.upp_curve.specs.Steady.{Repeats, last_of}
-use Rattle.upp_limits.specs.upp_curve.specs.Unrolled.{line_later, later, each_later, copies, upto}
-use Rattle.upp_limits.specs.upp_curve.specs.affine_segment.Pieces.{RisesFrom, Each}
-use Rattle.upp_limits.specs.upp_curve.specs.Normal.{Continues, NoneContinues}
+use Rattle.rational.specs.Rational.{ℚ, ◌+ℚ◌, ◌-ℚ◌, ◌*ℚ◌, ◌≤ℚ◌, ◌<ℚ◌, int}
+use Rattle.rational.proofs.Laws.{le_of_lt, add_assoc, add_comm, mul_nonneg}
+use Rattle.rational.proofs.Linear.{with1, with2, with3, with4, with5}
+use Rattle.rational.proofs.Whole.{one_more_times, nat_nonneg}
+use Rattle.rational.proofs.ExtendedOrder.{add_assoc_ext}
+use Rattle.rational.specs.Extended.{Ext, ◌+ₑ◌}
+use Rattle.rational.specs.declared.Extended.TheVariants.{Fin}
+use Rattle.upp_curve.specs.declared.affine_segment.line.Piece.{Piece}
+use Rattle.upp_curve.specs.affine_segment.Values.{line_value}
+use Rattle.upp_curve.specs.affine_segment.Reading.{read}
+use Rattle.upp_curve.specs.Curve.{repeated}
+use Rattle.upp_curve.specs.Steady.{Repeats, last_of}
+use Rattle.upp_curve.specs.Unrolled.{line_later, later, each_later, copies, upto}
+use Rattle.upp_curve.specs.affine_segment.Pieces.{RisesFrom, Each}
+use Rattle.upp_curve.specs.Normal.{Continues, NoneContinues}
 use Rattle.upp_normal.specs.Normalising.{GoesOn}
-use Rattle.upp_limits.specs.upp_curve.proofs.Repeats.{repeated_first, repeated_rule, repeats_times}
-use Rattle.upp_limits.specs.upp_curve.proofs.Steady.{read_past}
-use Rattle.upp_limits.specs.upp_curve.proofs.Unique.{Reads, same_lists, upto_some}
-use Rattle.upp_limits.specs.upp_curve.proofs.Normal.{upto_all}
+use Rattle.upp_curve.proofs.Repeats.{repeated_first, repeated_rule, repeats_times}
+use Rattle.upp_curve.proofs.Steady.{read_past}
+use Rattle.upp_curve.proofs.Unique.{Reads, same_lists, upto_some}
+use Rattle.upp_curve.proofs.Normal.{upto_all}
 use Rattle.upp_normal.proofs.UnrolledValues.{copies_read, copies_some, line_value_later, copies_none}
 use Rattle.upp_normal.proofs.Below.{read_upto}
 use Rattle.upp_normal.proofs.NormaliseLoops.{later_none, later_some}
-use Rattle.upp_limits.specs.upp_curve.proofs.affine_segment.PieceOrder.{each_map, each_append, rises_append}
+use Rattle.upp_curve.proofs.affine_segment.PieceOrder.{each_map, each_append, rises_append}
 use Rattle.upp_normal.proofs.NormaliseLists.{each_moved, rises_upto, rises_moved, last_in, last_is_last, none_upto, none_append, none_moved, line_later_twice}
 use Rattle.upp_normal.proofs.NormalisePeriods.{agree_from}
 use Rattle.upp_normal.proofs.NormaliseBreaks.{lines_apart, reads_last}
-use Rattle.upp_limits.specs.upp_curve.proofs.affine_segment.PieceIn.{read_is}
+use Rattle.upp_curve.proofs.affine_segment.PieceIn.{read_is}
 use Rattle.upp_limits.proofs.PieceCounts.{copies_next, upto_early}
 
 -- ---- moved pieces

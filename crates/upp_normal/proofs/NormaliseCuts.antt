@@ -2,17 +2,17 @@
 use Rattle.std.specs.Prelude.{◌≡◌, ℕ, pos, List, [], ◌∷◌, ◌++◌, length, None, Some}
 use Rattle.std.proofs.Common.{sym, ap, ◌∙◌, refl, subst, inl, inr, take, drop, append-nil, append_assoc}
 use Rattle.std.proofs.lemmas.List.{take_at, drop_at, take-append-drop}
-use Rattle.upp_limits.specs.rational.specs.Rational.{ℚ, ◌≤ℚ◌, ◌<ℚ◌, int}
-use Rattle.upp_limits.specs.rational.proofs.Laws.{le_or_lt, le_refl, lt_le_trans, le_lt_trans}
-use Rattle.upp_limits.specs.upp_curve.specs.declared.affine_segment.line.Piece.{Piece}
-use Rattle.upp_limits.specs.upp_curve.specs.Unrolled.{upto, from}
-use Rattle.upp_limits.specs.upp_curve.specs.affine_segment.Pieces.{RisesFrom, StartsAtZero, Each, HasStart}
-use Rattle.upp_limits.specs.upp_curve.specs.Normal.{NoMerge}
-use Rattle.upp_limits.specs.upp_curve.specs.Steady.{last_of}
+use Rattle.rational.specs.Rational.{ℚ, ◌≤ℚ◌, ◌<ℚ◌, int}
+use Rattle.rational.proofs.Laws.{le_or_lt, le_refl, lt_le_trans, le_lt_trans}
+use Rattle.upp_curve.specs.declared.affine_segment.line.Piece.{Piece}
+use Rattle.upp_curve.specs.Unrolled.{upto, from}
+use Rattle.upp_curve.specs.affine_segment.Pieces.{RisesFrom, StartsAtZero, Each, HasStart}
+use Rattle.upp_curve.specs.Normal.{NoMerge}
+use Rattle.upp_curve.specs.Steady.{last_of}
 use Rattle.upp_normal.specs.Normalising.{past, first_start, IsFront}
-use Rattle.upp_limits.specs.upp_curve.proofs.Unique.{upto_none, upto_some, upto_end}
+use Rattle.upp_curve.proofs.Unique.{upto_none, upto_some, upto_end}
 use Rattle.upp_normal.proofs.NormaliseLoops.{past_go, past_stop, past_none}
-use Rattle.upp_limits.specs.upp_curve.proofs.affine_segment.PieceOrder.{each_left, heads_same, nil_not_cons}
+use Rattle.upp_curve.proofs.affine_segment.PieceOrder.{each_left, heads_same, nil_not_cons}
 use Rattle.upp_normal.proofs.NormaliseLists.{past_all, rises_upto, none_upto}
 use Rattle.upp_limits.proofs.PieceCounts.{from_none, from_some, from_end}
 

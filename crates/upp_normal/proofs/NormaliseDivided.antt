@@ -5,35 +5,35 @@ use Rattle.std.proofs.lemmas.List.{length-take-le}
 use Rattle.std.proofs.Math.Seq.{take-append-add}
 use Prim.Native.Nat.{◌∣◌}
 use native.Mathlib.Nat.{dvd-mul_right, eq_of_mul-eq-mul_right, mul_comm}
-use Rattle.upp_limits.specs.rational.specs.Rational.{ℚ, ◌+ℚ◌, ◌-ℚ◌, ◌*ℚ◌, ◌≤ℚ◌, ◌<ℚ◌, int}
-use Rattle.upp_limits.specs.rational.proofs.Laws.{le_of_lt, le_refl, le_trans}
-use Rattle.upp_limits.specs.rational.proofs.Linear.{with2, with3}
-use Rattle.upp_limits.specs.rational.specs.Extended.{Ext, ◌+ₑ◌}
-use Rattle.upp_limits.specs.rational.specs.declared.Extended.TheVariants.{Fin}
-use Rattle.upp_limits.specs.upp_curve.specs.declared.affine_segment.line.Line.{Line}
-use Rattle.upp_limits.specs.upp_curve.specs.declared.affine_segment.line.Piece.{Piece}
-use Rattle.upp_limits.specs.upp_curve.specs.affine_segment.Values.{line_value}
-use Rattle.upp_limits.specs.upp_curve.specs.affine_segment.Reading.{read}
-use Rattle.upp_limits.specs.upp_curve.specs.Curve.{repeated}
-use Rattle.upp_limits.specs.upp_curve.specs.Steady.{Repeats, last_of}
-use Rattle.upp_limits.specs.upp_curve.specs.Unrolled.{line_later, later, each_later, copies, upto, from}
-use Rattle.upp_limits.specs.upp_curve.specs.affine_segment.Pieces.{RisesFrom, StartsAtZero, Each}
-use Rattle.upp_limits.specs.upp_curve.specs.Normal.{NoMerge, Continues, NoneContinues}
+use Rattle.rational.specs.Rational.{ℚ, ◌+ℚ◌, ◌-ℚ◌, ◌*ℚ◌, ◌≤ℚ◌, ◌<ℚ◌, int}
+use Rattle.rational.proofs.Laws.{le_of_lt, le_refl, le_trans}
+use Rattle.rational.proofs.Linear.{with2, with3}
+use Rattle.rational.specs.Extended.{Ext, ◌+ₑ◌}
+use Rattle.rational.specs.declared.Extended.TheVariants.{Fin}
+use Rattle.upp_curve.specs.declared.affine_segment.line.Line.{Line}
+use Rattle.upp_curve.specs.declared.affine_segment.line.Piece.{Piece}
+use Rattle.upp_curve.specs.affine_segment.Values.{line_value}
+use Rattle.upp_curve.specs.affine_segment.Reading.{read}
+use Rattle.upp_curve.specs.Curve.{repeated}
+use Rattle.upp_curve.specs.Steady.{Repeats, last_of}
+use Rattle.upp_curve.specs.Unrolled.{line_later, later, each_later, copies, upto, from}
+use Rattle.upp_curve.specs.affine_segment.Pieces.{RisesFrom, StartsAtZero, Each}
+use Rattle.upp_curve.specs.Normal.{NoMerge, Continues, NoneContinues}
 use Rattle.upp_normal.specs.Normalising.{IsCycle, EndsInBreak, Turned, GoesOn}
-use Rattle.upp_limits.specs.upp_curve.proofs.Repeats.{repeated_first, repeated_rule, repeats_times}
-use Rattle.upp_limits.specs.upp_curve.proofs.Steady.{read_past}
-use Rattle.upp_limits.specs.upp_curve.proofs.Unique.{lines_same}
-use Rattle.upp_limits.specs.upp_curve.proofs.FirstStretch.{on_stretch, at_start, end_of, start_before, end_at_most}
-use Rattle.upp_limits.specs.upp_curve.proofs.Normal.{upto_all}
+use Rattle.upp_curve.proofs.Repeats.{repeated_first, repeated_rule, repeats_times}
+use Rattle.upp_curve.proofs.Steady.{read_past}
+use Rattle.upp_curve.proofs.Unique.{lines_same}
+use Rattle.upp_curve.proofs.FirstStretch.{on_stretch, at_start, end_of, start_before, end_at_most}
+use Rattle.upp_curve.proofs.Normal.{upto_all}
 use Rattle.upp_normal.proofs.UnrolledValues.{copies_some, line_value_later}
 use Rattle.upp_normal.proofs.Below.{Cut, cut_at_start, read_from_cut, parts_read}
-use Rattle.upp_limits.specs.upp_curve.proofs.affine_segment.PieceOrder.{each_map, each_append, rises_left, heads_same, tails_same, rises_split, has_mid}
+use Rattle.upp_curve.proofs.affine_segment.PieceOrder.{each_map, each_append, rises_left, heads_same, tails_same, rises_split, has_mid}
 use Rattle.upp_normal.proofs.NormaliseLists.{none_left, none_between, last_is_last, last_in}
 use Rattle.upp_normal.proofs.NormaliseCuts.{each_right}
 use Rattle.upp_normal.proofs.NormalisePeriods.{agree}
 use Rattle.upp_normal.proofs.NormaliseRank.{upto_mid}
 use Rattle.upp_normal.proofs.NormaliseCopies.{Period, are_copies, more_copies, next_copies, copies_go_on, from_go_on, length-copies}
-use Rattle.upp_limits.specs.upp_curve.proofs.affine_segment.PieceIn.{read_is, low_start}
+use Rattle.upp_curve.proofs.affine_segment.PieceIn.{read_is, low_start}
 use Rattle.upp_limits.proofs.PieceCounts.{from_none, from_some}
 
 -- ---- the right part of a list, and its front

@@ -1,35 +1,35 @@
 -- The normal form from what its steps leave.
 use Rattle.std.specs.Prelude.{◌≡◌, ℕ, ◌-◌, ◌<◌, ◌≤◌, pos, List, [], ◌∷◌, ◌++◌, ◌⊎◌, length, Option, None, Some, Result, Ok, Err, IfOk}
 use Rattle.std.proofs.Common.{arith, sym, ap, ◌∙◌, refl, subst, inl, inr, get_or}
-use Rattle.upp_limits.specs.rational.specs.Rational.{ℚ, ◌+ℚ◌, ◌-ℚ◌, ◌*ℚ◌, ◌/ℚ◌, ◌≤ℚ◌, ◌<ℚ◌, int}
-use Rattle.upp_limits.specs.rational.specs.Whole.{periods}
-use Rattle.upp_limits.specs.rational.proofs.Laws.{le_or_lt, le_of_lt, le_refl, le_trans, le_lt_trans, antisym}
-use Rattle.upp_limits.specs.rational.proofs.Linear.{with3, with4}
-use Rattle.upp_limits.specs.rational.proofs.Over.{le_q_out}
-use Rattle.upp_limits.specs.rational.proofs.Whole.{periods_high}
-use Rattle.upp_limits.specs.rational.specs.Extended.{Ext, ◌+ₑ◌}
-use Rattle.upp_limits.specs.rational.specs.declared.Extended.TheVariants.{Fin}
-use Rattle.upp_limits.specs.upp_curve.specs.declared.affine_segment.line.Line.{Line}
-use Rattle.upp_limits.specs.upp_curve.specs.declared.affine_segment.line.Piece.{Piece}
-use Rattle.upp_limits.specs.upp_curve.specs.affine_segment.Values.{line_value}
+use Rattle.rational.specs.Rational.{ℚ, ◌+ℚ◌, ◌-ℚ◌, ◌*ℚ◌, ◌/ℚ◌, ◌≤ℚ◌, ◌<ℚ◌, int}
+use Rattle.rational.specs.Whole.{periods}
+use Rattle.rational.proofs.Laws.{le_or_lt, le_of_lt, le_refl, le_trans, le_lt_trans, antisym}
+use Rattle.rational.proofs.Linear.{with3, with4}
+use Rattle.rational.proofs.Over.{le_q_out}
+use Rattle.rational.proofs.Whole.{periods_high}
+use Rattle.rational.specs.Extended.{Ext, ◌+ₑ◌}
+use Rattle.rational.specs.declared.Extended.TheVariants.{Fin}
+use Rattle.upp_curve.specs.declared.affine_segment.line.Line.{Line}
+use Rattle.upp_curve.specs.declared.affine_segment.line.Piece.{Piece}
+use Rattle.upp_curve.specs.affine_segment.Values.{line_value}
 use Rattle.upp_normal.specs.declared.cycle.Cycle.{Cycle}
-use Rattle.upp_limits.specs.upp_curve.specs.affine_segment.Reading.{read, piece_value}
-use Rattle.upp_limits.specs.upp_curve.specs.Curve.{repeated, cut, value_at}
-use Rattle.upp_limits.specs.upp_curve.specs.Steady.{Repeats, last_line}
-use Rattle.upp_limits.specs.upp_curve.specs.Unrolled.{upto}
-use Rattle.upp_limits.specs.upp_curve.specs.affine_segment.Pieces.{StartsAtZero, Each, HasStart}
-use Rattle.upp_limits.specs.upp_curve.specs.Normal.{NoMerge}
+use Rattle.upp_curve.specs.affine_segment.Reading.{read, piece_value}
+use Rattle.upp_curve.specs.Curve.{repeated, cut, value_at}
+use Rattle.upp_curve.specs.Steady.{Repeats, last_line}
+use Rattle.upp_curve.specs.Unrolled.{upto}
+use Rattle.upp_curve.specs.affine_segment.Pieces.{StartsAtZero, Each, HasStart}
+use Rattle.upp_curve.specs.Normal.{NoMerge}
 use Rattle.upp_normal.specs.Normalising.{IsPart, IsMerged, IsTwoPeriods, IsTurning, IsLowest, IsLeast, IsFormOf, IsOneLine, OnGrids, OnGridsUnlessLine, cycle_values, second_copy, ended}
-use Rattle.upp_limits.specs.upp_curve.proofs.Steady.{cut_past}
-use Rattle.upp_limits.specs.upp_curve.proofs.Unique.{upto_none, upto_some}
-use Rattle.upp_limits.specs.upp_curve.proofs.affine_segment.PieceIn.{value_at_start, value_past, read_one}
-use Rattle.upp_limits.specs.upp_curve.proofs.Normal.{transfer, periodic}
-use Rattle.upp_limits.specs.upp_curve.proofs.OneForm.{affine, infinite, affine_value, infinite_value}
-use Rattle.upp_limits.specs.upp_curve.proofs.Rules.{rule_extends}
-use Rattle.upp_limits.specs.upp_curve.proofs.Repeats.{repeated_first, repeated_rule}
+use Rattle.upp_curve.proofs.Steady.{cut_past}
+use Rattle.upp_curve.proofs.Unique.{upto_none, upto_some}
+use Rattle.upp_curve.proofs.affine_segment.PieceIn.{value_at_start, value_past, read_one}
+use Rattle.upp_curve.proofs.Normal.{transfer, periodic}
+use Rattle.upp_curve.proofs.OneForm.{affine, infinite, affine_value, infinite_value}
+use Rattle.upp_curve.proofs.Rules.{rule_extends}
+use Rattle.upp_curve.proofs.Repeats.{repeated_first, repeated_rule}
 use Rattle.upp_normal.proofs.UnrolledValues.{read_before}
 use Rattle.upp_normal.proofs.Below.{read_from_cut, plain_upto}
-use Rattle.upp_limits.specs.upp_curve.proofs.affine_segment.PieceOrder.{each_map, each_append, rises_append, has_mid}
+use Rattle.upp_curve.proofs.affine_segment.PieceOrder.{each_map, each_append, rises_append, has_mid}
 use Rattle.upp_normal.proofs.NormaliseLists.{rises_upto}
 use Rattle.upp_normal.proofs.NormaliseCuts.{last_append}
 use Rattle.upp_normal.proofs.NormalisePeriods.{two_periods_are, repeats_after}

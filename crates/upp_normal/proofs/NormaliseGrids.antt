@@ -3,32 +3,32 @@ use Rattle.std.specs.Prelude.{◌≡◌, ℕ, zero, suc, ◌*◌, ◌≤◌, pos
 use Rattle.std.proofs.Common.{arith, sym, ap, ◌∙◌, refl, subst, inl, inr}
 use Prim.Native.Nat.{◌∣◌}
 use native.Mathlib.Nat.{mul_comm}
-use Rattle.upp_limits.specs.rational.specs.Rational.{ℚ, ◌+ℚ◌, ◌-ℚ◌, ◌*ℚ◌, ◌/ℚ◌, ◌≤ℚ◌, ◌<ℚ◌, int}
-use Rattle.upp_limits.specs.rational.specs.Grid.{Whole}
-use Rattle.upp_limits.specs.rational.proofs.Grid.{whole_weaken, whole_add, whole_sub, whole_mul}
-use Rattle.upp_limits.specs.rational.proofs.Laws.{le_or_lt, le_of_lt, le_trans, antisym, lt_irrefl}
-use Rattle.upp_limits.specs.rational.proofs.Linear.{with2, with3}
-use Rattle.upp_limits.specs.rational.specs.Extended.{Ext, ◌+ₑ◌}
-use Rattle.upp_limits.specs.rational.specs.declared.Extended.TheVariants.{Fin, Inf}
-use Rattle.upp_limits.specs.upp_curve.specs.declared.affine_segment.line.Line.{Line}
-use Rattle.upp_limits.specs.upp_curve.specs.declared.affine_segment.line.Piece.{Piece}
-use Rattle.upp_limits.specs.upp_curve.specs.affine_segment.Values.{line_value}
+use Rattle.rational.specs.Rational.{ℚ, ◌+ℚ◌, ◌-ℚ◌, ◌*ℚ◌, ◌/ℚ◌, ◌≤ℚ◌, ◌<ℚ◌, int}
+use Rattle.rational.specs.Grid.{Whole}
+use Rattle.rational.proofs.Grid.{whole_weaken, whole_add, whole_sub, whole_mul}
+use Rattle.rational.proofs.Laws.{le_or_lt, le_of_lt, le_trans, antisym, lt_irrefl}
+use Rattle.rational.proofs.Linear.{with2, with3}
+use Rattle.rational.specs.Extended.{Ext, ◌+ₑ◌}
+use Rattle.rational.specs.declared.Extended.TheVariants.{Fin, Inf}
+use Rattle.upp_curve.specs.declared.affine_segment.line.Line.{Line}
+use Rattle.upp_curve.specs.declared.affine_segment.line.Piece.{Piece}
+use Rattle.upp_curve.specs.affine_segment.Values.{line_value}
 pub use Rattle.upp_normal.specs.Bends.{ValueOn, LineOn}
-use Rattle.upp_limits.specs.upp_curve.specs.affine_segment.Reading.{read, piece_in, piece_value}
-use Rattle.upp_limits.specs.upp_curve.specs.Curve.{repeated}
-use Rattle.upp_limits.specs.upp_curve.specs.Steady.{Repeats, last_line}
-use Rattle.upp_limits.specs.upp_curve.specs.Unrolled.{line_later, later, each_later, copies, upto}
-use Rattle.upp_limits.specs.upp_curve.specs.affine_segment.Pieces.{Each, RisesFrom, StartsAtZero}
-use Rattle.upp_limits.specs.upp_curve.specs.Normal.{FitsPeriod, Continues}
+use Rattle.upp_curve.specs.affine_segment.Reading.{read, piece_in, piece_value}
+use Rattle.upp_curve.specs.Curve.{repeated}
+use Rattle.upp_curve.specs.Steady.{Repeats, last_line}
+use Rattle.upp_curve.specs.Unrolled.{line_later, later, each_later, copies, upto}
+use Rattle.upp_curve.specs.affine_segment.Pieces.{Each, RisesFrom, StartsAtZero}
+use Rattle.upp_curve.specs.Normal.{FitsPeriod, Continues}
 use Rattle.upp_normal.specs.Normalising.{IsMerged, IsTwoPeriods, IsLine, IsOneLine, Turned, OnGrids, OnGridsUnlessLine, cut_at, past, first_start, second_copy}
-use Rattle.upp_limits.specs.upp_curve.proofs.Unique.{upto_some}
-use Rattle.upp_limits.specs.upp_curve.proofs.affine_segment.PieceIn.{value_past, value_at_start, read_is, low_start}
-use Rattle.upp_limits.specs.upp_curve.proofs.Steady.{read_past}
+use Rattle.upp_curve.proofs.Unique.{upto_some}
+use Rattle.upp_curve.proofs.affine_segment.PieceIn.{value_past, value_at_start, read_is, low_start}
+use Rattle.upp_curve.proofs.Steady.{read_past}
 use Rattle.upp_normal.proofs.UnrolledValues.{copies_some, copies_none}
-use Rattle.upp_limits.specs.upp_curve.proofs.Repeats.{repeated_rule}
-use Rattle.upp_limits.specs.upp_curve.proofs.Normal.{transfer}
+use Rattle.upp_curve.proofs.Repeats.{repeated_rule}
+use Rattle.upp_curve.proofs.Normal.{transfer}
 use Rattle.upp_normal.proofs.NormaliseLoops.{later_none, later_some}
-use Rattle.upp_limits.specs.upp_curve.proofs.affine_segment.PieceOrder.{each_append, each_left, rises_down}
+use Rattle.upp_curve.proofs.affine_segment.PieceOrder.{each_append, each_left, rises_down}
 use Rattle.upp_normal.proofs.NormaliseLists.{each_past, each_upto}
 use Rattle.upp_normal.proofs.NormaliseCuts.{each_right, none_past, start_none, start_some, upto_early}
 use Rattle.upp_normal.proofs.NormaliseMerge.{merged_none, merged_skip, merged_keep}
@@ -40,7 +40,7 @@ use Rattle.upp_normal.proofs.NormaliseDivided.{cut_of, period_is, not_one_line}
 use Rattle.upp_normal.proofs.NormaliseLeast.{share_back, share_some, whole_share}
 use Rattle.upp_normal.proofs.NormaliseForm.{each_part, merged_cons, two_periods_of, grids_through}
 use Rattle.upp_normal.proofs.NormaliseRoomy.{each_in, found_early}
-use Rattle.upp_limits.specs.rational.proofs.ExtendedOrder.{fin_same}
+use Rattle.rational.proofs.ExtendedOrder.{fin_same}
 
 -- ---- numbers on the grids
 -- starts on 1 / T, slopes on 1 / S, values on 1 / D

@@ -5,26 +5,26 @@ use Rattle.std.proofs.lemmas.List.{length-append}
 use Rattle.std.proofs.lemmas.Bool.{cases_lt}
 use Prim.Native.Nat.{◌∣◌}
 use native.Mathlib.Nat.{dvd_trans, dvd_of_mul-dvd-mul_left, mul-div_cancel', le_of_dvd, dvd-mul_left, dvd_of_mod-eq-zero, mod-eq-zero_of_dvd, dvd_refl, mul-pos}
-use Rattle.upp_limits.specs.rational.specs.Gcd.{gcd}
-use Rattle.upp_limits.specs.rational.specs.Euclid.{gcd_is, divides_other, gcd_pos}
-use Rattle.upp_limits.specs.rational.specs.Rational.{ℚ, ◌*ℚ◌, ◌/ℚ◌, ◌≤ℚ◌, ◌<ℚ◌, int}
-use Rattle.upp_limits.specs.rational.specs.Grid.{Whole}
-use Rattle.upp_limits.specs.rational.proofs.Integers.{nat_lt}
-use Rattle.upp_limits.specs.rational.proofs.Laws.{le_of_lt, mul_comm, mul_assoc, mul_cancel, div_mul, mul_one}
-use Rattle.upp_limits.specs.rational.proofs.Linear.{with1}
-use Rattle.upp_limits.specs.rational.proofs.Whole.{lt_of_mul}
-use Rattle.upp_limits.specs.rational.specs.Extended.{Ext}
-use Rattle.upp_limits.specs.upp_curve.specs.declared.affine_segment.line.Piece.{Piece}
-use Rattle.upp_limits.specs.upp_curve.specs.affine_segment.Reading.{read}
-use Rattle.upp_limits.specs.upp_curve.specs.Steady.{Repeats}
-use Rattle.upp_limits.specs.upp_curve.specs.Unrolled.{upto, from}
+use Rattle.rational.specs.Gcd.{gcd}
+use Rattle.rational.specs.Euclid.{gcd_is, divides_other, gcd_pos}
+use Rattle.rational.specs.Rational.{ℚ, ◌*ℚ◌, ◌/ℚ◌, ◌≤ℚ◌, ◌<ℚ◌, int}
+use Rattle.rational.specs.Grid.{Whole}
+use Rattle.rational.proofs.Integers.{nat_lt}
+use Rattle.rational.proofs.Laws.{le_of_lt, mul_comm, mul_assoc, mul_cancel, div_mul, mul_one}
+use Rattle.rational.proofs.Linear.{with1}
+use Rattle.rational.proofs.Whole.{lt_of_mul}
+use Rattle.rational.specs.Extended.{Ext}
+use Rattle.upp_curve.specs.declared.affine_segment.line.Piece.{Piece}
+use Rattle.upp_curve.specs.affine_segment.Reading.{read}
+use Rattle.upp_curve.specs.Steady.{Repeats}
+use Rattle.upp_curve.specs.Unrolled.{upto, from}
 use Rattle.upp_normal.specs.declared.cycle.Cycle.{Cycle}
 use Rattle.upp_normal.specs.Normalising.{IsCycle, Turned, GoesOn, IsTurning, cycle_values, turn_count, OnGrids, StaysWhole, IsCut, IsDivided, IsLeast, IsFront, SharesFit}
-use Rattle.upp_limits.specs.upp_curve.specs.affine_segment.Pieces.{Each}
-use Rattle.upp_limits.specs.upp_curve.specs.Fitting.{LaterFits}
-use Rattle.upp_limits.specs.upp_curve.proofs.Repeats.{repeats_times, repeated_rule}
-use Rattle.upp_limits.specs.upp_curve.proofs.Rules.{int_mul}
-use Rattle.upp_limits.specs.upp_curve.proofs.Normal.{transfer}
+use Rattle.upp_curve.specs.affine_segment.Pieces.{Each}
+use Rattle.upp_curve.specs.Fitting.{LaterFits}
+use Rattle.upp_curve.proofs.Repeats.{repeats_times, repeated_rule}
+use Rattle.upp_curve.proofs.Rules.{int_mul}
+use Rattle.upp_curve.proofs.Normal.{transfer}
 use Rattle.upp_normal.proofs.NormaliseCuts.{split_is, drop_upto, front_self, front_take, front_trans, each_front}
 use Rattle.upp_normal.proofs.NormaliseShare.{parts_some}
 use Rattle.upp_normal.proofs.NormaliseDivided.{cut_of, divides_count, goes_on_if, cut_turned}

@@ -1,23 +1,23 @@
 -- Lists of pieces joined, cut and moved: what stays of their order, their bounds and their breaks.
 use Rattle.std.specs.Prelude.{◌≡◌, pos, List, [], ◌∷◌, ◌++◌, Option, Some, None}
 use Rattle.std.proofs.Common.{arith, sym, ap, ◌∙◌, refl, subst, inl, inr}
-use Rattle.upp_limits.specs.rational.specs.Rational.{ℚ, ◌+ℚ◌, ◌-ℚ◌, ◌*ℚ◌, ◌≤ℚ◌, ◌<ℚ◌, int}
-use Rattle.upp_limits.specs.rational.proofs.Laws.{le_or_lt, le_of_lt, le_refl, le_trans, le_lt_trans, mul_add}
-use Rattle.upp_limits.specs.rational.proofs.Linear.{with1, with2, with3, with6}
-use Rattle.upp_limits.specs.rational.specs.Extended.{◌+ₑ◌}
-use Rattle.upp_limits.specs.rational.specs.declared.Extended.TheVariants.{Fin}
-use Rattle.upp_limits.specs.upp_curve.specs.declared.affine_segment.line.Line.{Line}
-use Rattle.upp_limits.specs.upp_curve.specs.declared.affine_segment.line.Piece.{Piece}
-use Rattle.upp_limits.specs.upp_curve.specs.affine_segment.Values.{line_value}
-use Rattle.upp_limits.specs.upp_curve.specs.Unrolled.{line_later, later, each_later, upto}
-use Rattle.upp_limits.specs.upp_curve.specs.affine_segment.Pieces.{RisesFrom, Each}
-use Rattle.upp_limits.specs.upp_curve.specs.Normal.{Continues, NoneContinues}
-use Rattle.upp_limits.specs.upp_curve.specs.Steady.{last_of}
+use Rattle.rational.specs.Rational.{ℚ, ◌+ℚ◌, ◌-ℚ◌, ◌*ℚ◌, ◌≤ℚ◌, ◌<ℚ◌, int}
+use Rattle.rational.proofs.Laws.{le_or_lt, le_of_lt, le_refl, le_trans, le_lt_trans, mul_add}
+use Rattle.rational.proofs.Linear.{with1, with2, with3, with6}
+use Rattle.rational.specs.Extended.{◌+ₑ◌}
+use Rattle.rational.specs.declared.Extended.TheVariants.{Fin}
+use Rattle.upp_curve.specs.declared.affine_segment.line.Line.{Line}
+use Rattle.upp_curve.specs.declared.affine_segment.line.Piece.{Piece}
+use Rattle.upp_curve.specs.affine_segment.Values.{line_value}
+use Rattle.upp_curve.specs.Unrolled.{line_later, later, each_later, upto}
+use Rattle.upp_curve.specs.affine_segment.Pieces.{RisesFrom, Each}
+use Rattle.upp_curve.specs.Normal.{Continues, NoneContinues}
+use Rattle.upp_curve.specs.Steady.{last_of}
 use Rattle.upp_normal.specs.Normalising.{past}
 use Rattle.upp_normal.proofs.UnrolledValues.{line_value_later}
-use Rattle.upp_limits.specs.upp_curve.proofs.Unique.{upto_none, upto_some, upto_end, lines_at_two}
+use Rattle.upp_curve.proofs.Unique.{upto_none, upto_some, upto_end, lines_at_two}
 use Rattle.upp_normal.proofs.NormaliseLoops.{past_go, past_stop, past_none, later_none, later_some}
-use Rattle.upp_limits.specs.rational.proofs.ExtendedOrder.{add_cancel_ext}
+use Rattle.rational.proofs.ExtendedOrder.{add_cancel_ext}
 
 -- ---- what holds of each piece
 pub each_past : (P : Piece → Type 0) (t : ℚ) (ps : List Piece) → Each P ps → Each P (past t ps)

@@ -1,17 +1,17 @@
 -- The loops that lay the pieces out: what is done so far and what is left make the whole.
 use Rattle.std.specs.Prelude.{◌≡◌, ℕ, ◌+◌, List, [], ◌∷◌, ◌++◌, length}
 use Rattle.std.proofs.Common.{arith, sym, ap, ◌∙◌, refl, subst, append_assoc, append-nil, Ordering, Greater, Equal, Less}
-use Rattle.upp_limits.specs.rational.specs.Rational.{ℚ, ◌≤ℚ◌, ◌<ℚ◌}
-use Rattle.upp_limits.specs.rational.specs.Ratio.{cmp_q}
-use Rattle.upp_limits.specs.rational.proofs.Comparison.{cmp_greater, cmp_not_greater, cmp_less, cmp_ranks}
-use Rattle.upp_limits.specs.rational.proofs.Over.{le_q_out}
-use Rattle.upp_limits.specs.rational.proofs.Laws.{le_refl, le_of_lt}
+use Rattle.rational.specs.Rational.{ℚ, ◌≤ℚ◌, ◌<ℚ◌}
+use Rattle.rational.specs.Ratio.{cmp_q}
+use Rattle.rational.proofs.Comparison.{cmp_greater, cmp_not_greater, cmp_less, cmp_ranks}
+use Rattle.rational.proofs.Over.{le_q_out}
+use Rattle.rational.proofs.Laws.{le_refl, le_of_lt}
 use Rattle.std.specs.Ordering.{MatchOrdering}
-use Rattle.upp_limits.specs.rational.proofs.MinMax.{le_q_not}
-use Rattle.upp_limits.specs.upp_curve.specs.declared.affine_segment.line.Piece.{Piece}
-use Rattle.upp_limits.specs.upp_curve.specs.Unrolled.{later, each_later, upto}
+use Rattle.rational.proofs.MinMax.{le_q_not}
+use Rattle.upp_curve.specs.declared.affine_segment.line.Piece.{Piece}
+use Rattle.upp_curve.specs.Unrolled.{later, each_later, upto}
 use Rattle.upp_normal.specs.Normalising.{past, first_start}
-use Rattle.upp_limits.specs.upp_curve.proofs.Unique.{upto_none, upto_some, upto_end}
+use Rattle.upp_curve.proofs.Unique.{upto_none, upto_some, upto_end}
 
 pub cmp_not_less : (x y : ℚ) → (cmp_q x y ≡ Less → ⊥) → y ≤ℚ x
 cmp_not_less x y n = go (cmp_q x y) refl (cmp_ranks x y)

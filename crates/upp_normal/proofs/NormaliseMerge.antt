@@ -1,17 +1,17 @@
 -- Pieces that go on with the one before them may be taken out.
 use Rattle.std.specs.Prelude.{◌≡◌, Bool, true, false, List, [], ◌∷◌, ◌++◌, ◌⊎◌}
 use Rattle.std.proofs.Common.{sym, ap, ◌∙◌, refl, subst, inl, inr, append_assoc, true≢false}
-use Rattle.upp_limits.specs.rational.specs.Rational.{ℚ, ◌≤ℚ◌, ◌<ℚ◌}
-use Rattle.upp_limits.specs.rational.proofs.Laws.{antisym, lt_le_trans, le_or_lt, le_of_lt}
-use Rattle.upp_limits.specs.upp_curve.specs.declared.affine_segment.line.Piece.{Piece}
-use Rattle.upp_limits.specs.upp_curve.specs.affine_segment.Reading.{read, piece_value}
-use Rattle.upp_limits.specs.upp_curve.specs.affine_segment.Values.{line_value}
-use Rattle.upp_limits.specs.upp_curve.specs.affine_segment.Pieces.{RisesFrom}
-use Rattle.upp_limits.specs.upp_curve.specs.Normal.{Continues}
+use Rattle.rational.specs.Rational.{ℚ, ◌≤ℚ◌, ◌<ℚ◌}
+use Rattle.rational.proofs.Laws.{antisym, lt_le_trans, le_or_lt, le_of_lt}
+use Rattle.upp_curve.specs.declared.affine_segment.line.Piece.{Piece}
+use Rattle.upp_curve.specs.affine_segment.Reading.{read, piece_value}
+use Rattle.upp_curve.specs.affine_segment.Values.{line_value}
+use Rattle.upp_curve.specs.affine_segment.Pieces.{RisesFrom}
+use Rattle.upp_curve.specs.Normal.{Continues}
 use Rattle.upp_normal.specs.Normalising.{IsMerged}
-use Rattle.upp_limits.specs.upp_curve.proofs.affine_segment.PieceIn.{value_past, value_at_start}
-use Rattle.upp_limits.specs.upp_curve.proofs.affine_segment.PieceIn.{read_first, read_stop, read_go, read_one}
-use Rattle.upp_limits.specs.upp_curve.proofs.affine_segment.PieceOrder.{rises_down}
+use Rattle.upp_curve.proofs.affine_segment.PieceIn.{value_past, value_at_start}
+use Rattle.upp_curve.proofs.affine_segment.PieceIn.{read_first, read_stop, read_go, read_one}
+use Rattle.upp_curve.proofs.affine_segment.PieceOrder.{rises_down}
 
 -- ---- one piece left out
 -- a piece that goes on with p's line has p's values

@@ -4,25 +4,25 @@ use Rattle.std.specs.List.{AllByRecursion}
 use Rattle.std.proofs.Common.{arith, sym, ap, ◌∙◌, refl, subst}
 use Prim.Native.Nat.{◌∣◌}
 use native.Mathlib.Nat.{dvd-mul_left, dvd_refl, mul-pos, mul-le-mul_left, le-mul_of_pos_right}
-use Rattle.upp_limits.specs.rational.specs.Rational.{ℚ, ◌+ℚ◌, ◌*ℚ◌, ◌≤ℚ◌, ◌<ℚ◌, int}
-use Rattle.upp_limits.specs.rational.specs.Grid.{Whole, Within}
-use Rattle.upp_limits.specs.rational.proofs.Grid.{whole_weaken, within_weaken}
-use Rattle.upp_limits.specs.rational.proofs.Integers.{nat_le, nat_nonneg}
-use Rattle.upp_limits.specs.rational.proofs.Laws.{le_refl, le_trans, le_of_lt, mul_le_mul, mul_le_mul_right, mul_assoc, mul_comm}
-use Rattle.upp_limits.specs.rational.proofs.Linear.{with1, with2, with3}
-use Rattle.upp_limits.specs.rational.specs.Extended.{Ext}
-use Rattle.upp_limits.specs.rational.specs.declared.Extended.TheVariants.{Fin, Inf}
-use Rattle.upp_limits.specs.upp_curve.specs.declared.affine_segment.line.Line.{Line}
-use Rattle.upp_limits.specs.upp_curve.specs.declared.affine_segment.line.Piece.{Piece}
-use Rattle.upp_limits.specs.upp_curve.specs.affine_segment.Values.{line_value}
-use Rattle.upp_limits.specs.upp_curve.specs.declared.curve.Tail.{Tail}
-use Rattle.upp_limits.specs.upp_curve.specs.declared.curve.Tail.TheVariants.{Periodic, Affine, Infinite}
-use Rattle.upp_limits.specs.upp_curve.specs.affine_segment.Reading.{read}
-use Rattle.upp_limits.specs.upp_curve.specs.Curve.{SpecCurve, repeated, value_at}
-use Rattle.upp_limits.specs.upp_curve.specs.Steady.{steady, rank_of}
+use Rattle.rational.specs.Rational.{ℚ, ◌+ℚ◌, ◌*ℚ◌, ◌≤ℚ◌, ◌<ℚ◌, int}
+use Rattle.rational.specs.Grid.{Whole, Within}
+use Rattle.rational.proofs.Grid.{whole_weaken, within_weaken}
+use Rattle.rational.proofs.Integers.{nat_le, nat_nonneg}
+use Rattle.rational.proofs.Laws.{le_refl, le_trans, le_of_lt, mul_le_mul, mul_le_mul_right, mul_assoc, mul_comm}
+use Rattle.rational.proofs.Linear.{with1, with2, with3}
+use Rattle.rational.specs.Extended.{Ext}
+use Rattle.rational.specs.declared.Extended.TheVariants.{Fin, Inf}
+use Rattle.upp_curve.specs.declared.affine_segment.line.Line.{Line}
+use Rattle.upp_curve.specs.declared.affine_segment.line.Piece.{Piece}
+use Rattle.upp_curve.specs.affine_segment.Values.{line_value}
+use Rattle.upp_curve.specs.declared.curve.Tail.{Tail}
+use Rattle.upp_curve.specs.declared.curve.Tail.TheVariants.{Periodic, Affine, Infinite}
+use Rattle.upp_curve.specs.affine_segment.Reading.{read}
+use Rattle.upp_curve.specs.Curve.{SpecCurve, repeated, value_at}
+use Rattle.upp_curve.specs.Steady.{steady, rank_of}
 use Rattle.upp_limits.specs.Periods.{own_period}
-use Rattle.upp_limits.specs.upp_curve.specs.affine_segment.Pieces.{Each, StartsAtZero, start_after}
-use Rattle.upp_limits.specs.upp_curve.specs.Normal.{IsRaw, TailFits}
+use Rattle.upp_curve.specs.affine_segment.Pieces.{Each, StartsAtZero, start_after}
+use Rattle.upp_curve.specs.Normal.{IsRaw, TailFits}
 use Rattle.upp_limits.specs.Spans.{Span, spans, piece_read, end_of}
 use Rattle.upp_limits.specs.Limits.{Sizes, curve_numbers, own_end, own_sizes, own_gauge}
 use Rattle.upp_limits.specs.declared.own_window.OwnNumbers.{OwnNumbers}
@@ -31,18 +31,18 @@ use Rattle.upp_limits.specs.Sized.{grid_of, AreSizes, ValueStands, LineStands, S
 use Rattle.upp_normal.specs.Operand.{AreLimited}
 use Rattle.upp_normal.specs.Normalising.{TailOnGrids}
 use Rattle.upp_normal.specs.Room.{top, Room, IsRoom, TimeHasRoom, many, ValueHasRoom, LineHasRoom, PieceHasRoom, TailHasRoom}
-use Rattle.upp_limits.specs.upp_curve.proofs.Rules.{int_mul}
-use Rattle.upp_limits.specs.upp_curve.proofs.ByTail.{value_of}
+use Rattle.upp_curve.proofs.Rules.{int_mul}
+use Rattle.upp_curve.proofs.ByTail.{value_of}
 use Rattle.upp_limits.proofs.NarrowSizes.{grids_narrow, IsNarrow, narrow_limit, grid_pos, value_whole, run_within, line_parts, slope_time_divides}
 use Rattle.upp_limits.proofs.PieceLists.{starts_nonneg}
 use Rattle.upp_limits.proofs.OwnGauge.{end_within}
 use Rattle.upp_limits.proofs.CurveStands.{curve_stands, own_are_sizes, own_stands, starts_below_own_end}
-use Rattle.upp_limits.specs.upp_curve.proofs.affine_segment.PieceOrder.{each_map}
+use Rattle.upp_curve.proofs.affine_segment.PieceOrder.{each_map}
 use Rattle.upp_normal.proofs.NormaliseForm.{grids_through}
 use Rattle.upp_normal.proofs.NormaliseGrids.{ValueOn, LineOn, PieceOn, raw_on}
 use Rattle.upp_normal.proofs.AnswerRoom.{far, thrice}
 use Rattle.upp_normal.proofs.UnrolledPieces.{each_nonneg}
-use Rattle.upp_limits.specs.upp_curve.proofs.SteadyTimes.{later_at_least}
+use Rattle.upp_curve.proofs.SteadyTimes.{later_at_least}
 
 -- ---- the room that the sizes give: times up to three times the window's end, values up to three times the largest
 abbrev room_of : Sizes → ℚ → Room

@@ -1,25 +1,25 @@
 -- Functions with one rule agree where they agree in one period; and a second period's pieces read as the repeated function.
 use Rattle.std.specs.Prelude.{◌≡◌, ℕ, pos, List, [], ◌∷◌, ◌++◌, ◌⊎◌}
 use Rattle.std.proofs.Common.{arith, sym, ap, ◌∙◌, subst, inl, inr}
-use Rattle.upp_limits.specs.rational.specs.Rational.{ℚ, ◌+ℚ◌, ◌-ℚ◌, ◌*ℚ◌, ◌≤ℚ◌, ◌<ℚ◌, int}
-use Rattle.upp_limits.specs.rational.specs.Whole.{periods}
-use Rattle.upp_limits.specs.rational.proofs.Laws.{antisym, le_or_lt, le_of_lt, le_refl, le_trans, le_lt_trans}
-use Rattle.upp_limits.specs.rational.proofs.Linear.{with2, with3, with4}
-use Rattle.upp_limits.specs.rational.proofs.Whole.{periods_low, periods_high}
-use Rattle.upp_limits.specs.rational.specs.Extended.{Ext, ◌+ₑ◌}
-use Rattle.upp_limits.specs.rational.specs.declared.Extended.TheVariants.{Fin}
-use Rattle.upp_limits.specs.upp_curve.specs.declared.affine_segment.line.Piece.{Piece}
-use Rattle.upp_limits.specs.upp_curve.specs.affine_segment.Reading.{read, piece_in, piece_value}
-use Rattle.upp_limits.specs.upp_curve.specs.Curve.{repeated}
-use Rattle.upp_limits.specs.upp_curve.specs.Unrolled.{each_later, later}
-use Rattle.upp_limits.specs.upp_curve.specs.affine_segment.Pieces.{RisesFrom, Each}
-use Rattle.upp_limits.specs.upp_curve.specs.Steady.{Repeats}
+use Rattle.rational.specs.Rational.{ℚ, ◌+ℚ◌, ◌-ℚ◌, ◌*ℚ◌, ◌≤ℚ◌, ◌<ℚ◌, int}
+use Rattle.rational.specs.Whole.{periods}
+use Rattle.rational.proofs.Laws.{antisym, le_or_lt, le_of_lt, le_refl, le_trans, le_lt_trans}
+use Rattle.rational.proofs.Linear.{with2, with3, with4}
+use Rattle.rational.proofs.Whole.{periods_low, periods_high}
+use Rattle.rational.specs.Extended.{Ext, ◌+ₑ◌}
+use Rattle.rational.specs.declared.Extended.TheVariants.{Fin}
+use Rattle.upp_curve.specs.declared.affine_segment.line.Piece.{Piece}
+use Rattle.upp_curve.specs.affine_segment.Reading.{read, piece_in, piece_value}
+use Rattle.upp_curve.specs.Curve.{repeated}
+use Rattle.upp_curve.specs.Unrolled.{each_later, later}
+use Rattle.upp_curve.specs.affine_segment.Pieces.{RisesFrom, Each}
+use Rattle.upp_curve.specs.Steady.{Repeats}
 use Rattle.upp_normal.specs.Normalising.{cut_at, past, second_copy}
-use Rattle.upp_limits.specs.upp_curve.proofs.affine_segment.PieceIn.{piece_in_go, piece_in_stop, piece_in_end, value_past, value_at_start, read_stop, read_go, read_one}
-use Rattle.upp_limits.specs.upp_curve.proofs.Repeats.{repeats_times, repeated_first, repeated_next}
+use Rattle.upp_curve.proofs.affine_segment.PieceIn.{piece_in_go, piece_in_stop, piece_in_end, value_past, value_at_start, read_stop, read_go, read_one}
+use Rattle.upp_curve.proofs.Repeats.{repeats_times, repeated_first, repeated_next}
 use Rattle.upp_normal.proofs.UnrolledValues.{read_later, read_before, read_past_list}
 use Rattle.upp_normal.proofs.NormaliseLoops.{past_go, past_none, later_some}
-use Rattle.upp_limits.specs.upp_curve.proofs.affine_segment.PieceOrder.{each_map, each_append, rises_append}
+use Rattle.upp_curve.proofs.affine_segment.PieceOrder.{each_map, each_append, rises_append}
 use Rattle.upp_normal.proofs.NormaliseLists.{each_past, each_moved, rises_past, rises_moved, past_all}
 
 -- ---- one rule

@@ -2,31 +2,31 @@
 use Rattle.std.specs.Prelude.{◌≡◌, ℕ, suc, ◌+◌, ◌-◌, ◌<◌, ◌≤◌, pos, List, [], ◌∷◌, ◌++◌, ◌⊎◌, length, cond, None, Some}
 use Rattle.std.proofs.Common.{arith, sym, ap, ap₂, ◌∙◌, refl, subst, inl, inr, take, drop, get_or, drop-cons, drop_of_length-le, append_assoc}
 use Rattle.std.proofs.lemmas.List.{take-append-drop, take_at, length-take-le, length-append}
-use Rattle.upp_limits.specs.rational.specs.Rational.{ℚ, ◌+ℚ◌, ◌-ℚ◌, ◌≤ℚ◌, ◌<ℚ◌, int}
-use Rattle.upp_limits.specs.rational.proofs.MinMax.{lt_q_not}
-use Rattle.upp_limits.specs.rational.proofs.Over.{lt_q_out}
-use Rattle.upp_limits.specs.rational.proofs.Laws.{antisym, le_or_lt, le_of_lt, le_refl, le_trans, lt_le_trans, le_lt_trans, lt_irrefl}
-use Rattle.upp_limits.specs.rational.proofs.Linear.{with2, with3, with4}
-use Rattle.upp_limits.specs.rational.specs.Extended.{Ext, ◌+ₑ◌}
-use Rattle.upp_limits.specs.rational.specs.declared.Extended.TheVariants.{Fin}
-use Rattle.upp_limits.specs.upp_curve.specs.declared.affine_segment.line.Piece.{Piece}
-use Rattle.upp_limits.specs.upp_curve.specs.affine_segment.Fits.{LineFitsAt}
-use Rattle.upp_limits.specs.upp_curve.specs.affine_segment.Reading.{read, piece_value}
-use Rattle.upp_limits.specs.upp_curve.specs.affine_segment.Values.{line_value}
-use Rattle.upp_limits.specs.upp_curve.specs.Unrolled.{line_later, later, upto, from}
-use Rattle.upp_limits.specs.upp_curve.specs.Curve.{repeated}
-use Rattle.upp_limits.specs.upp_curve.specs.affine_segment.Pieces.{RisesFrom, StartsAtZero, Each, HasStart}
-use Rattle.upp_limits.specs.upp_curve.specs.Normal.{NoMerge, Continues}
-use Rattle.upp_limits.specs.upp_curve.specs.Steady.{Repeats, last_of}
+use Rattle.rational.specs.Rational.{ℚ, ◌+ℚ◌, ◌-ℚ◌, ◌≤ℚ◌, ◌<ℚ◌, int}
+use Rattle.rational.proofs.MinMax.{lt_q_not}
+use Rattle.rational.proofs.Over.{lt_q_out}
+use Rattle.rational.proofs.Laws.{antisym, le_or_lt, le_of_lt, le_refl, le_trans, lt_le_trans, le_lt_trans, lt_irrefl}
+use Rattle.rational.proofs.Linear.{with2, with3, with4}
+use Rattle.rational.specs.Extended.{Ext, ◌+ₑ◌}
+use Rattle.rational.specs.declared.Extended.TheVariants.{Fin}
+use Rattle.upp_curve.specs.declared.affine_segment.line.Piece.{Piece}
+use Rattle.upp_curve.specs.affine_segment.Fits.{LineFitsAt}
+use Rattle.upp_curve.specs.affine_segment.Reading.{read, piece_value}
+use Rattle.upp_curve.specs.affine_segment.Values.{line_value}
+use Rattle.upp_curve.specs.Unrolled.{line_later, later, upto, from}
+use Rattle.upp_curve.specs.Curve.{repeated}
+use Rattle.upp_curve.specs.affine_segment.Pieces.{RisesFrom, StartsAtZero, Each, HasStart}
+use Rattle.upp_curve.specs.Normal.{NoMerge, Continues}
+use Rattle.upp_curve.specs.Steady.{Repeats, last_of}
 use Rattle.upp_normal.specs.Normalising.{IsCycle, IsFront, IsLowest, RepeatsIn, cut_last, Lowers, MoveReads, StepFits, StepsFit}
 use Rattle.upp_normal.proofs.UnrolledValues.{line_value_later, read_before}
-use Rattle.upp_limits.specs.upp_curve.proofs.Unique.{upto_none, upto_some}
-use Rattle.upp_limits.specs.upp_curve.proofs.affine_segment.PieceIn.{value_past, value_at_start, read_stop, read_one, low_start}
-use Rattle.upp_limits.specs.upp_curve.proofs.Steady.{read_past}
+use Rattle.upp_curve.proofs.Unique.{upto_none, upto_some}
+use Rattle.upp_curve.proofs.affine_segment.PieceIn.{value_past, value_at_start, read_stop, read_one, low_start}
+use Rattle.upp_curve.proofs.Steady.{read_past}
 use Rattle.upp_normal.proofs.Below.{read_from_cut, plain_upto}
-use Rattle.upp_limits.specs.upp_curve.proofs.Normal.{start_in_upto, upto_all}
-use Rattle.upp_limits.specs.upp_curve.proofs.Repeats.{repeated_first, repeated_rule}
-use Rattle.upp_limits.specs.upp_curve.proofs.affine_segment.PieceOrder.{each_map, each_append, rises_left, rises_split, each_mid, has_mid}
+use Rattle.upp_curve.proofs.Normal.{start_in_upto, upto_all}
+use Rattle.upp_curve.proofs.Repeats.{repeated_first, repeated_rule}
+use Rattle.upp_curve.proofs.affine_segment.PieceOrder.{each_map, each_append, rises_left, rises_split, each_mid, has_mid}
 use Rattle.upp_normal.proofs.NormaliseLists.{last_is_last, last_in, none_between}
 use Rattle.upp_normal.proofs.NormaliseCuts.{split_is, take_upto, drop_upto, zero_upto, no_merge_upto, upto_upto, front_self, front_upto, front_trans, each_front}
 use Rattle.upp_normal.proofs.NormalisePeriods.{agree, repeats_after}

@@ -2,25 +2,25 @@
 use Rattle.std.specs.Prelude.{◌≡◌, ℕ, ◌+◌, ◌*◌, ◌<◌, ◌≤◌, pos, Option, Some, None}
 use Rattle.std.proofs.Common.{arith, sym, ap, ◌∙◌, subst, inl, inr}
 use native.Mathlib.Nat.{dvd_trans, mul-dvd-mul_right, mul-le-mul_right, mul_comm, mul-pos, dvd-mul_right, le_of_dvd}
-use Rattle.upp_limits.specs.rational.specs.Rational.{ℚ, ◌+ℚ◌, ◌-ℚ◌, ◌*ℚ◌, ◌/ℚ◌, ◌≤ℚ◌, ◌<ℚ◌, neg_ℚ, int}
-use Rattle.upp_limits.specs.rational.specs.Ratio.{IsSmall, SumFits}
-use Rattle.upp_limits.specs.rational.specs.Grid.{Whole, Within}
-use Rattle.upp_limits.specs.rational.proofs.Grid.{whole_weaken, whole_add, whole_neg, whole_sub, whole_mul, within_weaken, within_nonneg, within_neg, within_add, within_sub, within_some}
-use Rattle.upp_limits.specs.rational.proofs.Sizes.{small_on_grid, sum_on_grid, quotient_on_grid}
-use Rattle.upp_limits.specs.rational.proofs.Integers.{nat_le, nat_nonneg}
-use Rattle.upp_limits.specs.upp_curve.proofs.Rules.{int_add, int_mul}
-use Rattle.upp_limits.specs.rational.proofs.Laws.{le_or_lt, le_of_lt, le_refl, le_trans, mul_le_mul, mul_le_mul_right, mul_nonneg, neg_mul}
-use Rattle.upp_limits.specs.rational.proofs.Whole.{not_zero}
-use Rattle.upp_limits.specs.rational.proofs.Linear.{with1, with2, with3}
-use Rattle.upp_limits.specs.rational.specs.Extended.{Ext, ◌+ₑ◌}
-use Rattle.upp_limits.specs.rational.specs.declared.Extended.TheVariants.{Fin, Inf}
-use Rattle.upp_limits.specs.upp_curve.specs.declared.affine_segment.line.Line.{Line}
-use Rattle.upp_limits.specs.upp_curve.specs.declared.affine_segment.line.Piece.{Piece}
-use Rattle.upp_limits.specs.upp_curve.specs.affine_segment.Values.{line_value}
-use Rattle.upp_limits.specs.upp_curve.specs.Unrolled.{line_later, later}
-use Rattle.upp_limits.specs.upp_curve.specs.affine_segment.Fits.{LineFitsAt}
-use Rattle.upp_limits.specs.upp_curve.specs.Readable.{SumFitsAt}
-use Rattle.upp_limits.specs.upp_curve.specs.Fitting.{LineLaterFits, LaterFits}
+use Rattle.rational.specs.Rational.{ℚ, ◌+ℚ◌, ◌-ℚ◌, ◌*ℚ◌, ◌/ℚ◌, ◌≤ℚ◌, ◌<ℚ◌, neg_ℚ, int}
+use Rattle.rational.specs.Ratio.{IsSmall, SumFits}
+use Rattle.rational.specs.Grid.{Whole, Within}
+use Rattle.rational.proofs.Grid.{whole_weaken, whole_add, whole_neg, whole_sub, whole_mul, within_weaken, within_nonneg, within_neg, within_add, within_sub, within_some}
+use Rattle.rational.proofs.Sizes.{small_on_grid, sum_on_grid, quotient_on_grid}
+use Rattle.rational.proofs.Integers.{nat_le, nat_nonneg}
+use Rattle.upp_curve.proofs.Rules.{int_add, int_mul}
+use Rattle.rational.proofs.Laws.{le_or_lt, le_of_lt, le_refl, le_trans, mul_le_mul, mul_le_mul_right, mul_nonneg, neg_mul}
+use Rattle.rational.proofs.Whole.{not_zero}
+use Rattle.rational.proofs.Linear.{with1, with2, with3}
+use Rattle.rational.specs.Extended.{Ext, ◌+ₑ◌}
+use Rattle.rational.specs.declared.Extended.TheVariants.{Fin, Inf}
+use Rattle.upp_curve.specs.declared.affine_segment.line.Line.{Line}
+use Rattle.upp_curve.specs.declared.affine_segment.line.Piece.{Piece}
+use Rattle.upp_curve.specs.affine_segment.Values.{line_value}
+use Rattle.upp_curve.specs.Unrolled.{line_later, later}
+use Rattle.upp_curve.specs.affine_segment.Fits.{LineFitsAt}
+use Rattle.upp_curve.specs.Readable.{SumFitsAt}
+use Rattle.upp_curve.specs.Fitting.{LineLaterFits, LaterFits}
 use Rattle.upp_normal.specs.Room.{top, Room, IsRoom, TimeHasRoom, many, ValueHasRoom, LineHasRoom, PieceHasRoom, IsMove}
 
 -- ---- the grid of a time's values

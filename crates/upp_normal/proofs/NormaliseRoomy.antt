@@ -1,29 +1,29 @@
 -- Room for a whole curve: what each step of the normal form asks for, and that its answer is readable.
 use Rattle.std.specs.Prelude.{◌≡◌, ℕ, ◌+◌, ◌*◌, ◌≤◌, pos, List, [], ◌∷◌, ◌++◌, Option, Some, None}
 use Rattle.std.proofs.Common.{arith, sym, ap, ◌∙◌, refl, subst, inl, inr}
-use Rattle.upp_limits.specs.rational.specs.Rational.{ℚ, ◌+ℚ◌, ◌*ℚ◌, ◌/ℚ◌, ◌≤ℚ◌, ◌<ℚ◌, neg_ℚ, int}
-use Rattle.upp_limits.specs.rational.specs.Grid.{Whole, Within}
-use Rattle.upp_limits.specs.rational.proofs.Laws.{le_or_lt, le_of_lt, le_refl, le_trans, antisym, mul_le_mul_right, mul_one, mul_comm, mul_neg}
-use Rattle.upp_limits.specs.rational.proofs.Linear.{with1, with2, with3, with4, with5}
-use Rattle.upp_limits.specs.rational.proofs.Integers.{nat_le}
-use Rattle.upp_limits.specs.rational.proofs.Grid.{within_some}
-use Rattle.upp_limits.specs.upp_curve.specs.declared.affine_segment.line.Line.{Line}
-use Rattle.upp_limits.specs.upp_curve.specs.declared.affine_segment.line.Piece.{Piece}
+use Rattle.rational.specs.Rational.{ℚ, ◌+ℚ◌, ◌*ℚ◌, ◌/ℚ◌, ◌≤ℚ◌, ◌<ℚ◌, neg_ℚ, int}
+use Rattle.rational.specs.Grid.{Whole, Within}
+use Rattle.rational.proofs.Laws.{le_or_lt, le_of_lt, le_refl, le_trans, antisym, mul_le_mul_right, mul_one, mul_comm, mul_neg}
+use Rattle.rational.proofs.Linear.{with1, with2, with3, with4, with5}
+use Rattle.rational.proofs.Integers.{nat_le}
+use Rattle.rational.proofs.Grid.{within_some}
+use Rattle.upp_curve.specs.declared.affine_segment.line.Line.{Line}
+use Rattle.upp_curve.specs.declared.affine_segment.line.Piece.{Piece}
 use Rattle.upp_normal.specs.declared.cycle.Cycle.{Cycle}
-use Rattle.upp_limits.specs.upp_curve.specs.affine_segment.Reading.{read, piece_in, piece_value}
-use Rattle.upp_limits.specs.upp_curve.specs.Steady.{last_line}
-use Rattle.upp_limits.specs.upp_curve.specs.Unrolled.{line_later, each_later}
-use Rattle.upp_limits.specs.upp_curve.specs.affine_segment.Pieces.{Each, RisesFrom, start_after}
-use Rattle.upp_limits.specs.upp_curve.specs.affine_segment.Fits.{LineFitsAt, ReadFits}
-use Rattle.upp_limits.specs.upp_curve.specs.Readable.{LineFitsTo, SumFitsAt, EachFits, PeriodFits}
-use Rattle.upp_limits.specs.upp_curve.specs.Fitting.{LaterFits}
+use Rattle.upp_curve.specs.affine_segment.Reading.{read, piece_in, piece_value}
+use Rattle.upp_curve.specs.Steady.{last_line}
+use Rattle.upp_curve.specs.Unrolled.{line_later, each_later}
+use Rattle.upp_curve.specs.affine_segment.Pieces.{Each, RisesFrom, start_after}
+use Rattle.upp_curve.specs.affine_segment.Fits.{LineFitsAt, ReadFits}
+use Rattle.upp_curve.specs.Readable.{LineFitsTo, SumFitsAt, EachFits, PeriodFits}
+use Rattle.upp_curve.specs.Fitting.{LaterFits}
 use Rattle.upp_normal.specs.Normalising.{IsCycle, IsFront, IsLeast, SharesFit, StepsFit, MoveReads, cut_at, past, second_copy}
 use Rattle.upp_normal.specs.Room.{Room, IsRoom, TimeHasRoom, many, ValueHasRoom, LineHasRoom, PieceHasRoom, IsMove, PiecesHaveRoom, TurnHasRoom, CycleHasRoom}
-use Rattle.upp_limits.specs.upp_curve.proofs.affine_segment.PieceIn.{value_past, value_at_start, piece_in_go, piece_in_stop, piece_in_end, read_first}
-use Rattle.upp_limits.specs.upp_curve.proofs.Normal.{each_at}
+use Rattle.upp_curve.proofs.affine_segment.PieceIn.{value_past, value_at_start, piece_in_go, piece_in_stop, piece_in_end, read_first}
+use Rattle.upp_curve.proofs.Normal.{each_at}
 use Rattle.upp_normal.proofs.Below.{read_from_cut}
 use Rattle.upp_normal.proofs.NormaliseLoops.{later_none, later_some}
-use Rattle.upp_limits.specs.upp_curve.proofs.affine_segment.PieceOrder.{each_map, each_append}
+use Rattle.upp_curve.proofs.affine_segment.PieceOrder.{each_map, each_append}
 use Rattle.upp_normal.proofs.NormaliseLists.{each_past}
 use Rattle.upp_normal.proofs.NormaliseCuts.{each_front}
 use Rattle.upp_normal.proofs.NormaliseLeast.{share_some, share_back}

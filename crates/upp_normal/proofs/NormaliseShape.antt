@@ -1,27 +1,27 @@
 -- What two periods of a curve are found to be: one line, or a period between breaks.
 use Rattle.std.specs.Prelude.{◌≡◌, ℕ, pos, List, [], ◌∷◌, ◌++◌, length, None, Some}
 use Rattle.std.proofs.Common.{arith, sym, ap, ap₂, ◌∙◌, subst, take}
-use Rattle.upp_limits.specs.rational.specs.Rational.{ℚ, ◌+ℚ◌, ◌≤ℚ◌, ◌<ℚ◌, int}
-use Rattle.upp_limits.specs.rational.proofs.Laws.{le_of_lt}
-use Rattle.upp_limits.specs.rational.proofs.Linear.{with2, with3, with4}
-use Rattle.upp_limits.specs.upp_curve.specs.declared.affine_segment.line.Piece.{Piece}
-use Rattle.upp_limits.specs.upp_curve.specs.affine_segment.Reading.{read}
-use Rattle.upp_limits.specs.upp_curve.specs.Curve.{repeated}
-use Rattle.upp_limits.specs.upp_curve.specs.Unrolled.{later, upto, from}
-use Rattle.upp_limits.specs.upp_curve.specs.affine_segment.Pieces.{Each, HasStart}
-use Rattle.upp_limits.specs.upp_curve.specs.Normal.{Continues}
-use Rattle.upp_limits.specs.upp_curve.specs.Steady.{last_of}
+use Rattle.rational.specs.Rational.{ℚ, ◌+ℚ◌, ◌≤ℚ◌, ◌<ℚ◌, int}
+use Rattle.rational.proofs.Laws.{le_of_lt}
+use Rattle.rational.proofs.Linear.{with2, with3, with4}
+use Rattle.upp_curve.specs.declared.affine_segment.line.Piece.{Piece}
+use Rattle.upp_curve.specs.affine_segment.Reading.{read}
+use Rattle.upp_curve.specs.Curve.{repeated}
+use Rattle.upp_curve.specs.Unrolled.{later, upto, from}
+use Rattle.upp_curve.specs.affine_segment.Pieces.{Each, HasStart}
+use Rattle.upp_curve.specs.Normal.{Continues}
+use Rattle.upp_curve.specs.Steady.{last_of}
 use Rattle.upp_normal.specs.Normalising.{past, first_start, IsTwoPeriods, EndsInBreak, IsLine, Turned}
-use Rattle.upp_limits.specs.upp_curve.proofs.Unique.{upto_some}
+use Rattle.upp_curve.proofs.Unique.{upto_some}
 use Rattle.upp_normal.proofs.Below.{plain_upto}
-use Rattle.upp_limits.specs.upp_curve.proofs.Normal.{each_at, start_in_upto}
-use Rattle.upp_limits.specs.upp_curve.proofs.Repeats.{repeated_first, repeated_rule}
-use Rattle.upp_limits.specs.upp_curve.proofs.affine_segment.PieceOrder.{heads_same, tails_same}
+use Rattle.upp_curve.proofs.Normal.{each_at, start_in_upto}
+use Rattle.upp_curve.proofs.Repeats.{repeated_first, repeated_rule}
+use Rattle.upp_curve.proofs.affine_segment.PieceOrder.{heads_same, tails_same}
 use Rattle.upp_normal.proofs.NormaliseCuts.{split_is, take_upto, from_upto, from_is_past, upto_upto, upto_early, first_late, none_past, past_has, start_none, start_some, zero_upto, no_merge_upto, last_append}
 use Rattle.upp_normal.proofs.NormalisePeriods.{agree, repeats_after}
 use Rattle.upp_normal.proofs.NormaliseBreaks.{one_line_reads, Break, break_at, ends_in_break}
 use Rattle.upp_normal.proofs.NormaliseLoops.{past_go}
-use Rattle.upp_limits.specs.upp_curve.proofs.affine_segment.PieceIn.{low_start}
+use Rattle.upp_curve.proofs.affine_segment.PieceIn.{low_start}
 use Rattle.upp_limits.proofs.PieceCounts.{upto_early as upto_before}
 
 -- ---- no break past the rank

@@ -4,17 +4,17 @@ use Rattle.std.specs.Result.{is_ok}
 use Rattle.std.proofs.Common.{arith, sym, ap, ◌∙◌, subst, true≢false}
 use Prim.Native.Nat.{◌∣◌}
 use native.Mathlib.Nat.{mod-eq-zero_of_dvd, dvd_of_mod-eq-zero}
-use Rattle.upp_limits.specs.rational.specs.Rational.{ℚ, ◌*ℚ◌, ◌/ℚ◌, int, frac, den, both}
-use Rattle.upp_limits.specs.rational.specs.Fractions.{frac_self, frac-same, frac_is, abs-mul}
-use Rattle.upp_limits.specs.rational.specs.Ints.{mul_assoc_z}
-use Rattle.upp_limits.specs.rational.specs.Ratio.{IsSmall}
-use Rattle.upp_limits.specs.rational.specs.Grid.{Whole}
-use Rattle.upp_limits.specs.rational.proofs.Grid.{den_bound, whole_divides, whole_int, whole_from_divides}
-use Rattle.upp_limits.specs.rational.proofs.Integers.{nat_lt}
-use Rattle.upp_limits.specs.rational.proofs.Laws.{mul_cancel, div_mul}
-use Rattle.upp_limits.specs.rational.proofs.Linear.{with1}
-use Rattle.upp_limits.specs.rational.proofs.Over.{mul_frac}
-use Rattle.upp_limits.specs.rational.proofs.Whole.{not_zero}
+use Rattle.rational.specs.Rational.{ℚ, ◌*ℚ◌, ◌/ℚ◌, int, frac, den, both}
+use Rattle.rational.specs.Fractions.{frac_self, frac-same, frac_is, abs-mul}
+use Rattle.rational.specs.Ints.{mul_assoc_z}
+use Rattle.rational.specs.Ratio.{IsSmall}
+use Rattle.rational.specs.Grid.{Whole}
+use Rattle.rational.proofs.Grid.{den_bound, whole_divides, whole_int, whole_from_divides}
+use Rattle.rational.proofs.Integers.{nat_lt}
+use Rattle.rational.proofs.Laws.{mul_cancel, div_mul}
+use Rattle.rational.proofs.Linear.{with1}
+use Rattle.rational.proofs.Over.{mul_frac}
+use Rattle.rational.proofs.Whole.{not_zero}
 
 pub parts_some : (n : ℕ) → 0 < n → int (pos n) ≡ int (pos 0) → ⊥
 parts_some n h = not_zero (int (pos n)) (nat_lt 0 n h)

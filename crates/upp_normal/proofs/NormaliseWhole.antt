@@ -1,32 +1,32 @@
 -- Each step of the normal form from the one before it: its numbers fit, and what it leaves is a curve.
 use Rattle.std.specs.Prelude.{◌≡◌, ℕ, ◌+◌, pos, List, [], ◌∷◌, ◌++◌, Some, None}
 use Rattle.std.proofs.Common.{arith, sym, ap, ◌∙◌, refl, subst, inl, inr}
-use Rattle.upp_limits.specs.rational.specs.Rational.{ℚ, ◌+ℚ◌, ◌≤ℚ◌, ◌<ℚ◌, int}
-use Rattle.upp_limits.specs.rational.specs.Ratio.{SumFits}
-use Rattle.upp_limits.specs.rational.proofs.Laws.{le_of_lt, le_trans, le_or_lt, antisym}
-use Rattle.upp_limits.specs.rational.proofs.Linear.{with3, with4}
-use Rattle.upp_limits.specs.upp_curve.specs.declared.affine_segment.line.Line.{Line}
-use Rattle.upp_limits.specs.upp_curve.specs.declared.affine_segment.line.Piece.{Piece}
-use Rattle.upp_limits.specs.upp_curve.specs.declared.curve.Tail.{Tail}
-use Rattle.upp_limits.specs.upp_curve.specs.declared.curve.Tail.TheVariants.{Infinite}
+use Rattle.rational.specs.Rational.{ℚ, ◌+ℚ◌, ◌≤ℚ◌, ◌<ℚ◌, int}
+use Rattle.rational.specs.Ratio.{SumFits}
+use Rattle.rational.proofs.Laws.{le_of_lt, le_trans, le_or_lt, antisym}
+use Rattle.rational.proofs.Linear.{with3, with4}
+use Rattle.upp_curve.specs.declared.affine_segment.line.Line.{Line}
+use Rattle.upp_curve.specs.declared.affine_segment.line.Piece.{Piece}
+use Rattle.upp_curve.specs.declared.curve.Tail.{Tail}
+use Rattle.upp_curve.specs.declared.curve.Tail.TheVariants.{Infinite}
 use Rattle.upp_limits.specs.Spans.{piece_read}
-use Rattle.upp_limits.specs.rational.proofs.Over.{lt_q_out}
-use Rattle.upp_limits.specs.upp_curve.proofs.affine_segment.PieceIn.{value_at_start}
+use Rattle.rational.proofs.Over.{lt_q_out}
+use Rattle.upp_curve.proofs.affine_segment.PieceIn.{value_at_start}
 use Rattle.upp_normal.specs.declared.cycle.Cycle.{Cycle}
-use Rattle.upp_limits.specs.upp_curve.specs.affine_segment.Reading.{read, piece_in, piece_value}
-use Rattle.upp_limits.specs.upp_curve.specs.Curve.{SpecCurve}
-use Rattle.upp_limits.specs.upp_curve.specs.Curves.{IsCurve}
-use Rattle.upp_limits.specs.upp_curve.specs.Unrolled.{upto}
-use Rattle.upp_limits.specs.upp_curve.specs.affine_segment.Pieces.{Each, StartsAtZero}
-use Rattle.upp_limits.specs.upp_curve.specs.Normal.{NoMerge, FitsPeriod}
-use Rattle.upp_limits.specs.upp_curve.specs.Readable.{EachFits}
-use Rattle.upp_limits.specs.upp_curve.specs.Fitting.{LaterFits}
-use Rattle.upp_limits.specs.upp_curve.specs.affine_segment.Fits.{ReadFits}
+use Rattle.upp_curve.specs.affine_segment.Reading.{read, piece_in, piece_value}
+use Rattle.upp_curve.specs.Curve.{SpecCurve}
+use Rattle.upp_curve.specs.Curves.{IsCurve}
+use Rattle.upp_curve.specs.Unrolled.{upto}
+use Rattle.upp_curve.specs.affine_segment.Pieces.{Each, StartsAtZero}
+use Rattle.upp_curve.specs.Normal.{NoMerge, FitsPeriod}
+use Rattle.upp_curve.specs.Readable.{EachFits}
+use Rattle.upp_curve.specs.Fitting.{LaterFits}
+use Rattle.upp_curve.specs.affine_segment.Fits.{ReadFits}
 use Rattle.upp_normal.specs.Normalising.{IsMerged, IsFront, IsTwoPeriods, IsLeast, IsLowest, second_copy, cycle_values, ended}
 use Rattle.upp_normal.specs.Room.{Room, PieceHasRoom, PiecesHaveRoom, EndHasRoom, TurnHasRoom, TwoHaveRoom, CycleHasRoom}
-use Rattle.upp_limits.specs.upp_curve.proofs.OneForm.{affine, infinite}
-use Rattle.upp_limits.specs.upp_curve.proofs.Normal.{periodic}
-use Rattle.upp_limits.specs.upp_curve.proofs.affine_segment.PieceOrder.{each_map, each_append}
+use Rattle.upp_curve.proofs.OneForm.{affine, infinite}
+use Rattle.upp_curve.proofs.Normal.{periodic}
+use Rattle.upp_curve.proofs.affine_segment.PieceOrder.{each_map, each_append}
 use Rattle.upp_normal.proofs.NormaliseLists.{each_upto}
 use Rattle.upp_normal.proofs.NormaliseCuts.{each_front}
 use Rattle.upp_normal.proofs.NormalisePeriods.{two_periods_are}

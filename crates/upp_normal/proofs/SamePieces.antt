@@ -5,33 +5,33 @@ use Rattle.std.proofs.lemmas.Bool.{cases_lt}
 use Rattle.std.proofs.lemmas.List.{length-append, length-map}
 use Rattle.std.proofs.lemmas.List.Sums.{sum_by-cons}
 use Rattle.std.specs.List.{AllByRecursion, flat_map}
-use Rattle.upp_limits.specs.rational.specs.Rational.{ℚ, ◌+ℚ◌, ◌-ℚ◌, ◌*ℚ◌, ◌≤ℚ◌, ◌<ℚ◌, int, lt_q}
-use Rattle.upp_limits.specs.rational.specs.Whole.{periods}
-use Rattle.upp_limits.specs.rational.proofs.Integers.{nat_le}
-use Rattle.upp_limits.specs.rational.proofs.Laws.{le_or_lt, le_of_lt, le_trans, le_lt_trans, lt_irrefl, mul_le_mul_right}
-use Rattle.upp_limits.specs.rational.proofs.Linear.{with5}
-use Rattle.upp_limits.specs.rational.proofs.MinMax.{lt_q_not}
-use Rattle.upp_limits.specs.rational.proofs.Over.{lt_q_out}
-use Rattle.upp_limits.specs.rational.proofs.Whole.{one_more_times, periods_high}
-use Rattle.upp_limits.specs.upp_curve.specs.declared.affine_segment.line.Piece.{Piece}
-use Rattle.upp_limits.specs.upp_curve.specs.declared.curve.Tail.{Tail}
-use Rattle.upp_limits.specs.upp_curve.specs.declared.curve.Tail.TheVariants.{Periodic, Affine, Infinite}
-use Rattle.upp_limits.specs.upp_curve.specs.Curve.{SpecCurve}
-use Rattle.upp_limits.specs.upp_curve.specs.affine_segment.Pieces.{Each, RisesFrom, start_after}
-use Rattle.upp_limits.specs.upp_curve.specs.Normal.{IsNormal}
+use Rattle.rational.specs.Rational.{ℚ, ◌+ℚ◌, ◌-ℚ◌, ◌*ℚ◌, ◌≤ℚ◌, ◌<ℚ◌, int, lt_q}
+use Rattle.rational.specs.Whole.{periods}
+use Rattle.rational.proofs.Integers.{nat_le}
+use Rattle.rational.proofs.Laws.{le_or_lt, le_of_lt, le_trans, le_lt_trans, lt_irrefl, mul_le_mul_right}
+use Rattle.rational.proofs.Linear.{with5}
+use Rattle.rational.proofs.MinMax.{lt_q_not}
+use Rattle.rational.proofs.Over.{lt_q_out}
+use Rattle.rational.proofs.Whole.{one_more_times, periods_high}
+use Rattle.upp_curve.specs.declared.affine_segment.line.Piece.{Piece}
+use Rattle.upp_curve.specs.declared.curve.Tail.{Tail}
+use Rattle.upp_curve.specs.declared.curve.Tail.TheVariants.{Periodic, Affine, Infinite}
+use Rattle.upp_curve.specs.Curve.{SpecCurve}
+use Rattle.upp_curve.specs.affine_segment.Pieces.{Each, RisesFrom, start_after}
+use Rattle.upp_curve.specs.Normal.{IsNormal}
 use Rattle.upp_normal.specs.PieceLaws.{HaveSamePieces, PiecesAreCounted}
 use Rattle.upp_limits.specs.Spans.{Span, copies_of, end_of, number_below, once, once_below, piece_read, span_below, spans, spans_below}
-use Rattle.upp_limits.specs.upp_curve.specs.Unrolled.{copies, copies_below, each_later, from, later, unroll, unrolled, upto}
+use Rattle.upp_curve.specs.Unrolled.{copies, copies_below, each_later, from, later, unroll, unrolled, upto}
 use Rattle.upp_limits.proofs.Copies.{copies_in, every_copy}
 use Rattle.upp_limits.proofs.Every.{every_flat, every_map, every_map_out, every_weaken}
 use Rattle.upp_normal.proofs.NormaliseCopies.{later_twice}
 use Rattle.upp_normal.proofs.NormaliseCuts.{each_right}
-use Rattle.upp_limits.specs.upp_curve.proofs.affine_segment.PieceOrder.{each_left, each_map}
+use Rattle.upp_curve.proofs.affine_segment.PieceOrder.{each_left, each_map}
 use Rattle.upp_normal.proofs.NormaliseLoops.{later_some}
 use Rattle.upp_limits.proofs.PieceCounts.{count_is_length, count_is_sum, from_none, from_some, copies_next}
 use Rattle.upp_normal.proofs.UnrolledPieces.{IsGiven, all_read, each_with, no_later, periodic_starts, unroll_each}
-use Rattle.upp_limits.specs.upp_curve.proofs.affine_segment.PieceIn.{low_start}
-use Rattle.upp_limits.specs.upp_curve.proofs.Unique.{upto_some}
+use Rattle.upp_curve.proofs.affine_segment.PieceIn.{low_start}
+use Rattle.upp_curve.proofs.Unique.{upto_some}
 
 -- ---- their number
 two_lengths : (b : Bool) (xs ys : List Span) (m n : ℕ) → length xs ≡ m → length ys ≡ n → length (cond b xs ys) ≡ cond b m n

@@ -1,20 +1,20 @@
 -- From when on a curve repeats, by the last of its pieces.
 use Rattle.std.specs.Prelude.{◌≡◌, ◌-◌, pos, Bool, false, true, List, [], ◌∷◌, length, Option, Some, None, IfNone}
 use Rattle.std.proofs.Common.{sym, ap, ◌∙◌, refl, subst, get_or}
-use Rattle.upp_limits.specs.rational.specs.Rational.{ℚ, ◌+ℚ◌, int}
-use Rattle.upp_limits.specs.rational.specs.Ratio.{SumFits}
-use Rattle.upp_limits.specs.rational.proofs.Laws.{add_cancel, antisym}
-use Rattle.upp_limits.specs.upp_curve.specs.declared.affine_segment.line.Piece.{Piece}
-use Rattle.upp_limits.specs.upp_curve.specs.declared.curve.Tail.{Tail}
-use Rattle.upp_limits.specs.upp_curve.specs.declared.curve.Tail.TheVariants.{Periodic, Affine, Infinite}
-use Rattle.upp_limits.specs.upp_curve.specs.Curve.{SpecCurve}
-use Rattle.upp_limits.specs.upp_curve.specs.Curves.{IsCurve}
-use Rattle.upp_limits.specs.upp_curve.specs.Normal.{IsRaw}
+use Rattle.rational.specs.Rational.{ℚ, ◌+ℚ◌, int}
+use Rattle.rational.specs.Ratio.{SumFits}
+use Rattle.rational.proofs.Laws.{add_cancel, antisym}
+use Rattle.upp_curve.specs.declared.affine_segment.line.Piece.{Piece}
+use Rattle.upp_curve.specs.declared.curve.Tail.{Tail}
+use Rattle.upp_curve.specs.declared.curve.Tail.TheVariants.{Periodic, Affine, Infinite}
+use Rattle.upp_curve.specs.Curve.{SpecCurve}
+use Rattle.upp_curve.specs.Curves.{IsCurve}
+use Rattle.upp_curve.specs.Normal.{IsRaw}
 use Rattle.upp_limits.specs.Periods.{own_period}
-use Rattle.upp_limits.specs.upp_curve.specs.Readable.{EachFits}
-use Rattle.upp_limits.specs.upp_curve.specs.affine_segment.Fits.{LineFitsAt}
+use Rattle.upp_curve.specs.Readable.{EachFits}
+use Rattle.upp_curve.specs.affine_segment.Fits.{LineFitsAt}
 use Rattle.upp_limits.specs.Seen.{RankLineFits}
-use Rattle.upp_limits.specs.upp_curve.specs.Steady.{last_of, later_unless, rank_of, steady}
+use Rattle.upp_curve.specs.Steady.{last_of, later_unless, rank_of, steady}
 use Rattle.upp_limits.specs.Limits.{own_end}
 use Rattle.upp_limits.specs.OwnWindow.{affine_keeps, infinite_keeps}
 use Rattle.upp_limits.proofs.OwnGauge.{last_is, last_place, end_place}

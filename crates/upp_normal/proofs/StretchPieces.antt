@@ -2,25 +2,25 @@
 use Rattle.std.specs.Prelude.{◌≡◌, cond, pos, List, [], ◌∷◌, Option, Some, None}
 use Rattle.std.specs.List.{AllByRecursion}
 use Rattle.std.proofs.Common.{sym, ap, ◌∙◌, subst, inl, inr}
-use Rattle.upp_limits.specs.rational.specs.Rational.{ℚ, ◌≤ℚ◌, ◌<ℚ◌, int}
-use Rattle.upp_limits.specs.rational.specs.declared.Extended.TheVariants.{Inf}
-use Rattle.upp_limits.specs.rational.proofs.Laws.{le_or_lt, le_refl, le_trans, le_of_lt, lt_le_trans, le_lt_trans, not_le_of_lt}
-use Rattle.upp_limits.specs.rational.proofs.Over.{le_q_out}
-use Rattle.upp_limits.specs.rational.proofs.MinMax.{le_q_not}
-use Rattle.upp_limits.specs.upp_curve.specs.declared.affine_segment.line.Piece.{Piece}
-use Rattle.upp_limits.specs.upp_curve.specs.affine_segment.Values.{line_value}
-use Rattle.upp_limits.specs.upp_curve.specs.declared.curve.Tail.{Tail}
-use Rattle.upp_limits.specs.upp_curve.specs.affine_segment.Reading.{piece_in, piece_value, read, next_in, line_in}
-use Rattle.upp_limits.specs.upp_curve.specs.Curve.{cut}
-use Rattle.upp_limits.specs.upp_curve.specs.affine_segment.Pieces.{Each, HasStart, RisesFrom, StartsAtZero}
-use Rattle.upp_limits.specs.upp_curve.specs.Normal.{FitsRank}
-use Rattle.upp_limits.specs.upp_curve.specs.Steady.{last_line}
+use Rattle.rational.specs.Rational.{ℚ, ◌≤ℚ◌, ◌<ℚ◌, int}
+use Rattle.rational.specs.declared.Extended.TheVariants.{Inf}
+use Rattle.rational.proofs.Laws.{le_or_lt, le_refl, le_trans, le_of_lt, lt_le_trans, le_lt_trans, not_le_of_lt}
+use Rattle.rational.proofs.Over.{le_q_out}
+use Rattle.rational.proofs.MinMax.{le_q_not}
+use Rattle.upp_curve.specs.declared.affine_segment.line.Piece.{Piece}
+use Rattle.upp_curve.specs.affine_segment.Values.{line_value}
+use Rattle.upp_curve.specs.declared.curve.Tail.{Tail}
+use Rattle.upp_curve.specs.affine_segment.Reading.{piece_in, piece_value, read, next_in, line_in}
+use Rattle.upp_curve.specs.Curve.{cut}
+use Rattle.upp_curve.specs.affine_segment.Pieces.{Each, HasStart, RisesFrom, StartsAtZero}
+use Rattle.upp_curve.specs.Normal.{FitsRank}
+use Rattle.upp_curve.specs.Steady.{last_line}
 use Rattle.upp_limits.specs.Spans.{Span, spans, end_of, piece_read}
 use Rattle.upp_normal.specs.Ahead.{IsBeforeNext, AtNext}
-use Rattle.upp_limits.specs.upp_curve.proofs.affine_segment.NextPiece.{next_go, next_stop, next_none}
-use Rattle.upp_limits.specs.upp_curve.proofs.affine_segment.PieceIn.{piece_in_stop, piece_in_go, piece_in_end, value_past}
-use Rattle.upp_limits.specs.upp_curve.proofs.Normal.{past_start}
-use Rattle.upp_limits.specs.upp_curve.proofs.Steady.{read_past}
+use Rattle.upp_curve.proofs.affine_segment.NextPiece.{next_go, next_stop, next_none}
+use Rattle.upp_curve.proofs.affine_segment.PieceIn.{piece_in_stop, piece_in_go, piece_in_end, value_past}
+use Rattle.upp_curve.proofs.Normal.{past_start}
+use Rattle.upp_curve.proofs.Steady.{read_past}
 use Rattle.upp_normal.proofs.NormaliseRoomy.{found_early}
 
 -- ---- the next start is past the time, and what holds of all starts holds of it

@@ -1,15 +1,15 @@
 -- A time past the rank of a periodic tail, as one of the first period: the value there and how it goes on.
 use Rattle.std.specs.Prelude.{◌≡◌, ℕ, pos, ◌⊎◌}
 use Rattle.std.proofs.Common.{arith, sym, ap, ◌∙◌, refl, subst, inl, inr}
-use Rattle.upp_limits.specs.rational.specs.Rational.{ℚ, ◌+ℚ◌, ◌-ℚ◌, ◌*ℚ◌, ◌/ℚ◌, ◌≤ℚ◌, ◌<ℚ◌, int}
-use Rattle.upp_limits.specs.rational.specs.Whole.{periods, whole_part}
-use Rattle.upp_limits.specs.rational.specs.Extended.{Ext, ◌+ₑ◌}
-use Rattle.upp_limits.specs.rational.specs.declared.Extended.TheVariants.{Fin}
-use Rattle.upp_limits.specs.rational.proofs.Linear.{with1, with2, with3, with4}
-use Rattle.upp_limits.specs.rational.proofs.Laws.{le_or_lt, le_trans, le_of_lt, mul_nonneg, zero_mul}
-use Rattle.upp_limits.specs.rational.proofs.Whole.{periods_small, periods_low, periods_high, periods_unique}
-use Rattle.upp_limits.specs.rational.proofs.Integers.{nat_nonneg}
-use Rattle.upp_limits.specs.upp_curve.specs.Curve.{repeated}
+use Rattle.rational.specs.Rational.{ℚ, ◌+ℚ◌, ◌-ℚ◌, ◌*ℚ◌, ◌/ℚ◌, ◌≤ℚ◌, ◌<ℚ◌, int}
+use Rattle.rational.specs.Whole.{periods, whole_part}
+use Rattle.rational.specs.Extended.{Ext, ◌+ₑ◌}
+use Rattle.rational.specs.declared.Extended.TheVariants.{Fin}
+use Rattle.rational.proofs.Linear.{with1, with2, with3, with4}
+use Rattle.rational.proofs.Laws.{le_or_lt, le_trans, le_of_lt, mul_nonneg, zero_mul}
+use Rattle.rational.proofs.Whole.{periods_small, periods_low, periods_high, periods_unique}
+use Rattle.rational.proofs.Integers.{nat_nonneg}
+use Rattle.upp_curve.specs.Curve.{repeated}
 
 -- ---- how many periods
 -- the time in the first period: from 0 on, at the time or before it, before the period's end, and not before the rank once a period is taken off

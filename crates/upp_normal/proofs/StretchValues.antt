@@ -2,31 +2,31 @@
 use Rattle.std.specs.Prelude.{◌≡◌, ℕ, cond, pos, List, [], ◌∷◌, Option, Some, None}
 use Rattle.std.specs.List.{AllByRecursion}
 use Rattle.std.proofs.Common.{arith, sym, ap, ◌∙◌, refl, subst, inl, inr}
-use Rattle.upp_limits.specs.rational.specs.Rational.{ℚ, ◌+ℚ◌, ◌-ℚ◌, ◌*ℚ◌, ◌≤ℚ◌, ◌<ℚ◌, int}
-use Rattle.upp_limits.specs.rational.specs.Grid.{Whole}
-use Rattle.upp_limits.specs.rational.specs.Whole.{periods}
-use Rattle.upp_limits.specs.rational.specs.Extended.{Ext, ◌+ₑ◌}
-use Rattle.upp_limits.specs.rational.specs.declared.Extended.TheVariants.{Fin}
-use Rattle.upp_limits.specs.rational.proofs.Linear.{with3, with4}
-use Rattle.upp_limits.specs.rational.proofs.Laws.{le_or_lt, le_refl, le_trans, le_of_lt, le_lt_trans}
-use Rattle.upp_limits.specs.rational.proofs.Over.{le_q_out, lt_q_out}
-use Rattle.upp_limits.specs.rational.proofs.MinMax.{le_q_not, lt_q_not}
-use Rattle.upp_limits.specs.rational.proofs.Grid.{whole_add, whole_times}
-use Rattle.upp_limits.specs.upp_curve.specs.declared.affine_segment.line.Line.{Line}
-use Rattle.upp_limits.specs.upp_curve.specs.declared.affine_segment.line.Piece.{Piece}
-use Rattle.upp_limits.specs.upp_curve.specs.affine_segment.Values.{line_value}
+use Rattle.rational.specs.Rational.{ℚ, ◌+ℚ◌, ◌-ℚ◌, ◌*ℚ◌, ◌≤ℚ◌, ◌<ℚ◌, int}
+use Rattle.rational.specs.Grid.{Whole}
+use Rattle.rational.specs.Whole.{periods}
+use Rattle.rational.specs.Extended.{Ext, ◌+ₑ◌}
+use Rattle.rational.specs.declared.Extended.TheVariants.{Fin}
+use Rattle.rational.proofs.Linear.{with3, with4}
+use Rattle.rational.proofs.Laws.{le_or_lt, le_refl, le_trans, le_of_lt, le_lt_trans}
+use Rattle.rational.proofs.Over.{le_q_out, lt_q_out}
+use Rattle.rational.proofs.MinMax.{le_q_not, lt_q_not}
+use Rattle.rational.proofs.Grid.{whole_add, whole_times}
+use Rattle.upp_curve.specs.declared.affine_segment.line.Line.{Line}
+use Rattle.upp_curve.specs.declared.affine_segment.line.Piece.{Piece}
+use Rattle.upp_curve.specs.affine_segment.Values.{line_value}
 use Rattle.upp_normal.specs.declared.ahead.Stretch.{Stretch}
 use Rattle.upp_normal.specs.declared.ahead.Turn.{Turn}
-use Rattle.upp_limits.specs.upp_curve.specs.declared.curve.Tail.{Tail}
-use Rattle.upp_limits.specs.upp_curve.specs.declared.curve.Tail.TheVariants.{Periodic, Affine, Infinite}
-use Rattle.upp_limits.specs.upp_curve.specs.Curve.{SpecCurve, value_at, with_tail, repeated}
-use Rattle.upp_limits.specs.upp_curve.specs.Curves.{IsCurve}
-use Rattle.upp_limits.specs.upp_curve.specs.affine_segment.Reading.{piece_in, piece_value, read, next_in, line_in}
-use Rattle.upp_limits.specs.upp_curve.specs.affine_segment.Pieces.{Each, RisesFrom, StartsAtZero}
-use Rattle.upp_limits.specs.upp_curve.specs.Normal.{FitsPeriod, TailFits, TailNormal}
-use Rattle.upp_limits.specs.upp_curve.specs.affine_segment.Fits.{ReadFits}
-use Rattle.upp_limits.specs.upp_curve.specs.Unrolled.{line_later}
-use Rattle.upp_limits.specs.upp_curve.specs.Steady.{rank_of}
+use Rattle.upp_curve.specs.declared.curve.Tail.{Tail}
+use Rattle.upp_curve.specs.declared.curve.Tail.TheVariants.{Periodic, Affine, Infinite}
+use Rattle.upp_curve.specs.Curve.{SpecCurve, value_at, with_tail, repeated}
+use Rattle.upp_curve.specs.Curves.{IsCurve}
+use Rattle.upp_curve.specs.affine_segment.Reading.{piece_in, piece_value, read, next_in, line_in}
+use Rattle.upp_curve.specs.affine_segment.Pieces.{Each, RisesFrom, StartsAtZero}
+use Rattle.upp_curve.specs.Normal.{FitsPeriod, TailFits, TailNormal}
+use Rattle.upp_curve.specs.affine_segment.Fits.{ReadFits}
+use Rattle.upp_curve.specs.Unrolled.{line_later}
+use Rattle.upp_curve.specs.Steady.{rank_of}
 use Rattle.upp_limits.specs.Periods.{period_of}
 use Rattle.upp_limits.specs.Spans.{next_later, piece_read, spans}
 use Rattle.upp_limits.specs.Limits.{Sizes}
@@ -37,7 +37,7 @@ use Rattle.upp_limits.specs.Sized.{SpanStands}
 use Rattle.upp_normal.proofs.UnrolledValues.{line_value_later}
 use Rattle.upp_normal.proofs.AnswerRoom.{operand_line_fits, operand_line_value, stands_operand_value}
 use Rattle.upp_limits.proofs.CurveStands.{each_stands, has_period, unrolled_stand}
-use Rattle.upp_limits.specs.upp_curve.proofs.affine_segment.NextPiece.{next_go, next_stop, next_none}
+use Rattle.upp_curve.proofs.affine_segment.NextPiece.{next_go, next_stop, next_none}
 use Rattle.upp_normal.proofs.StretchPieces.{next_past, next_all, found_late, span_in, line_at_rank, reads_on, cut_plain}
 use Rattle.upp_normal.proofs.StretchTurns.{Turned, turned, same_turn, repeated_at}
 use Rattle.upp_normal.proofs.StretchSizes.{copies_stand, tail_times, some_period, times_fit, times_stand, span_line, CopySteps, copy_steps}

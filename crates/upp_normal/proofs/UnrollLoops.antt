@@ -2,24 +2,24 @@
 use Rattle.std.specs.Prelude.{◌≡◌, ℕ, zero, suc, ◌+◌, ◌-◌, ◌<◌, ◌^◌, pos, List, [], ◌∷◌, ◌++◌}
 use Rattle.std.proofs.Common.{arith, sym, ap, ap₂, ◌∙◌, refl, subst, inl, inr, append-nil, append_assoc}
 use Rattle.std.proofs.lemmas.Bool.{cases_lt}
-use Rattle.upp_limits.specs.rational.specs.Rational.{ℚ, ◌+ℚ◌, ◌-ℚ◌, ◌*ℚ◌, ◌/ℚ◌, ◌≤ℚ◌, ◌<ℚ◌, int}
-use Rattle.upp_limits.specs.rational.specs.Gauge.{cap}
-use Rattle.upp_limits.specs.rational.specs.Whole.{periods}
-use Rattle.upp_limits.specs.rational.proofs.Laws.{le_or_lt, le_of_lt, le_trans, lt_le_trans, lt_trans, mul_nonneg}
-use Rattle.upp_limits.specs.rational.proofs.Integers.{nat_nonneg}
-use Rattle.upp_limits.specs.rational.proofs.Linear.{with3, with4, with5}
-use Rattle.upp_limits.specs.rational.proofs.Whole.{one_more_times, periods_high}
-use Rattle.upp_limits.specs.upp_curve.specs.declared.affine_segment.line.Piece.{Piece}
-use Rattle.upp_limits.specs.upp_curve.specs.affine_segment.Pieces.{Each}
-use Rattle.upp_limits.specs.upp_curve.specs.Unrolled.{copies, each_later, later, upto}
-use Rattle.upp_limits.specs.min_plus.specs.WholeUp.{whole_up}
-use Rattle.upp_limits.specs.upp_curve.proofs.Normal.{upto_all}
+use Rattle.rational.specs.Rational.{ℚ, ◌+ℚ◌, ◌-ℚ◌, ◌*ℚ◌, ◌/ℚ◌, ◌≤ℚ◌, ◌<ℚ◌, int}
+use Rattle.rational.specs.Gauge.{cap}
+use Rattle.rational.specs.Whole.{periods}
+use Rattle.rational.proofs.Laws.{le_or_lt, le_of_lt, le_trans, lt_le_trans, lt_trans, mul_nonneg}
+use Rattle.rational.proofs.Integers.{nat_nonneg}
+use Rattle.rational.proofs.Linear.{with3, with4, with5}
+use Rattle.rational.proofs.Whole.{one_more_times, periods_high}
+use Rattle.upp_curve.specs.declared.affine_segment.line.Piece.{Piece}
+use Rattle.upp_curve.specs.affine_segment.Pieces.{Each}
+use Rattle.upp_curve.specs.Unrolled.{copies, each_later, later, upto}
+use Rattle.min_plus.specs.WholeUp.{whole_up}
+use Rattle.upp_curve.proofs.Normal.{upto_all}
 use Rattle.upp_normal.proofs.NormaliseCopies.{later_twice, moved-append}
-use Rattle.upp_limits.specs.upp_curve.proofs.affine_segment.PieceOrder.{each_append, each_map}
+use Rattle.upp_curve.proofs.affine_segment.PieceOrder.{each_append, each_map}
 use Rattle.upp_normal.proofs.NormaliseLists.{each_moved}
 use Rattle.upp_normal.proofs.NormaliseLoops.{later_none, later_some}
 use Rattle.upp_limits.proofs.Rounding.{before_count}
-use Rattle.upp_limits.specs.upp_curve.proofs.Unique.{upto_end, upto_none, upto_some}
+use Rattle.upp_curve.proofs.Unique.{upto_end, upto_none, upto_some}
 use Rattle.upp_normal.proofs.UnrolledPieces.{no_later}
 use Rattle.upp_limits.proofs.PieceCounts.{copies_next}
 use Rattle.upp_normal.proofs.UnrolledValues.{copies_none}

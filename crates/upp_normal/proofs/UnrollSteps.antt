@@ -2,43 +2,43 @@
 use Rattle.std.specs.Prelude.{◌≡◌, ℕ, zero, suc, ◌*◌, ◌<◌, ◌≤◌, ◌^◌, ℤ, pos, ◌≤ℤ◌, ◌<ℤ◌, Bool, true, false, cond, List, [], ◌∷◌, Option, Some, None, ◌⊎◌}
 use Rattle.std.proofs.Common.{arith, sym, ap, ap₂, ◌∙◌, refl, subst, inl, inr}
 use Rattle.std.proofs.lemmas.Int.{ints}
-use Rattle.upp_limits.specs.rational.specs.Rational.{ℚ, ◌+ℚ◌, ◌-ℚ◌, ◌*ℚ◌, ◌≤ℚ◌, ◌<ℚ◌, int, neg_ℚ, le_q}
-use Rattle.upp_limits.specs.rational.specs.Ratio.{IsSmall}
-use Rattle.upp_limits.specs.rational.specs.Grid.{Whole, Within}
-use Rattle.upp_limits.specs.rational.specs.Whole.{periods}
-use Rattle.upp_limits.specs.rational.proofs.Grid.{whole_add, whole_neg, whole_times, within_add, within_neg, within_nonneg, within_weaken}
-use Rattle.upp_limits.specs.rational.proofs.Integers.{int_le, int_lt_out, mul_whole, nat_le_out, nat_lt, nat_nonneg}
-use Rattle.upp_limits.specs.rational.proofs.Laws.{le_of_lt, le_refl, le_trans, mul_assoc, mul_le_mul, mul_le_mul_right, mul_nonneg, mul_one, mul_pos, zero_mul}
-use Rattle.upp_limits.specs.rational.proofs.Linear.{with1, with2, with3, with5}
-use Rattle.upp_limits.specs.rational.proofs.Whole.{one_more_times, periods_low}
-use Rattle.upp_limits.specs.rational.specs.Extended.{Ext, ◌+ₑ◌}
-use Rattle.upp_limits.specs.rational.specs.declared.Extended.TheVariants.{Fin, Inf}
-use Rattle.upp_limits.specs.upp_curve.specs.declared.affine_segment.line.Line.{Line}
-use Rattle.upp_limits.specs.upp_curve.specs.declared.affine_segment.line.Piece.{Piece}
-use Rattle.upp_limits.specs.upp_curve.specs.affine_segment.Values.{line_at, line_value}
-use Rattle.upp_limits.specs.upp_curve.specs.declared.curve.Tail.{Tail}
-use Rattle.upp_limits.specs.upp_curve.specs.declared.curve.Tail.TheVariants.{Periodic, Affine, Infinite}
-use Rattle.upp_limits.specs.upp_curve.specs.Curve.{SpecCurve, repeated, value_at}
-use Rattle.upp_limits.specs.upp_curve.specs.Curves.{IsCurve}
-use Rattle.upp_limits.specs.upp_curve.specs.Fitting.{LaterFits, LineLaterFits}
+use Rattle.rational.specs.Rational.{ℚ, ◌+ℚ◌, ◌-ℚ◌, ◌*ℚ◌, ◌≤ℚ◌, ◌<ℚ◌, int, neg_ℚ, le_q}
+use Rattle.rational.specs.Ratio.{IsSmall}
+use Rattle.rational.specs.Grid.{Whole, Within}
+use Rattle.rational.specs.Whole.{periods}
+use Rattle.rational.proofs.Grid.{whole_add, whole_neg, whole_times, within_add, within_neg, within_nonneg, within_weaken}
+use Rattle.rational.proofs.Integers.{int_le, int_lt_out, mul_whole, nat_le_out, nat_lt, nat_nonneg}
+use Rattle.rational.proofs.Laws.{le_of_lt, le_refl, le_trans, mul_assoc, mul_le_mul, mul_le_mul_right, mul_nonneg, mul_one, mul_pos, zero_mul}
+use Rattle.rational.proofs.Linear.{with1, with2, with3, with5}
+use Rattle.rational.proofs.Whole.{one_more_times, periods_low}
+use Rattle.rational.specs.Extended.{Ext, ◌+ₑ◌}
+use Rattle.rational.specs.declared.Extended.TheVariants.{Fin, Inf}
+use Rattle.upp_curve.specs.declared.affine_segment.line.Line.{Line}
+use Rattle.upp_curve.specs.declared.affine_segment.line.Piece.{Piece}
+use Rattle.upp_curve.specs.affine_segment.Values.{line_at, line_value}
+use Rattle.upp_curve.specs.declared.curve.Tail.{Tail}
+use Rattle.upp_curve.specs.declared.curve.Tail.TheVariants.{Periodic, Affine, Infinite}
+use Rattle.upp_curve.specs.Curve.{SpecCurve, repeated, value_at}
+use Rattle.upp_curve.specs.Curves.{IsCurve}
+use Rattle.upp_curve.specs.Fitting.{LaterFits, LineLaterFits}
 use Rattle.upp_limits.specs.Limits.{Sizes}
-use Rattle.upp_limits.specs.upp_curve.specs.affine_segment.Pieces.{Each, HasStart, StartsAtZero}
-use Rattle.upp_limits.specs.upp_curve.specs.Normal.{IsNormal}
-use Rattle.upp_limits.specs.upp_curve.specs.Readable.{SumFitsAt}
-use Rattle.upp_limits.specs.upp_curve.specs.affine_segment.Reading.{piece_in, piece_value, read}
+use Rattle.upp_curve.specs.affine_segment.Pieces.{Each, HasStart, StartsAtZero}
+use Rattle.upp_curve.specs.Normal.{IsNormal}
+use Rattle.upp_curve.specs.Readable.{SumFitsAt}
+use Rattle.upp_curve.specs.affine_segment.Reading.{piece_in, piece_value, read}
 use Rattle.upp_limits.specs.Sized.{AreSizes, IsValue, LineStands, PeriodStands, ValueStands, grid_of, times_largest}
-use Rattle.upp_limits.specs.upp_curve.specs.Unrolled.{from, later, unroll, unrolled, upto}
+use Rattle.upp_curve.specs.Unrolled.{from, later, unroll, unrolled, upto}
 use Rattle.upp_normal.specs.Unrolling.{IsOperandTo, TurnFits, TurnsFit}
 use Rattle.upp_normal.proofs.Below.{cut_at_start, read_from_cut}
 use Rattle.upp_limits.proofs.CurveStands.{tail_stands}
 use Rattle.upp_limits.proofs.NarrowSizes.{IsNarrow, narrow_gauge, run_whole, run_within, small_number, small_sum, value_whole, value_within}
-use Rattle.upp_limits.specs.upp_curve.proofs.affine_segment.PieceOrder.{each_map}
+use Rattle.upp_curve.proofs.affine_segment.PieceOrder.{each_map}
 use Rattle.upp_normal.proofs.NormaliseRank.{from_late}
 use Rattle.upp_limits.proofs.OwnGauge.{end_within}
 use Rattle.upp_limits.proofs.PieceLists.{starts_nonneg}
 use Rattle.upp_normal.proofs.UnrolledValues.{line_value_later, each_up}
 use Rattle.upp_normal.proofs.UnrolledPieces.{IsGiven, PieceStands, each_given, each_nonneg, each_span_out, each_with, no_later, operand_line, pieces_stand}
-use Rattle.upp_limits.specs.upp_curve.proofs.affine_segment.PieceIn.{low_start}
+use Rattle.upp_curve.proofs.affine_segment.PieceIn.{low_start}
 use Rattle.upp_limits.proofs.PieceCounts.{each_from}
 use Rattle.upp_normal.proofs.NormaliseGrids.{IsNothing}
 use Rattle.upp_normal.proofs.StretchSizes.{time_whole}

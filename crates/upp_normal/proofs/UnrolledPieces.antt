@@ -2,29 +2,29 @@
 use Rattle.std.specs.Prelude.{◌≡◌, ℕ, zero, suc, pos, Bool, cond, List, [], ◌∷◌, ◌++◌, Option, Some, None}
 use Rattle.std.proofs.Common.{arith, sym, ap, ap₂, ◌∙◌, subst, inl, inr}
 use Rattle.std.specs.List.{AllByRecursion}
-use Rattle.upp_limits.specs.rational.specs.Rational.{ℚ, ◌+ℚ◌, ◌-ℚ◌, ◌*ℚ◌, ◌≤ℚ◌, ◌<ℚ◌, int}
-use Rattle.upp_limits.specs.rational.specs.Grid.{Whole}
-use Rattle.upp_limits.specs.rational.specs.Whole.{periods}
-use Rattle.upp_limits.specs.rational.proofs.Laws.{le_or_lt, le_of_lt, lt_le_trans, add_comm}
-use Rattle.upp_limits.specs.rational.proofs.Linear.{with2}
-use Rattle.upp_limits.specs.rational.proofs.MinMax.{lt_q_not}
-use Rattle.upp_limits.specs.rational.proofs.Over.{lt_q_out}
-use Rattle.upp_limits.specs.rational.proofs.Whole.{one_more_times}
-use Rattle.upp_limits.specs.upp_curve.specs.declared.affine_segment.line.Line.{Line}
-use Rattle.upp_limits.specs.upp_curve.specs.declared.affine_segment.line.Piece.{Piece}
-use Rattle.upp_limits.specs.upp_curve.specs.affine_segment.Values.{line_value}
-use Rattle.upp_limits.specs.upp_curve.specs.declared.curve.Tail.{Tail}
-use Rattle.upp_limits.specs.upp_curve.specs.declared.curve.Tail.TheVariants.{Periodic, Affine, Infinite}
-use Rattle.upp_limits.specs.upp_curve.specs.Curve.{SpecCurve}
-use Rattle.upp_limits.specs.upp_curve.specs.Curves.{IsCurve}
+use Rattle.rational.specs.Rational.{ℚ, ◌+ℚ◌, ◌-ℚ◌, ◌*ℚ◌, ◌≤ℚ◌, ◌<ℚ◌, int}
+use Rattle.rational.specs.Grid.{Whole}
+use Rattle.rational.specs.Whole.{periods}
+use Rattle.rational.proofs.Laws.{le_or_lt, le_of_lt, lt_le_trans, add_comm}
+use Rattle.rational.proofs.Linear.{with2}
+use Rattle.rational.proofs.MinMax.{lt_q_not}
+use Rattle.rational.proofs.Over.{lt_q_out}
+use Rattle.rational.proofs.Whole.{one_more_times}
+use Rattle.upp_curve.specs.declared.affine_segment.line.Line.{Line}
+use Rattle.upp_curve.specs.declared.affine_segment.line.Piece.{Piece}
+use Rattle.upp_curve.specs.affine_segment.Values.{line_value}
+use Rattle.upp_curve.specs.declared.curve.Tail.{Tail}
+use Rattle.upp_curve.specs.declared.curve.Tail.TheVariants.{Periodic, Affine, Infinite}
+use Rattle.upp_curve.specs.Curve.{SpecCurve}
+use Rattle.upp_curve.specs.Curves.{IsCurve}
 use Rattle.upp_limits.specs.Limits.{Sizes, curve_numbers}
-use Rattle.upp_limits.specs.upp_curve.specs.affine_segment.Pieces.{Each, HasStart, RisesFrom, StartsAtZero}
-use Rattle.upp_limits.specs.upp_curve.specs.Normal.{IsNormal}
+use Rattle.upp_curve.specs.affine_segment.Pieces.{Each, HasStart, RisesFrom, StartsAtZero}
+use Rattle.upp_curve.specs.Normal.{IsNormal}
 use Rattle.upp_normal.specs.Operand.{AreLimited, OperandLineAt, OperandPiece, OperandPieces}
 use Rattle.upp_limits.specs.Sized.{AreSizes, LineStands, SpanStands, Stands, ValueStands}
 use Rattle.upp_limits.specs.Spans.{Span, copies_of, once_below, piece_read, span_below, spans, spans_below}
-use Rattle.upp_limits.specs.upp_curve.specs.Steady.{last_line, last_of}
-use Rattle.upp_limits.specs.upp_curve.specs.Unrolled.{copies, copies_below, each_later, from, later, unroll, unrolled, upto}
+use Rattle.upp_curve.specs.Steady.{last_line, last_of}
+use Rattle.upp_curve.specs.Unrolled.{copies, copies_below, each_later, from, later, unroll, unrolled, upto}
 use Rattle.upp_normal.proofs.Below.{cut_at_start, each_rest}
 use Rattle.upp_limits.proofs.Copies.{copies_out, copy_among, copy_zero}
 use Rattle.upp_limits.proofs.CurveStands.{once_out, unrolled_stand}
@@ -32,14 +32,14 @@ use Rattle.upp_limits.proofs.Every.{every_flat_out, every_weaken}
 use Rattle.upp_limits.proofs.NarrowSizes.{line_parts}
 use Rattle.upp_normal.proofs.NormaliseCopies.{later_twice}
 use Rattle.upp_normal.proofs.NormaliseCuts.{zero_upto}
-use Rattle.upp_limits.specs.upp_curve.proofs.affine_segment.PieceOrder.{each_append, each_map, rises_append, rises_left}
+use Rattle.upp_curve.proofs.affine_segment.PieceOrder.{each_append, each_map, rises_append, rises_left}
 use Rattle.upp_normal.proofs.NormaliseLists.{each_upto, rises_moved}
 use Rattle.upp_normal.proofs.NormaliseLoops.{later_none, later_some}
 use Rattle.upp_normal.proofs.NormaliseRank.{from_late}
 use Rattle.upp_limits.proofs.PieceLists.{starts_nonneg}
-use Rattle.upp_limits.specs.upp_curve.proofs.Unique.{upto_none}
+use Rattle.upp_curve.proofs.Unique.{upto_none}
 use Rattle.upp_normal.proofs.UnrolledValues.{copies_some, copies_none}
-use Rattle.upp_limits.specs.upp_curve.proofs.affine_segment.PieceIn.{low_start}
+use Rattle.upp_curve.proofs.affine_segment.PieceIn.{low_start}
 use Rattle.upp_limits.proofs.PieceCounts.{each_from, upto_early}
 use Rattle.upp_normal.proofs.NormaliseWhole.{before_read}
 

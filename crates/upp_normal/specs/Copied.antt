@@ -1,12 +1,12 @@
 -- A time past the rank of a periodic tail as one of the first period, and the steps that a line makes to the period of
 -- the time. Own choice.
 use Rattle.std.specs.Prelude.{◌≡◌, pos, Option, Some, None}
-use Rattle.upp_limits.specs.rational.specs.Rational.{ℚ, ◌-ℚ◌, ◌*ℚ◌, int}
-use Rattle.upp_limits.specs.rational.specs.Ratio.{IsSmall, SumFits}
-use Rattle.upp_limits.specs.rational.specs.Whole.{periods}
-use Rattle.upp_limits.specs.upp_curve.specs.declared.affine_segment.line.Line.{Line}
+use Rattle.rational.specs.Rational.{ℚ, ◌-ℚ◌, ◌*ℚ◌, int}
+use Rattle.rational.specs.Ratio.{IsSmall, SumFits}
+use Rattle.rational.specs.Whole.{periods}
+use Rattle.upp_curve.specs.declared.affine_segment.line.Line.{Line}
 use Rattle.upp_normal.specs.declared.ahead.Turn.{Turn}
-use Rattle.upp_limits.specs.upp_curve.specs.Fitting.{MoveFits}
+use Rattle.upp_curve.specs.Fitting.{MoveFits}
 
 -- as many whole periods are taken off as lie between the rank and t
 pub record TakesPeriodsOff (rank period t : ℚ) (turn : Turn) : Type 0 where

@@ -1,7 +1,7 @@
 -- Where two lines meet.
 use Rattle.std.specs.Prelude.{ℕ, ◌*◌, ◌≤◌}
-use Rattle.upp_limits.specs.rational.specs.Rational.{ℚ}
-use Rattle.upp_limits.specs.rational.specs.Grid.{Whole}
+use Rattle.rational.specs.Rational.{ℚ}
+use Rattle.rational.specs.Grid.{Whole}
 use Rattle.upp_limits.specs.Limits.{Sizes}
 
 -- a time on the grid of the q steps that the slopes are apart

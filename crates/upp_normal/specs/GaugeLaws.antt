@@ -1,11 +1,11 @@
 -- The gauge of a call never falls as its window grows, where the shorter window ends on the grid of the longer one. Own
 -- choice.
 use Rattle.std.specs.Prelude.{◌≤◌}
-use Rattle.upp_limits.specs.rational.specs.Rational.{ℚ, ◌≤ℚ◌}
-use Rattle.upp_limits.specs.rational.specs.Grid.{Whole}
+use Rattle.rational.specs.Rational.{ℚ, ◌≤ℚ◌}
+use Rattle.rational.specs.Grid.{Whole}
 use Rattle.upp_limits.specs.declared.op_kind.OpKind.{OpKind}
-use Rattle.upp_limits.specs.upp_curve.specs.Curve.{SpecCurve}
-use Rattle.upp_limits.specs.upp_curve.specs.Curves.{IsCurve}
+use Rattle.upp_curve.specs.Curve.{SpecCurve}
+use Rattle.upp_curve.specs.Curves.{IsCurve}
 use Rattle.upp_limits.specs.Gauges.{gauge_over, numbers_over}
 use Rattle.upp_limits.specs.Limits.{sizes_of}
 

@@ -1,8 +1,8 @@
 -- Starts that are looked at one after another: what the next one owes to the one before. Own choice.
 use Rattle.std.specs.Prelude.{◌≡◌, pos, List, Option, Some, None}
-use Rattle.upp_limits.specs.rational.specs.Rational.{ℚ, ◌<ℚ◌, int}
-use Rattle.upp_limits.specs.upp_curve.specs.declared.affine_segment.line.Piece.{Piece}
-use Rattle.upp_limits.specs.upp_curve.specs.affine_segment.Pieces.{RisesFrom, StartsAtZero}
+use Rattle.rational.specs.Rational.{ℚ, ◌<ℚ◌, int}
+use Rattle.upp_curve.specs.declared.affine_segment.line.Piece.{Piece}
+use Rattle.upp_curve.specs.affine_segment.Pieces.{RisesFrom, StartsAtZero}
 
 -- a start may come after the one before; the first is 0
 abbrev pub Follows : Option ℚ → ℚ → Type 0

@@ -1,26 +1,26 @@
 -- What each step on the way to the normal form leaves of the pieces. Own choice.
 use Rattle.std.specs.Prelude.{◌≡◌, ℕ, pos, List, [], ◌∷◌, ◌++◌, ◌⊎◌, ◌-◌, ◌*◌, ◌^◌, ◌<◌, ◌≤◌, cond, length, take, drop, slice_index_or as get_or, Option, None, Some}
-use Rattle.upp_limits.specs.rational.specs.Rational.{ℚ, ◌+ℚ◌, ◌/ℚ◌, ◌≤ℚ◌, ◌<ℚ◌, int, le_q, lt_q}
-use Rattle.upp_limits.specs.rational.specs.Extended.{Ext, ◌+ₑ◌}
-use Rattle.upp_limits.specs.rational.specs.declared.Extended.TheVariants.{Fin}
-use Rattle.upp_limits.specs.upp_curve.specs.declared.affine_segment.line.Line.{Line}
-use Rattle.upp_limits.specs.upp_curve.specs.declared.affine_segment.line.Piece.{Piece}
-use Rattle.upp_limits.specs.upp_curve.specs.affine_segment.Values.{line_value}
-use Rattle.upp_limits.specs.upp_curve.specs.declared.curve.Tail.{Tail}
-use Rattle.upp_limits.specs.upp_curve.specs.declared.curve.Tail.TheVariants.{Periodic, Affine, Infinite}
-use Rattle.upp_limits.specs.rational.specs.Grid.{Whole}
+use Rattle.rational.specs.Rational.{ℚ, ◌+ℚ◌, ◌/ℚ◌, ◌≤ℚ◌, ◌<ℚ◌, int, le_q, lt_q}
+use Rattle.rational.specs.Extended.{Ext, ◌+ₑ◌}
+use Rattle.rational.specs.declared.Extended.TheVariants.{Fin}
+use Rattle.upp_curve.specs.declared.affine_segment.line.Line.{Line}
+use Rattle.upp_curve.specs.declared.affine_segment.line.Piece.{Piece}
+use Rattle.upp_curve.specs.affine_segment.Values.{line_value}
+use Rattle.upp_curve.specs.declared.curve.Tail.{Tail}
+use Rattle.upp_curve.specs.declared.curve.Tail.TheVariants.{Periodic, Affine, Infinite}
+use Rattle.rational.specs.Grid.{Whole}
 use Rattle.upp_normal.specs.declared.raw_curve.RawCurve.{RawCurve}
 use Rattle.upp_normal.specs.declared.cycle.Cycle.{Cycle}
 use Rattle.upp_normal.specs.declared.cycle.Shape.{Shape}
 use Rattle.upp_normal.specs.declared.cycle.Shape.TheVariants.{Straight, Turns}
-use Rattle.upp_limits.specs.upp_curve.specs.affine_segment.Fits.{LineFitsAt}
-use Rattle.upp_limits.specs.upp_curve.specs.Fitting.{LaterFits}
-use Rattle.upp_limits.specs.upp_curve.specs.affine_segment.Reading.{read, piece_in, piece_value}
-use Rattle.upp_limits.specs.upp_curve.specs.Curve.{SpecCurve, repeated, value_at}
-use Rattle.upp_limits.specs.upp_curve.specs.Steady.{Repeats, last_of}
-use Rattle.upp_limits.specs.upp_curve.specs.Unrolled.{line_later, later, each_later, upto, from}
-use Rattle.upp_limits.specs.upp_curve.specs.affine_segment.Pieces.{StartsAtZero, RisesFrom, Each, HasStart}
-use Rattle.upp_limits.specs.upp_curve.specs.Normal.{NoMerge, NoneContinues, Continues, IsNormal}
+use Rattle.upp_curve.specs.affine_segment.Fits.{LineFitsAt}
+use Rattle.upp_curve.specs.Fitting.{LaterFits}
+use Rattle.upp_curve.specs.affine_segment.Reading.{read, piece_in, piece_value}
+use Rattle.upp_curve.specs.Curve.{SpecCurve, repeated, value_at}
+use Rattle.upp_curve.specs.Steady.{Repeats, last_of}
+use Rattle.upp_curve.specs.Unrolled.{line_later, later, each_later, upto, from}
+use Rattle.upp_curve.specs.affine_segment.Pieces.{StartsAtZero, RisesFrom, Each, HasStart}
+use Rattle.upp_curve.specs.Normal.{NoMerge, NoneContinues, Continues, IsNormal}
 
 -- rs is ps with some pieces taken out
 abbrev pub IsPart : List Piece → List Piece → Type 0

@@ -1,11 +1,11 @@
 -- Where the pieces of an operand stand that start in a call's window, and the room that the call's sizes give to its
 -- answer. Own choice.
 use Rattle.std.specs.Prelude.{◌*◌, ◌<◌, ◌^◌, pos, List, Option, Some, None}
-use Rattle.upp_limits.specs.rational.specs.Rational.{ℚ, ◌*ℚ◌, ◌≤ℚ◌, ◌<ℚ◌, int}
-use Rattle.upp_limits.specs.rational.specs.Grid.{Whole, Within}
-use Rattle.upp_limits.specs.upp_curve.specs.declared.affine_segment.line.Line.{Line}
-use Rattle.upp_limits.specs.upp_curve.specs.declared.affine_segment.line.Piece.{Piece}
-use Rattle.upp_limits.specs.upp_curve.specs.affine_segment.Pieces.{Each, StartsAtZero}
+use Rattle.rational.specs.Rational.{ℚ, ◌*ℚ◌, ◌≤ℚ◌, ◌<ℚ◌, int}
+use Rattle.rational.specs.Grid.{Whole, Within}
+use Rattle.upp_curve.specs.declared.affine_segment.line.Line.{Line}
+use Rattle.upp_curve.specs.declared.affine_segment.line.Piece.{Piece}
+use Rattle.upp_curve.specs.affine_segment.Pieces.{Each, StartsAtZero}
 use Rattle.upp_limits.specs.Limits.{Sizes, gauge_of}
 use Rattle.upp_limits.specs.Sized.{IsSlope, AreSizes, ValueStands, grid_of, times_largest}
 use Rattle.upp_normal.specs.Room.{Room}

@@ -1,11 +1,11 @@
 -- The unrolled pieces of a curve are as many as are counted, and are those of its spans. Own choice.
 use Rattle.std.specs.Prelude.{◌≡◌, ◌⊎◌, List, length, map, Contains, Option, Some, None}
-use Rattle.upp_limits.specs.rational.specs.Rational.{ℚ, ◌≤ℚ◌, ◌<ℚ◌}
-use Rattle.upp_limits.specs.upp_curve.specs.declared.affine_segment.line.Piece.{Piece}
-use Rattle.upp_limits.specs.upp_curve.specs.Curve.{SpecCurve}
-use Rattle.upp_limits.specs.upp_curve.specs.Normal.{IsRaw, IsNormal}
+use Rattle.rational.specs.Rational.{ℚ, ◌≤ℚ◌, ◌<ℚ◌}
+use Rattle.upp_curve.specs.declared.affine_segment.line.Piece.{Piece}
+use Rattle.upp_curve.specs.Curve.{SpecCurve}
+use Rattle.upp_curve.specs.Normal.{IsRaw, IsNormal}
 use Rattle.upp_limits.specs.Spans.{Span, spans_below}
-use Rattle.upp_limits.specs.upp_curve.specs.Unrolled.{count, unroll}
+use Rattle.upp_curve.specs.Unrolled.{count, unroll}
 
 -- the lists are as long, and each piece of one is in the other
 pub record HaveSamePieces (ps qs : List Piece) : Type 0 where

@@ -1,8 +1,8 @@
 -- From when on a curve repeats, by its values. (Bouillard, Boyer and Le Corronc: pseudo-periodic functions.)
 use Rattle.std.specs.Prelude.{pos}
-use Rattle.upp_limits.specs.rational.specs.Rational.{ℚ, ◌≤ℚ◌, int}
-use Rattle.upp_limits.specs.upp_curve.specs.Curve.{SpecCurve, value_at}
-use Rattle.upp_limits.specs.upp_curve.specs.Steady.{IsWholePeriods, Repeats, rise_over}
+use Rattle.rational.specs.Rational.{ℚ, ◌≤ℚ◌, int}
+use Rattle.upp_curve.specs.Curve.{SpecCurve, value_at}
+use Rattle.upp_curve.specs.Steady.{IsWholePeriods, Repeats, rise_over}
 
 -- from `from` on the value d later is higher by what the tail rises over d, for each d of whole periods
 abbrev pub RepeatsFrom : SpecCurve → ℚ → Type 0

@@ -1,17 +1,17 @@
 //! How a curve goes on from a time, without unrolling it.
 
 ghost use Rattle.std.specs.Prelude.{ℕ, ◌≡◌, pos, None};
-ghost use Rattle.upp_limits.specs.rational.specs.Rational.{ℚ, int, ◌*ℚ◌, ◌≤ℚ◌, ◌<ℚ◌};
-ghost use Rattle.upp_limits.specs.rational.specs.Grid.{Whole};
-ghost use Rattle.upp_limits.specs.rational.specs.Whole.{periods};
-ghost use Rattle.upp_limits.specs.rational.specs.Extended.{◌+ₑ◌};
-ghost use Rattle.upp_limits.specs.upp_curve.specs.affine_segment.Values.{line_value};
-ghost use Rattle.upp_limits.specs.upp_curve.specs.affine_segment.Reading.{read, next_in, line_in};
-ghost use Rattle.upp_limits.specs.upp_curve.specs.Curve.{value_at};
-ghost use Rattle.upp_limits.specs.upp_curve.specs.Curves.{IsCurve};
-ghost use Rattle.upp_limits.specs.upp_curve.specs.affine_segment.Pieces.{StartsAtZero};
-ghost use Rattle.upp_limits.specs.upp_curve.specs.affine_segment.Fits.{ReadFits, LineFitsAt};
-ghost use Rattle.upp_limits.specs.upp_curve.specs.Unrolled.{line_later};
+ghost use Rattle.rational.specs.Rational.{ℚ, int, ◌*ℚ◌, ◌≤ℚ◌, ◌<ℚ◌};
+ghost use Rattle.rational.specs.Grid.{Whole};
+ghost use Rattle.rational.specs.Whole.{periods};
+ghost use Rattle.rational.specs.Extended.{◌+ₑ◌};
+ghost use Rattle.upp_curve.specs.affine_segment.Values.{line_value};
+ghost use Rattle.upp_curve.specs.affine_segment.Reading.{read, next_in, line_in};
+ghost use Rattle.upp_curve.specs.Curve.{value_at};
+ghost use Rattle.upp_curve.specs.Curves.{IsCurve};
+ghost use Rattle.upp_curve.specs.affine_segment.Pieces.{StartsAtZero};
+ghost use Rattle.upp_curve.specs.affine_segment.Fits.{ReadFits, LineFitsAt};
+ghost use Rattle.upp_curve.specs.Unrolled.{line_later};
 ghost use Rattle.upp_limits.specs.Seen.{ValueRises};
 ghost use Rattle.upp_limits.specs.Limits.{Sizes};
 ghost use Rattle.upp_normal.specs.Operand.{OperandLineAt};
@@ -19,13 +19,11 @@ ghost use Rattle.upp_normal.specs.Ahead.{GoesOn, AtNext, TimesStand, HasWindow, 
 ghost use Rattle.upp_limits.specs.Spans.{next_later};
 ghost use Rattle.upp_normal.specs.Copied.{LineRises, TakesPeriodsOff, NextMoves};
 
-use upp_limits::fraction128::{Ext, Frac, difference, is_less, product, quotient, sum};
-use upp_limits::rational::Extended;
-use upp_limits::upp_curve::affine_segment::{
-    Line, Piece, line_value, next_start, piece_at, piece_value,
-};
-use upp_limits::upp_curve::fitting::line_later;
-use upp_limits::upp_curve::{Curve, Tail};
+use fraction128::{Ext, Frac, difference, is_less, product, quotient, sum};
+use rational::Extended;
+use upp_curve::affine_segment::{Line, Piece, line_value, next_start, piece_at, piece_value};
+use upp_curve::fitting::line_later;
+use upp_curve::{Curve, Tail};
 
 /// How a curve goes on from a time.
 #[derive(Debug, Clone, Copy)]

@@ -1,14 +1,14 @@
 //! Where a periodic curve's tail has its breaks.
 
-ghost use Rattle.upp_limits.specs.rational.specs.Rational.{◌+ℚ◌, ◌≤ℚ◌};
-ghost use Rattle.upp_limits.specs.rational.specs.Ratio.{SumFits};
-ghost use Rattle.upp_limits.specs.upp_curve.specs.affine_segment.Pieces.{Each};
+ghost use Rattle.rational.specs.Rational.{◌+ℚ◌, ◌≤ℚ◌};
+ghost use Rattle.rational.specs.Ratio.{SumFits};
+ghost use Rattle.upp_curve.specs.affine_segment.Pieces.{Each};
 ghost use Rattle.upp_normal.specs.Normalising.{IsTwoPeriods, IsShape};
 
 use crate::two_periods::{count_before, first_past};
+use fraction128::{Frac, sum};
 use std::cmp::Ordering;
-use upp_limits::fraction128::{Frac, sum};
-use upp_limits::upp_curve::affine_segment::Piece;
+use upp_curve::affine_segment::Piece;
 
 /// A periodic curve none of whose pieces goes on with the one before it: `first` pieces start before the rank, and one
 /// at it.

@@ -1,17 +1,17 @@
 //! Whether pieces and a tail that are given make a curve.
 
 ghost use Rattle.std.specs.Prelude.{◌≡◌, ◌↔◌, pos, IsTrue};
-ghost use Rattle.upp_limits.specs.rational.specs.Rational.{int, ◌+ℚ◌, ◌≤ℚ◌, ◌<ℚ◌};
+ghost use Rattle.rational.specs.Rational.{int, ◌+ℚ◌, ◌≤ℚ◌, ◌<ℚ◌};
 ghost use Rattle.upp_normal.specs.Given.{Follows};
-ghost use Rattle.upp_limits.specs.upp_curve.specs.Normal.{FitsPeriod, FitsRank, IsRaw, TailFits};
-ghost use Rattle.upp_limits.specs.upp_curve.specs.affine_segment.Pieces.{StartsAtZero};
+ghost use Rattle.upp_curve.specs.Normal.{FitsPeriod, FitsRank, IsRaw, TailFits};
+ghost use Rattle.upp_curve.specs.affine_segment.Pieces.{StartsAtZero};
 ghost use Rattle.upp_normal.specs.Normalising.{raw_curve};
 
 use crate::raw_curve::RawCurve;
-use upp_limits::fraction128::{Frac, is_less};
+use fraction128::{Frac, is_less};
+use upp_curve::Tail;
+use upp_curve::affine_segment::Piece;
 use upp_limits::is_after;
-use upp_limits::upp_curve::Tail;
-use upp_limits::upp_curve::affine_segment::Piece;
 
 // Whether a start may come after the one before; the first is 0.
 fn follows(before: &Option<Frac>, x: Frac) -> bool

@@ -1,6 +1,6 @@
 //! Laws of curves. Each is the contract of a function that does nothing.
 
-ghost use Rattle.upp_limits.specs.upp_curve.specs.Normal.{NormalFormIsUnique};
+ghost use Rattle.upp_curve.specs.Normal.{NormalFormIsUnique};
 ghost use Rattle.upp_normal.specs.PieceLaws.{PiecesAreCounted, SpansAreUnrolled};
 ghost use Rattle.upp_normal.specs.GaugeLaws.{GaugeNeverFalls};
 

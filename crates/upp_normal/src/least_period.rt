@@ -2,17 +2,17 @@
 
 ghost use Rattle.std.specs.Prelude.{◌≡◌, ◌↔◌, ◌<◌, ◌≤◌, ◌^◌, pos, drop, length, IsTrue, MatchOption};
 ghost use Prim.Native.Nat.{◌∣◌};
-ghost use Rattle.upp_limits.specs.rational.specs.Rational.{int, ◌/ℚ◌};
-ghost use Rattle.upp_limits.specs.rational.specs.Grid.{Whole};
-ghost use Rattle.upp_limits.specs.upp_curve.specs.affine_segment.Pieces.{Each};
-ghost use Rattle.upp_limits.specs.upp_curve.specs.Fitting.{LaterFits};
+ghost use Rattle.rational.specs.Rational.{int, ◌/ℚ◌};
+ghost use Rattle.rational.specs.Grid.{Whole};
+ghost use Rattle.upp_curve.specs.affine_segment.Pieces.{Each};
+ghost use Rattle.upp_curve.specs.Fitting.{LaterFits};
 ghost use Rattle.upp_normal.specs.Normalising.{GoesOn, IsTurning, IsDivided, IsLeast, AreGrids, OnGrids, SharesFit, cycle_values, turn_count};
 
 use crate::cycle::Cycle;
-use upp_limits::fraction128::Frac;
-use upp_limits::upp_curve::affine_segment::Piece;
-use upp_limits::upp_curve::fitting::later;
-use upp_limits::upp_curve::same::same_piece;
+use fraction128::Frac;
+use upp_curve::affine_segment::Piece;
+use upp_curve::fitting::later;
+use upp_curve::same::same_piece;
 
 // The share where it is a whole multiple of 1 / grid.
 fn share(whole: Frac, parts: usize, grid: u128) -> Option<Frac>

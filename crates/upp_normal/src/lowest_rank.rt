@@ -1,21 +1,21 @@
 //! The least rank of a periodic curve, by one piece at a time.
 
 ghost use Rattle.std.specs.Prelude.{◌≡◌, ◌<◌, ◌≤◌, MatchOption, length};
-ghost use Rattle.upp_limits.specs.rational.specs.Rational.{◌+ℚ◌};
-ghost use Rattle.upp_limits.specs.upp_curve.specs.declared.affine_segment.line.Piece.{Piece};
-ghost use Rattle.upp_limits.specs.upp_curve.specs.affine_segment.Reading.{read};
-ghost use Rattle.upp_limits.specs.upp_curve.specs.Curve.{repeated};
-ghost use Rattle.upp_limits.specs.upp_curve.specs.Unrolled.{line_later, upto};
-ghost use Rattle.upp_limits.specs.upp_curve.specs.affine_segment.Fits.{LineFitsAt};
-ghost use Rattle.upp_limits.specs.upp_curve.specs.Fitting.{LaterFits};
+ghost use Rattle.rational.specs.Rational.{◌+ℚ◌};
+ghost use Rattle.upp_curve.specs.declared.affine_segment.line.Piece.{Piece};
+ghost use Rattle.upp_curve.specs.affine_segment.Reading.{read};
+ghost use Rattle.upp_curve.specs.Curve.{repeated};
+ghost use Rattle.upp_curve.specs.Unrolled.{line_later, upto};
+ghost use Rattle.upp_curve.specs.affine_segment.Fits.{LineFitsAt};
+ghost use Rattle.upp_curve.specs.Fitting.{LaterFits};
 ghost use Rattle.upp_normal.specs.Normalising.{IsCycle, IsLowest, Lowers, RepeatsIn, StepFits, StepsFit, cut_last};
 
 use crate::cycle::Cycle;
+use fraction128::Frac;
 use std::cmp::Ordering;
-use upp_limits::fraction128::Frac;
-use upp_limits::upp_curve::affine_segment::{Piece, piece_value};
-use upp_limits::upp_curve::fitting::later;
-use upp_limits::upp_curve::same::{same_ext, same_lines};
+use upp_curve::affine_segment::{Piece, piece_value};
+use upp_curve::fitting::later;
+use upp_curve::same::{same_ext, same_lines};
 
 // The time a period after the start of p, where p's values repeat in the piece `last`.
 fn repeats_in(p: &Piece, last: &Piece, period: Frac, rise: Frac) -> Option<Frac>

@@ -1,14 +1,14 @@
 //! Neighbours that are one piece, joined.
 
 ghost use Rattle.std.specs.Prelude.{◌≡◌, ◌↔◌, IfOk, IsTrue, List, ◌∷◌};
-ghost use Rattle.upp_limits.specs.upp_curve.specs.Normal.{Continues};
-ghost use Rattle.upp_limits.specs.upp_curve.specs.affine_segment.Pieces.{Each, RisesFrom, StartsAtZero};
-ghost use Rattle.upp_limits.specs.upp_curve.specs.affine_segment.Fits.{LineFitsAt};
+ghost use Rattle.upp_curve.specs.Normal.{Continues};
+ghost use Rattle.upp_curve.specs.affine_segment.Pieces.{Each, RisesFrom, StartsAtZero};
+ghost use Rattle.upp_curve.specs.affine_segment.Fits.{LineFitsAt};
 ghost use Rattle.upp_normal.specs.Normalising.{IsMerged};
 
 use std::alloc::{AllocError, Global};
-use upp_limits::upp_curve::affine_segment::{Piece, line_value};
-use upp_limits::upp_curve::same::{same_ext, same_lines};
+use upp_curve::affine_segment::{Piece, line_value};
+use upp_curve::same::{same_ext, same_lines};
 
 // Whether q goes on with p's line, so that the two are one piece.
 fn continues(p: &Piece, q: &Piece) -> bool

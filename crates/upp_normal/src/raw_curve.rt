@@ -1,11 +1,11 @@
 //! The normal form of any curve.
 
 ghost use Rattle.std.specs.Prelude.{◌≡◌, ◌<◌, ◌≤◌, ◌^◌, IfOk, IfErr, Err};
-ghost use Rattle.upp_limits.specs.upp_curve.specs.affine_segment.Reading.{read};
-ghost use Rattle.upp_limits.specs.upp_curve.specs.Curve.{repeated, value_at, HasSameValues};
-ghost use Rattle.upp_limits.specs.upp_curve.specs.affine_segment.Pieces.{StartsAtZero};
-ghost use Rattle.upp_limits.specs.upp_curve.specs.Normal.{NoMerge, FitsPeriod, IsRaw};
-ghost use Rattle.upp_limits.specs.upp_curve.specs.Readable.{EachFits};
+ghost use Rattle.upp_curve.specs.affine_segment.Reading.{read};
+ghost use Rattle.upp_curve.specs.Curve.{repeated, value_at, HasSameValues};
+ghost use Rattle.upp_curve.specs.affine_segment.Pieces.{StartsAtZero};
+ghost use Rattle.upp_curve.specs.Normal.{NoMerge, FitsPeriod, IsRaw};
+ghost use Rattle.upp_curve.specs.Readable.{EachFits};
 ghost use Rattle.upp_limits.specs.Limits.{own_gauge, own_tally};
 ghost use Rattle.upp_normal.specs.Normalising.{HasValues, IsTwoPeriods, IsTurning, AreGrids, OnGrids, OnGridsUnlessLine, TailOnGrids, cycle_values, raw_curve};
 ghost use Rattle.upp_normal.specs.Room.{Room, PiecesHaveRoom, TwoHaveRoom, CycleHasRoom, TurnHasRoom, TailHasRoom};
@@ -15,10 +15,10 @@ use crate::least_period::least_period;
 use crate::lowest_rank::lowest_rank;
 use crate::merging::merged;
 use crate::two_periods::{ended, two_periods};
+use fraction128::Frac;
 use std::alloc::{AllocError, Global};
-use upp_limits::fraction128::Frac;
-use upp_limits::upp_curve::affine_segment::Piece;
-use upp_limits::upp_curve::{Curve, Tail};
+use upp_curve::affine_segment::Piece;
+use upp_curve::{Curve, Tail};
 use upp_limits::{OpFault, own_within};
 
 /// A curve in any form: its first piece starts at 0, starts rise, and the rank is 0 or more. Of a periodic tail the

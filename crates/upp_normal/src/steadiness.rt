@@ -1,13 +1,13 @@
 //! From when on a curve repeats.
 
 ghost use Rattle.std.specs.Prelude.{◌≡◌, pos, IfNone, IfSome, IsSome};
-ghost use Rattle.upp_limits.specs.rational.specs.Rational.{◌+ℚ◌, int};
-ghost use Rattle.upp_limits.specs.rational.specs.Ratio.{SumFits};
-ghost use Rattle.upp_limits.specs.upp_curve.specs.Steady.{rank_of, steady};
+ghost use Rattle.rational.specs.Rational.{◌+ℚ◌, int};
+ghost use Rattle.rational.specs.Ratio.{SumFits};
+ghost use Rattle.upp_curve.specs.Steady.{rank_of, steady};
 ghost use Rattle.upp_normal.specs.Repeating.{RepeatsFrom};
 
-use upp_limits::fraction128::Frac;
-use upp_limits::upp_curve::{Curve, Tail};
+use fraction128::Frac;
+use upp_curve::{Curve, Tail};
 use upp_limits::{is_infinite_at, keeps_line, later_unless};
 
 /// From when on a curve repeats with each of its periods: its rank; 1 later where the value at the rank of an affine

@@ -1,18 +1,18 @@
 //! The pieces of a curve as it is given, laid out so that only neighbours have to be compared after.
 
 ghost use Rattle.std.specs.Prelude.{◌≡◌, ◌++◌, ◌∷◌, pos, IfOk, List, length};
-ghost use Rattle.upp_limits.specs.rational.specs.Rational.{int, ◌≤ℚ◌, ◌<ℚ◌};
-ghost use Rattle.upp_limits.specs.upp_curve.specs.affine_segment.Pieces.{StartsAtZero, Each};
-ghost use Rattle.upp_limits.specs.upp_curve.specs.Unrolled.{upto};
-ghost use Rattle.upp_limits.specs.upp_curve.specs.Fitting.{LaterFits};
-ghost use Rattle.upp_limits.specs.upp_curve.specs.affine_segment.Fits.{ReadFits};
+ghost use Rattle.rational.specs.Rational.{int, ◌≤ℚ◌, ◌<ℚ◌};
+ghost use Rattle.upp_curve.specs.affine_segment.Pieces.{StartsAtZero, Each};
+ghost use Rattle.upp_curve.specs.Unrolled.{upto};
+ghost use Rattle.upp_curve.specs.Fitting.{LaterFits};
+ghost use Rattle.upp_curve.specs.affine_segment.Fits.{ReadFits};
 ghost use Rattle.upp_normal.specs.Normalising.{cut_at, second_copy, ended, past, first_start};
 
+use fraction128::Frac;
 use std::alloc::{AllocError, Global};
 use std::cmp::Ordering;
-use upp_limits::fraction128::Frac;
-use upp_limits::upp_curve::affine_segment::{Piece, piece_at, piece_value, read};
-use upp_limits::upp_curve::fitting::later;
+use upp_curve::affine_segment::{Piece, piece_at, piece_value, read};
+use upp_curve::fitting::later;
 
 // The piece that starts at t where the one that is read there is cut.
 fn cut_at(pieces: &[Piece], t: Frac) -> Piece

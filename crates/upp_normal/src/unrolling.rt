@@ -1,23 +1,23 @@
 //! The pieces of a curve that start before a time, its periods written out.
 
 ghost use Rattle.std.specs.Prelude.{◌≡◌, ◌<◌, ◌≤◌, ◌^◌, ◌++◌, [], length, pos, OnOk, IfOk, IfErr, Err};
-ghost use Rattle.upp_limits.specs.rational.specs.Rational.{ℚ, int, ◌*ℚ◌, ◌≤ℚ◌, ◌<ℚ◌};
-ghost use Rattle.upp_limits.specs.upp_curve.specs.declared.curve.Tail.TheVariants.{Periodic};
-ghost use Rattle.upp_limits.specs.upp_curve.specs.affine_segment.Reading.{read};
-ghost use Rattle.upp_limits.specs.upp_curve.specs.Curve.{value_at};
-ghost use Rattle.upp_limits.specs.upp_curve.specs.affine_segment.Pieces.{StartsAtZero};
-ghost use Rattle.upp_limits.specs.upp_curve.specs.Normal.{FitsPeriod};
-ghost use Rattle.upp_limits.specs.upp_curve.specs.Unrolled.{each_later, from, unroll, unrolled, upto};
+ghost use Rattle.rational.specs.Rational.{ℚ, int, ◌*ℚ◌, ◌≤ℚ◌, ◌<ℚ◌};
+ghost use Rattle.upp_curve.specs.declared.curve.Tail.TheVariants.{Periodic};
+ghost use Rattle.upp_curve.specs.affine_segment.Reading.{read};
+ghost use Rattle.upp_curve.specs.Curve.{value_at};
+ghost use Rattle.upp_curve.specs.affine_segment.Pieces.{StartsAtZero};
+ghost use Rattle.upp_curve.specs.Normal.{FitsPeriod};
+ghost use Rattle.upp_curve.specs.Unrolled.{each_later, from, unroll, unrolled, upto};
 ghost use Rattle.upp_limits.specs.Gauges.{gauge_over, tally_over};
 ghost use Rattle.upp_normal.specs.Unrolling.{IsOperandTo, TurnFits, TurnsFit};
 
 use crate::least_period::turn_of;
 use crate::two_periods::count_before;
+use fraction128::{Frac, difference, is_less, product};
 use std::alloc::{AllocError, Global};
-use upp_limits::fraction128::{Frac, difference, is_less, product};
-use upp_limits::upp_curve::affine_segment::Piece;
-use upp_limits::upp_curve::fitting::later;
-use upp_limits::upp_curve::{Curve, Tail};
+use upp_curve::affine_segment::Piece;
+use upp_curve::fitting::later;
+use upp_curve::{Curve, Tail};
 use upp_limits::{OpFault, OpKind, gauge, start_counts, tally, within_limits};
 
 // The pieces that start before x, of pieces whose starts rise.

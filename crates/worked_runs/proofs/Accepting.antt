@@ -3,10 +3,10 @@ use Rattle.std.specs.Prelude.{Contains}
 use Rattle.std.proofs.Common.{◌≡◌, ◌≢◌, ℕ, zero, suc, ◌<◌, ◌≤◌, ◌^◌, List, [], ◌∷◌, length, get_or, take, Some, refl, ap, sym, subst, inl, inr}
 use Rattle.std.proofs.Common.{arith}
 use Rattle.std.proofs.lemmas.Option.{same_Some}
-use Rattle.upp_limits.specs.rational.proofs.Integers.{nat_lt, nat_nonneg}
+use Rattle.rational.proofs.Integers.{nat_lt, nat_nonneg}
 use Rattle.upp_limits.specs.Windows.{IsLeast}
-use Rattle.net_model.specs.run_laws.specs.Cards.{whole}
-use Rattle.net_model.specs.run_laws.specs.Servers.{Discipline}
+use Rattle.run_laws.specs.Cards.{whole}
+use Rattle.run_laws.specs.Servers.{Discipline}
 use Rattle.net_model.specs.Accepted.{IsServer, IsHop, IsFlow, HasFewQueues, IsAccepted}
 use Rattle.net_model.specs.Names.{IsName, DifferInName}
 use Rattle.net_model.specs.Networks.{Net, NetServer, NetFlow}

@@ -1,21 +1,21 @@
 -- Token buckets and rates after a latency that are curves, by computing: their lines are readable.
 use Rattle.std.specs.Prelude.{◌≡◌, ℕ, ◌*◌, ◌/◌, ◌^◌, ℤ, pos, ◌+ℤ◌, ◌*ℤ◌, nat_abs, Bool, true, ◌&&◌, ltb}
 use Rattle.std.proofs.lemmas.Bool.{ltb-true, and_parts}
-use Rattle.upp_limits.specs.rational.specs.Gcd.{gcd}
-use Rattle.upp_limits.specs.rational.specs.Rational.{ℚ, ◌*ℚ◌, ◌≤ℚ◌, ◌<ℚ◌, neg_ℚ, den, le_q, lt_q}
-use Rattle.upp_limits.specs.rational.specs.Ratio.{IsSmall, SumFits}
-use Rattle.upp_limits.specs.rational.proofs.Laws.{le_of_lt}
-use Rattle.upp_limits.specs.rational.proofs.MinMax.{le_q_not}
-use Rattle.upp_limits.specs.rational.proofs.Over.{le_q_in, lt_q_in}
-use Rattle.upp_limits.specs.upp_curve.specs.affine_segment.Fits.{LineFits}
-use Rattle.upp_limits.specs.min_plus.specs.Functions.{zero_q}
-use Rattle.upp_limits.specs.min_plus.specs.Formulas.{IsBucket, IsService}
-use Rattle.upp_limits.specs.upp_curve.specs.Curve.{value_at}
-use Rattle.upp_limits.specs.upp_curve.specs.Curves.{IsCurve}
-use Rattle.upp_limits.specs.upp_curve.specs.Kinds.{bucket, rate_latency}
-use Rattle.upp_limits.specs.upp_curve.proofs.ReadableKinds.{bucket_curve}
-use Rattle.upp_limits.specs.upp_curve.proofs.KindForms.{late_normal}
-use Rattle.upp_limits.specs.upp_curve.proofs.KindValues.{bucket_is, service_is}
+use Rattle.rational.specs.Gcd.{gcd}
+use Rattle.rational.specs.Rational.{ℚ, ◌*ℚ◌, ◌≤ℚ◌, ◌<ℚ◌, neg_ℚ, den, le_q, lt_q}
+use Rattle.rational.specs.Ratio.{IsSmall, SumFits}
+use Rattle.rational.proofs.Laws.{le_of_lt}
+use Rattle.rational.proofs.MinMax.{le_q_not}
+use Rattle.rational.proofs.Over.{le_q_in, lt_q_in}
+use Rattle.upp_curve.specs.affine_segment.Fits.{LineFits}
+use Rattle.min_plus.specs.Functions.{zero_q}
+use Rattle.min_plus.specs.Formulas.{IsBucket, IsService}
+use Rattle.upp_curve.specs.Curve.{value_at}
+use Rattle.upp_curve.specs.Curves.{IsCurve}
+use Rattle.upp_curve.specs.Kinds.{bucket, rate_latency}
+use Rattle.upp_curve.proofs.ReadableKinds.{bucket_curve}
+use Rattle.upp_curve.proofs.KindForms.{late_normal}
+use Rattle.upp_curve.proofs.KindValues.{bucket_is, service_is}
 
 -- ---- steps that fit 127 bits
 abbrev pub small : ℚ → Bool

@@ -1,29 +1,29 @@
 -- How far the stair of the example is from its gate, both ways: 990 and 47000.
 use Rattle.std.specs.Prelude.{◌≡◌, ◌⊎◌, ℕ, zero, suc, ◌+◌, ◌-◌, ◌*◌, ◌/◌, pos}
 use Rattle.std.proofs.Common.{arith, sym, ap, ◌∙◌, refl, subst, inl, inr}
-use Rattle.upp_limits.specs.rational.specs.Rational.{ℚ, int, ◌+ℚ◌, ◌-ℚ◌, ◌*ℚ◌, ◌/ℚ◌, ◌≤ℚ◌, ◌<ℚ◌}
-use Rattle.upp_limits.specs.rational.specs.Fractions.{same_parts}
-use Rattle.upp_limits.specs.rational.specs.MinMax.{max_q}
-use Rattle.upp_limits.specs.rational.specs.Whole.{whole_part}
-use Rattle.upp_limits.specs.rational.specs.Bounds.{IsSupremum}
-use Rattle.upp_limits.specs.rational.specs.Extended.{Ext, ◌≤ₑ◌, ◌-ₑ◌}
-use Rattle.upp_limits.specs.rational.specs.declared.Extended.TheVariants.{Fin}
-use Rattle.upp_limits.specs.rational.proofs.Bounds.{least_member, largest_member}
-use Rattle.upp_limits.specs.rational.proofs.ExtendedOrder.{fin_same, le_ext_trans}
-use Rattle.upp_limits.specs.rational.proofs.Integers.{nat_le, nat_lt, nat_next, nat_nonneg}
-use Rattle.upp_limits.specs.rational.proofs.Laws.{mul_comm, le_or_lt, le_of_lt, le_refl, div_mul, not_zero}
-use Rattle.upp_limits.specs.rational.proofs.Linear.{with1, with2, with3, with4, with5}
-use Rattle.upp_limits.specs.rational.proofs.MinMax.{max_q_ge_left, max_q_ge_right, max_q_le}
-use Rattle.upp_limits.specs.min_plus.specs.Functions.{zero_q, Time, FiniteTime}
-use Rattle.upp_limits.specs.min_plus.specs.Pointwise.{excess}
-use Rattle.upp_limits.specs.min_plus.specs.Deviations.{Lag, IsLag, IsHorizontalDeviation, IsVerticalDeviation}
-use Rattle.upp_limits.specs.upp_curve.specs.Curve.{SpecCurve, value_at}
-use Rattle.upp_limits.specs.upp_curve.specs.Kinds.{gate, stair}
-use Rattle.upp_limits.specs.upp_curve.proofs.StairValues.{stair_is, ratio_low}
-use Rattle.upp_limits.specs.upp_curve.proofs.Worked.{computing}
-use Rattle.net_model.specs.run_laws.specs.Cards.{whole}
-use Rattle.net_model.specs.run_laws.proofs.Small.{le_t, lt_t, sum_t}
-use Rattle.net_model.specs.run_laws.proofs.Sizes.{whole_times}
+use Rattle.rational.specs.Rational.{ℚ, int, ◌+ℚ◌, ◌-ℚ◌, ◌*ℚ◌, ◌/ℚ◌, ◌≤ℚ◌, ◌<ℚ◌}
+use Rattle.rational.specs.Fractions.{same_parts}
+use Rattle.rational.specs.MinMax.{max_q}
+use Rattle.rational.specs.Whole.{whole_part}
+use Rattle.rational.specs.Bounds.{IsSupremum}
+use Rattle.rational.specs.Extended.{Ext, ◌≤ₑ◌, ◌-ₑ◌}
+use Rattle.rational.specs.declared.Extended.TheVariants.{Fin}
+use Rattle.rational.proofs.Bounds.{least_member, largest_member}
+use Rattle.rational.proofs.ExtendedOrder.{fin_same, le_ext_trans}
+use Rattle.rational.proofs.Integers.{nat_le, nat_lt, nat_next, nat_nonneg}
+use Rattle.rational.proofs.Laws.{mul_comm, le_or_lt, le_of_lt, le_refl, div_mul, not_zero}
+use Rattle.rational.proofs.Linear.{with1, with2, with3, with4, with5}
+use Rattle.rational.proofs.MinMax.{max_q_ge_left, max_q_ge_right, max_q_le}
+use Rattle.min_plus.specs.Functions.{zero_q, Time, FiniteTime}
+use Rattle.min_plus.specs.Pointwise.{excess}
+use Rattle.min_plus.specs.Deviations.{Lag, IsLag, IsHorizontalDeviation, IsVerticalDeviation}
+use Rattle.upp_curve.specs.Curve.{SpecCurve, value_at}
+use Rattle.upp_curve.specs.Kinds.{gate, stair}
+use Rattle.upp_curve.proofs.StairValues.{stair_is, ratio_low}
+use Rattle.upp_curve.proofs.Worked.{computing}
+use Rattle.run_laws.specs.Cards.{whole}
+use Rattle.run_laws.proofs.Small.{le_t, lt_t, sum_t}
+use Rattle.run_laws.proofs.Sizes.{whole_times}
 use Rattle.net_model.specs.Accepted.{IsServiceCurve}
 use Rattle.net_model.proofs.KindsStand.{kinds_may_stand}
 use Rattle.worked_runs.proofs.Gates.{while_closed, while_open, over_line}

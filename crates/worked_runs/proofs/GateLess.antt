@@ -1,36 +1,36 @@
 -- The gate of the example less one packet, as a curve.
 use Rattle.std.specs.Prelude.{◌≡◌, ℕ, suc, ◌≤◌, pos, List, [], ◌∷◌, Option, Some, None}
 use Rattle.std.proofs.Common.{arith, sym, ap, ◌∙◌, refl, subst, inl, inr}
-use Rattle.upp_limits.specs.rational.specs.Rational.{ℚ, int, ◌+ℚ◌, ◌-ℚ◌, ◌*ℚ◌, ◌/ℚ◌, ◌≤ℚ◌, ◌<ℚ◌, neg_ℚ}
-use Rattle.upp_limits.specs.rational.specs.Extended.{Ext, ◌+ₑ◌}
-use Rattle.upp_limits.specs.rational.specs.declared.Extended.TheVariants.{Fin}
-use Rattle.upp_limits.specs.rational.proofs.ExtendedOrder.{fin_same}
-use Rattle.upp_limits.specs.rational.proofs.Integers.{nat_next, nat_nonneg, nat_le, nat_lt}
-use Rattle.upp_limits.specs.rational.proofs.Laws.{mul_comm, le_or_lt, le_of_lt, le_refl, le_trans, lt_irrefl, lt_trans, mul_le_mul, div_mul, not_zero}
-use Rattle.upp_limits.specs.rational.proofs.Linear.{with1, with2, with3, with4, with5}
-use Rattle.upp_limits.specs.rational.proofs.MinMax.{max_q_right, max_q_is_left, le_q_not}
-use Rattle.upp_limits.specs.rational.proofs.Over.{le_q_out}
-use Rattle.upp_limits.specs.rational.proofs.Quotients.{part_pos}
-use Rattle.upp_limits.specs.rational.proofs.Whole.{periods_unique}
-use Rattle.upp_limits.specs.upp_curve.specs.declared.affine_segment.line.Line.{Line}
-use Rattle.upp_limits.specs.upp_curve.specs.declared.affine_segment.line.Piece.{Piece}
-use Rattle.upp_limits.specs.upp_curve.specs.affine_segment.Reading.{read, piece_in}
-use Rattle.upp_limits.specs.upp_curve.specs.affine_segment.Values.{line_value}
-use Rattle.upp_limits.specs.min_plus.specs.Functions.{zero_q}
-use Rattle.upp_limits.specs.min_plus.specs.Pointwise.{excess}
+use Rattle.rational.specs.Rational.{ℚ, int, ◌+ℚ◌, ◌-ℚ◌, ◌*ℚ◌, ◌/ℚ◌, ◌≤ℚ◌, ◌<ℚ◌, neg_ℚ}
+use Rattle.rational.specs.Extended.{Ext, ◌+ₑ◌}
+use Rattle.rational.specs.declared.Extended.TheVariants.{Fin}
+use Rattle.rational.proofs.ExtendedOrder.{fin_same}
+use Rattle.rational.proofs.Integers.{nat_next, nat_nonneg, nat_le, nat_lt}
+use Rattle.rational.proofs.Laws.{mul_comm, le_or_lt, le_of_lt, le_refl, le_trans, lt_irrefl, lt_trans, mul_le_mul, div_mul, not_zero}
+use Rattle.rational.proofs.Linear.{with1, with2, with3, with4, with5}
+use Rattle.rational.proofs.MinMax.{max_q_right, max_q_is_left, le_q_not}
+use Rattle.rational.proofs.Over.{le_q_out}
+use Rattle.rational.proofs.Quotients.{part_pos}
+use Rattle.rational.proofs.Whole.{periods_unique}
+use Rattle.upp_curve.specs.declared.affine_segment.line.Line.{Line}
+use Rattle.upp_curve.specs.declared.affine_segment.line.Piece.{Piece}
+use Rattle.upp_curve.specs.affine_segment.Reading.{read, piece_in}
+use Rattle.upp_curve.specs.affine_segment.Values.{line_value}
+use Rattle.min_plus.specs.Functions.{zero_q}
+use Rattle.min_plus.specs.Pointwise.{excess}
 use Rattle.upp_limits.specs.declared.op_kind.OpKind.TheVariants.{PosMinus}
-use Rattle.upp_limits.specs.upp_curve.specs.declared.curve.Tail.TheVariants.{Periodic}
-use Rattle.upp_limits.specs.upp_curve.specs.Curve.{SpecCurve, value_at, repeated}
-use Rattle.upp_limits.specs.upp_curve.specs.Kinds.{flat, piece, gate}
-use Rattle.upp_limits.specs.upp_curve.specs.Normal.{IsNormal}
-use Rattle.upp_limits.specs.upp_curve.specs.Readable.{IsReadable, SumFitsAt}
-use Rattle.upp_limits.specs.upp_curve.specs.Steady.{Repeats}
-use Rattle.upp_limits.specs.upp_curve.proofs.Repeats.{repeated_first}
-use Rattle.upp_limits.specs.upp_curve.proofs.KindValues.{on_line}
-use Rattle.upp_limits.specs.upp_curve.proofs.Worked.{computing}
+use Rattle.upp_curve.specs.declared.curve.Tail.TheVariants.{Periodic}
+use Rattle.upp_curve.specs.Curve.{SpecCurve, value_at, repeated}
+use Rattle.upp_curve.specs.Kinds.{flat, piece, gate}
+use Rattle.upp_curve.specs.Normal.{IsNormal}
+use Rattle.upp_curve.specs.Readable.{IsReadable, SumFitsAt}
+use Rattle.upp_curve.specs.Steady.{Repeats}
+use Rattle.upp_curve.proofs.Repeats.{repeated_first}
+use Rattle.upp_curve.proofs.KindValues.{on_line}
+use Rattle.upp_curve.proofs.Worked.{computing}
 use Rattle.curve_call.specs.Answers.{IsMadeBy}
-use Rattle.net_model.specs.run_laws.specs.Cards.{whole}
-use Rattle.net_model.specs.run_laws.proofs.Small.{le_t, lt_t}
+use Rattle.run_laws.specs.Cards.{whole}
+use Rattle.run_laws.proofs.Small.{le_t, lt_t}
 use Rattle.worked_runs.proofs.Curves.{line_by, sum_by, small_by}
 use Rattle.worked_runs.proofs.Gates.{while_closed, while_open, cycle_from}
 

@@ -1,23 +1,23 @@
 -- The values of the gate of the example: open for the last 250 of each 1000, at 100 bits a unit of time.
 use Rattle.std.specs.Prelude.{◌≡◌, ◌⊎◌, ℕ, pos, List}
 use Rattle.std.proofs.Common.{arith, ap, ◌∙◌, refl, inl, inr}
-use Rattle.upp_limits.specs.rational.specs.Rational.{ℚ, int, ◌+ℚ◌, ◌-ℚ◌, ◌*ℚ◌, ◌≤ℚ◌, ◌<ℚ◌, neg_ℚ}
-use Rattle.upp_limits.specs.rational.specs.Fractions.{same_parts}
-use Rattle.upp_limits.specs.rational.specs.Extended.{◌+ₑ◌}
-use Rattle.upp_limits.specs.rational.specs.declared.Extended.TheVariants.{Fin}
-use Rattle.upp_limits.specs.rational.proofs.Laws.{mul_comm, le_or_lt}
-use Rattle.upp_limits.specs.rational.proofs.Whole.{periods_unique, periods_low, periods_high}
-use Rattle.upp_limits.specs.rational.specs.Whole.{periods}
-use Rattle.upp_limits.specs.rational.proofs.Linear.{with2, with3, with4}
-use Rattle.upp_limits.specs.upp_curve.specs.declared.affine_segment.line.Piece.{Piece}
-use Rattle.upp_limits.specs.upp_curve.specs.affine_segment.Reading.{read}
-use Rattle.upp_limits.specs.min_plus.specs.Functions.{zero_q}
-use Rattle.upp_limits.specs.upp_curve.specs.Curve.{value_at, repeated}
-use Rattle.upp_limits.specs.upp_curve.specs.Kinds.{gate, gated}
-use Rattle.upp_limits.specs.upp_curve.proofs.GateValues.{gate_pieces, closed_value, open_value}
-use Rattle.upp_limits.specs.upp_curve.proofs.Worked.{computing}
-use Rattle.net_model.specs.run_laws.specs.Cards.{whole}
-use Rattle.net_model.specs.run_laws.proofs.Small.{lt_t}
+use Rattle.rational.specs.Rational.{ℚ, int, ◌+ℚ◌, ◌-ℚ◌, ◌*ℚ◌, ◌≤ℚ◌, ◌<ℚ◌, neg_ℚ}
+use Rattle.rational.specs.Fractions.{same_parts}
+use Rattle.rational.specs.Extended.{◌+ₑ◌}
+use Rattle.rational.specs.declared.Extended.TheVariants.{Fin}
+use Rattle.rational.proofs.Laws.{mul_comm, le_or_lt}
+use Rattle.rational.proofs.Whole.{periods_unique, periods_low, periods_high}
+use Rattle.rational.specs.Whole.{periods}
+use Rattle.rational.proofs.Linear.{with2, with3, with4}
+use Rattle.upp_curve.specs.declared.affine_segment.line.Piece.{Piece}
+use Rattle.upp_curve.specs.affine_segment.Reading.{read}
+use Rattle.min_plus.specs.Functions.{zero_q}
+use Rattle.upp_curve.specs.Curve.{value_at, repeated}
+use Rattle.upp_curve.specs.Kinds.{gate, gated}
+use Rattle.upp_curve.proofs.GateValues.{gate_pieces, closed_value, open_value}
+use Rattle.upp_curve.proofs.Worked.{computing}
+use Rattle.run_laws.specs.Cards.{whole}
+use Rattle.run_laws.proofs.Small.{lt_t}
 
 abbrev pieces : List Piece
 pieces = gate_pieces (whole 100) (whole 1000) (whole 250)

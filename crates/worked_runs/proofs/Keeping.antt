@@ -1,25 +1,25 @@
 -- What a run of one or two packets has to keep: arrival curves, and the service of one server.
 use Rattle.std.specs.Prelude.{◌≡◌, ◌<◌, ℕ, ◌+◌, ◌*◌, Bool, true, ◌&&◌, List}
 use Rattle.std.proofs.Common.{arith, sym, ap, ◌∙◌, refl, inl, inr}
-use Rattle.upp_limits.specs.rational.specs.Rational.{ℚ, ◌+ℚ◌, ◌-ℚ◌, ◌*ℚ◌, ◌≤ℚ◌, ◌<ℚ◌, lt_q}
-use Rattle.upp_limits.specs.rational.specs.Extended.{Ext, ◌≤ₑ◌}
-use Rattle.upp_limits.specs.rational.specs.declared.Extended.TheVariants.{Fin}
-use Rattle.upp_limits.specs.rational.proofs.Integers.{nat_le, nat_lt, nat_nonneg}
-use Rattle.upp_limits.specs.rational.proofs.Laws.{le_or_lt, le_of_lt, le_refl, le_trans, mul_nonneg, mul_add}
-use Rattle.upp_limits.specs.rational.proofs.Linear.{with2, with3, with5, with6}
-use Rattle.upp_limits.specs.min_plus.specs.Functions.{zero_q}
-use Rattle.upp_limits.specs.min_plus.specs.Formulas.{IsService}
-use Rattle.upp_limits.specs.upp_curve.specs.Curve.{value_at}
-use Rattle.upp_limits.specs.upp_curve.specs.Kinds.{bucket, rate_latency}
-use Rattle.upp_limits.specs.upp_curve.proofs.KindValues.{bucket_is, service_is}
-use Rattle.net_model.specs.run_laws.specs.Cards.{whole, all, ServerStep}
-use Rattle.net_model.specs.run_laws.specs.Counts.{when, arrived, worked}
-use Rattle.net_model.specs.run_laws.specs.Premises.{KeepsService}
-use Rattle.net_model.specs.run_laws.specs.Servers.{Span, clip}
-use Rattle.net_model.specs.run_laws.proofs.Clips.{clip_early, clip_late}
-use Rattle.net_model.specs.run_laws.proofs.Small.{sum_t}
-use Rattle.net_model.specs.run_laws.proofs.Sums.{when_most}
-use Rattle.net_model.specs.run_laws.proofs.Sizes.{whole_times}
+use Rattle.rational.specs.Rational.{ℚ, ◌+ℚ◌, ◌-ℚ◌, ◌*ℚ◌, ◌≤ℚ◌, ◌<ℚ◌, lt_q}
+use Rattle.rational.specs.Extended.{Ext, ◌≤ₑ◌}
+use Rattle.rational.specs.declared.Extended.TheVariants.{Fin}
+use Rattle.rational.proofs.Integers.{nat_le, nat_lt, nat_nonneg}
+use Rattle.rational.proofs.Laws.{le_or_lt, le_of_lt, le_refl, le_trans, mul_nonneg, mul_add}
+use Rattle.rational.proofs.Linear.{with2, with3, with5, with6}
+use Rattle.min_plus.specs.Functions.{zero_q}
+use Rattle.min_plus.specs.Formulas.{IsService}
+use Rattle.upp_curve.specs.Curve.{value_at}
+use Rattle.upp_curve.specs.Kinds.{bucket, rate_latency}
+use Rattle.upp_curve.proofs.KindValues.{bucket_is, service_is}
+use Rattle.run_laws.specs.Cards.{whole, all, ServerStep}
+use Rattle.run_laws.specs.Counts.{when, arrived, worked}
+use Rattle.run_laws.specs.Premises.{KeepsService}
+use Rattle.run_laws.specs.Servers.{Span, clip}
+use Rattle.run_laws.proofs.Clips.{clip_early, clip_late}
+use Rattle.run_laws.proofs.Small.{sum_t}
+use Rattle.run_laws.proofs.Sums.{when_most}
+use Rattle.run_laws.proofs.Sizes.{whole_times}
 use Rattle.worked_trees.proofs.Busy.{none_over, not_yet, service_at_most, IsAtRate, keeps_at_rate, span_at_rate}
 
 -- ---- arrivals

@@ -2,12 +2,12 @@
 use Rattle.std.specs.Prelude.{◌≡◌, ℕ, ◌+◌, ◌==◌, ◌&&◌, nat_lt, Bool, IsTrue, List, [], ◌∷◌}
 use Rattle.std.proofs.Common.{zero, suc, arith, sym, ap, subst}
 use Rattle.std.proofs.lemmas.Bool.{ltb-true, eqb-true, and_parts}
-use Rattle.upp_limits.specs.rational.specs.Rational.{ℚ}
-use Rattle.upp_limits.specs.rational.specs.Extended.{Ext, min_ext}
-use Rattle.upp_limits.specs.min_plus.specs.Deviations.{IsHorizontalDeviation, IsVerticalDeviation}
+use Rattle.rational.specs.Rational.{ℚ}
+use Rattle.rational.specs.Extended.{Ext, min_ext}
+use Rattle.min_plus.specs.Deviations.{IsHorizontalDeviation, IsVerticalDeviation}
 use Rattle.upp_limits.specs.declared.op_kind.OpKind.{OpKind}
 use Rattle.upp_limits.specs.declared.op_kind.OpKind.TheVariants.{Shift, FifoLeft}
-use Rattle.upp_limits.specs.upp_curve.specs.Curve.{SpecCurve, value_at}
+use Rattle.upp_curve.specs.Curve.{SpecCurve, value_at}
 use Rattle.curve_call.specs.Answers.{IsMadeBy}
 use Rattle.net_cells.specs.declared.cell.Cell.{Cell}
 use Rattle.net_cells.specs.Formulas.{Formula, made, made_of, moved, leftover, horizontal, vertical, smaller, along, delayed}

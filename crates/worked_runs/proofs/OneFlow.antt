@@ -1,21 +1,21 @@
 -- One flow over one server reaches its bound.
 use Rattle.std.specs.Prelude.{codes}
 use Rattle.std.proofs.Common.{◌≡◌, ℕ, zero, suc, ◌<◌, [], ◌∷◌, true, false, refl, subst, arith}
-use Rattle.upp_limits.specs.rational.specs.Rational.{◌-ℚ◌}
-use Rattle.upp_limits.specs.rational.specs.Extended.{◌≤ₑ◌}
-use Rattle.upp_limits.specs.rational.specs.declared.Extended.TheVariants.{Fin}
-use Rattle.upp_limits.specs.rational.proofs.Integers.{nat_nonneg}
-use Rattle.upp_limits.specs.upp_curve.specs.Curve.{value_at}
-use Rattle.upp_limits.specs.upp_curve.specs.Kinds.{bucket, rate_latency}
-use Rattle.upp_limits.specs.upp_curve.proofs.KindValues.{bucket_is, service_is}
-use Rattle.net_model.specs.run_laws.specs.Cards.{whole}
-use Rattle.net_model.specs.run_laws.specs.Examples.{one_packet, ReachesItsBound}
-use Rattle.net_model.specs.run_laws.specs.Premises.{KeepsService}
-use Rattle.net_model.specs.run_laws.specs.Routes.{route_of}
-use Rattle.net_model.specs.run_laws.specs.RunPremises.{EnterSizes, entered_in}
-use Rattle.net_model.specs.run_laws.specs.Servers.{Fifo}
-use Rattle.net_model.specs.run_laws.specs.Views.{view}
-use Rattle.net_model.specs.run_laws.proofs.OnePacket.{one_packet_reaches_its_bound}
+use Rattle.rational.specs.Rational.{◌-ℚ◌}
+use Rattle.rational.specs.Extended.{◌≤ₑ◌}
+use Rattle.rational.specs.declared.Extended.TheVariants.{Fin}
+use Rattle.rational.proofs.Integers.{nat_nonneg}
+use Rattle.upp_curve.specs.Curve.{value_at}
+use Rattle.upp_curve.specs.Kinds.{bucket, rate_latency}
+use Rattle.upp_curve.proofs.KindValues.{bucket_is, service_is}
+use Rattle.run_laws.specs.Cards.{whole}
+use Rattle.run_laws.specs.Examples.{one_packet, ReachesItsBound}
+use Rattle.run_laws.specs.Premises.{KeepsService}
+use Rattle.run_laws.specs.Routes.{route_of}
+use Rattle.run_laws.specs.RunPremises.{EnterSizes, entered_in}
+use Rattle.run_laws.specs.Servers.{Fifo}
+use Rattle.run_laws.specs.Views.{view}
+use Rattle.run_laws.proofs.OnePacket.{one_packet_reaches_its_bound}
 use Rattle.net_model.specs.Accepted.{IsServer, IsFlow, IsAccepted}
 use Rattle.net_model.specs.Networks.{NetServer}
 use Rattle.net_model.specs.Orders.{IsOrder}

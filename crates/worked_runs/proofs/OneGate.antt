@@ -1,7 +1,7 @@
 -- One flow over a gate reaches its bound.
 use Rattle.std.proofs.Common.{◌≢◌, ℕ, zero, suc, ◌<◌, [], ◌∷◌, get_or, refl, arith}
-use Rattle.upp_limits.specs.rational.proofs.Integers.{nat_lt, nat_le, nat_nonneg}
-use Rattle.net_model.specs.run_laws.specs.Cards.{whole}
+use Rattle.rational.proofs.Integers.{nat_lt, nat_le, nat_nonneg}
+use Rattle.run_laws.specs.Cards.{whole}
 use Rattle.net_model.specs.Accepted.{IsServer, IsHop, IsFlow, IsAccepted}
 use Rattle.net_model.specs.Orders.{IsOrder}
 use Rattle.net_model.proofs.KindsStand.{kinds_may_stand}

@@ -1,31 +1,31 @@
 -- One packet through a gate.
 use Rattle.std.specs.Prelude.{◌≡◌, ◌<◌, ℕ, zero, suc, pos, true, ◌==◌, ◌&&◌, [], ◌∷◌}
 use Rattle.std.proofs.Common.{arith, sym, ap, ◌∙◌, refl, false, inl, inr, subst}
-use Rattle.upp_limits.specs.rational.specs.Rational.{ℚ, int, ◌-ℚ◌, ◌*ℚ◌, ◌≤ℚ◌, lt_q}
-use Rattle.upp_limits.specs.rational.specs.MinMax.{max_q}
-use Rattle.upp_limits.specs.rational.specs.Extended.{Ext, ◌≤ₑ◌}
-use Rattle.upp_limits.specs.rational.specs.declared.Extended.TheVariants.{Fin}
-use Rattle.upp_limits.specs.rational.proofs.Integers.{nat_nonneg, nat_le}
-use Rattle.upp_limits.specs.rational.proofs.Laws.{le_or_lt, le_trans, mul_le_mul, mul_nonneg, mul_one}
-use Rattle.upp_limits.specs.rational.proofs.MinMax.{max_q_ge_left, max_q_ge_right}
-use Rattle.upp_limits.specs.rational.proofs.Linear.{with1, with2}
-use Rattle.upp_limits.specs.min_plus.specs.Functions.{zero_q}
-use Rattle.upp_limits.specs.upp_curve.specs.Curve.{value_at}
-use Rattle.upp_limits.specs.upp_curve.specs.Kinds.{gate, stair}
-use Rattle.upp_limits.specs.upp_curve.proofs.StairValues.{stair_is}
-use Rattle.net_model.specs.run_laws.specs.Cards.{whole, all}
-use Rattle.net_model.specs.run_laws.specs.Servers.{Span, clip}
-use Rattle.net_model.specs.run_laws.specs.Counts.{when, within, arrived, worked}
-use Rattle.net_model.specs.run_laws.specs.Premises.{KeepsService}
-use Rattle.net_model.specs.run_laws.specs.Lawful.{IsLawful}
-use Rattle.net_model.specs.run_laws.specs.Routes.{Routes, route_of}
-use Rattle.net_model.specs.run_laws.specs.RunPremises.{EnterSizes, entered_in}
-use Rattle.net_model.specs.run_laws.specs.Views.{view}
-use Rattle.net_model.specs.run_laws.proofs.Clips.{clip_early}
-use Rattle.net_model.specs.run_laws.proofs.Small.{le_t, lt_t, sum_t, enters, works, leaves}
-use Rattle.net_model.specs.run_laws.proofs.Sums.{when_true}
-use Rattle.net_model.specs.run_laws.proofs.Sizes.{whole_times}
-use Rattle.net_model.specs.run_laws.proofs.SmallRuns.{one_idle, none_due}
+use Rattle.rational.specs.Rational.{ℚ, int, ◌-ℚ◌, ◌*ℚ◌, ◌≤ℚ◌, lt_q}
+use Rattle.rational.specs.MinMax.{max_q}
+use Rattle.rational.specs.Extended.{Ext, ◌≤ₑ◌}
+use Rattle.rational.specs.declared.Extended.TheVariants.{Fin}
+use Rattle.rational.proofs.Integers.{nat_nonneg, nat_le}
+use Rattle.rational.proofs.Laws.{le_or_lt, le_trans, mul_le_mul, mul_nonneg, mul_one}
+use Rattle.rational.proofs.MinMax.{max_q_ge_left, max_q_ge_right}
+use Rattle.rational.proofs.Linear.{with1, with2}
+use Rattle.min_plus.specs.Functions.{zero_q}
+use Rattle.upp_curve.specs.Curve.{value_at}
+use Rattle.upp_curve.specs.Kinds.{gate, stair}
+use Rattle.upp_curve.proofs.StairValues.{stair_is}
+use Rattle.run_laws.specs.Cards.{whole, all}
+use Rattle.run_laws.specs.Servers.{Span, clip}
+use Rattle.run_laws.specs.Counts.{when, within, arrived, worked}
+use Rattle.run_laws.specs.Premises.{KeepsService}
+use Rattle.run_laws.specs.Lawful.{IsLawful}
+use Rattle.run_laws.specs.Routes.{Routes, route_of}
+use Rattle.run_laws.specs.RunPremises.{EnterSizes, entered_in}
+use Rattle.run_laws.specs.Views.{view}
+use Rattle.run_laws.proofs.Clips.{clip_early}
+use Rattle.run_laws.proofs.Small.{le_t, lt_t, sum_t, enters, works, leaves}
+use Rattle.run_laws.proofs.Sums.{when_true}
+use Rattle.run_laws.proofs.Sizes.{whole_times}
+use Rattle.run_laws.proofs.SmallRuns.{one_idle, none_due}
 use Rattle.net_cells.specs.Numbered.{packet, arrival, service}
 use Rattle.net_bounds.specs.NetRuns.{routes_of}
 use Rattle.worked_runs.specs.OneGate.{one_gate, at_its_end}

@@ -1,29 +1,29 @@
 -- The table of one flow over a gate.
 use Rattle.std.specs.Prelude.{◌≡◌, ◌⊎◌, codes}
 use Rattle.std.proofs.Common.{arith, sym, refl, ap, ◌∙◌, subst, inl, inr}
-use Rattle.upp_limits.specs.rational.specs.Rational.{ℚ, ◌+ℚ◌, ◌-ℚ◌, ◌*ℚ◌, ◌/ℚ◌, ◌≤ℚ◌, ◌<ℚ◌, neg_ℚ}
-use Rattle.upp_limits.specs.rational.specs.MinMax.{max_q}
-use Rattle.upp_limits.specs.rational.specs.Extended.{Ext, ◌≤ₑ◌}
-use Rattle.upp_limits.specs.rational.specs.declared.Extended.TheVariants.{Fin}
-use Rattle.upp_limits.specs.rational.proofs.Bounds.{least_member, largest_member}
-use Rattle.upp_limits.specs.rational.proofs.Laws.{antisym, le_refl, le_or_lt, zero_mul}
-use Rattle.upp_limits.specs.rational.proofs.Linear.{with1, with2}
-use Rattle.upp_limits.specs.rational.proofs.MinMax.{max_q_right, le_q_not}
-use Rattle.upp_limits.specs.rational.proofs.Over.{le_q_out, lt_q_in}
-use Rattle.upp_limits.specs.min_plus.specs.Functions.{zero_q, Time}
-use Rattle.upp_limits.specs.min_plus.specs.Deviations.{Lag, IsHorizontalDeviation}
-use Rattle.upp_limits.specs.min_plus.specs.Running.{left_after}
+use Rattle.rational.specs.Rational.{ℚ, ◌+ℚ◌, ◌-ℚ◌, ◌*ℚ◌, ◌/ℚ◌, ◌≤ℚ◌, ◌<ℚ◌, neg_ℚ}
+use Rattle.rational.specs.MinMax.{max_q}
+use Rattle.rational.specs.Extended.{Ext, ◌≤ₑ◌}
+use Rattle.rational.specs.declared.Extended.TheVariants.{Fin}
+use Rattle.rational.proofs.Bounds.{least_member, largest_member}
+use Rattle.rational.proofs.Laws.{antisym, le_refl, le_or_lt, zero_mul}
+use Rattle.rational.proofs.Linear.{with1, with2}
+use Rattle.rational.proofs.MinMax.{max_q_right, le_q_not}
+use Rattle.rational.proofs.Over.{le_q_out, lt_q_in}
+use Rattle.min_plus.specs.Functions.{zero_q, Time}
+use Rattle.min_plus.specs.Deviations.{Lag, IsHorizontalDeviation}
+use Rattle.min_plus.specs.Running.{left_after}
 use Rattle.upp_limits.specs.declared.op_kind.OpKind.TheVariants.{FifoLeft}
-use Rattle.upp_limits.specs.upp_curve.specs.Curve.{value_at}
-use Rattle.upp_limits.specs.upp_curve.specs.Curves.{IsCurve}
-use Rattle.upp_limits.specs.upp_curve.specs.Readable.{IsReadable, SumFitsAt}
-use Rattle.upp_limits.specs.upp_curve.proofs.GateValues.{closed_value}
-use Rattle.upp_limits.specs.upp_curve.proofs.KindForms.{gate_normal}
-use Rattle.upp_limits.specs.upp_curve.proofs.Worked.{computing}
+use Rattle.upp_curve.specs.Curve.{value_at}
+use Rattle.upp_curve.specs.Curves.{IsCurve}
+use Rattle.upp_curve.specs.Readable.{IsReadable, SumFitsAt}
+use Rattle.upp_curve.proofs.GateValues.{closed_value}
+use Rattle.upp_curve.proofs.KindForms.{gate_normal}
+use Rattle.upp_curve.proofs.Worked.{computing}
 use Rattle.curve_call.specs.Answers.{IsMadeBy}
 use Rattle.net_model.specs.declared.server.ServiceKind.TheVariants.{Gate}
-use Rattle.net_model.specs.run_laws.specs.Cards.{whole}
-use Rattle.net_model.specs.run_laws.proofs.Small.{le_t, lt_t}
+use Rattle.run_laws.specs.Cards.{whole}
+use Rattle.run_laws.proofs.Small.{le_t, lt_t}
 use Rattle.net_cells.specs.Numbered.{zero_curve}
 use Rattle.net_cells.specs.Equations.{MeetsEquations}
 use Rattle.net_cells.specs.Meanings.{CellTable}

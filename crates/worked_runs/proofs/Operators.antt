@@ -1,33 +1,33 @@
 -- What each operator makes of token buckets and rates after a latency.
 use Rattle.std.specs.Prelude.{◌≡◌, ℕ}
 use Rattle.std.proofs.Common.{arith, sym, ap, ap₂, ◌∙◌, subst, inl, inr}
-use Rattle.upp_limits.specs.rational.specs.Rational.{ℚ, ◌+ℚ◌, ◌-ℚ◌, ◌*ℚ◌, ◌/ℚ◌, ◌≤ℚ◌, ◌<ℚ◌}
-use Rattle.upp_limits.specs.rational.specs.MinMax.{max_q}
-use Rattle.upp_limits.specs.rational.specs.Extended.{Ext, ◌+ₑ◌}
-use Rattle.upp_limits.specs.rational.specs.declared.Extended.TheVariants.{Fin}
-use Rattle.upp_limits.specs.rational.proofs.Laws.{le_refl, le_or_lt, le_of_lt, le_trans, mul_assoc, mul_add, sub_mul, add_mul, mul_zero, zero_mul, mul_le_mul, mul_nonneg, not_zero}
-use Rattle.upp_limits.specs.rational.proofs.Quotients.{div_unique, zero_div}
-use Rattle.upp_limits.specs.rational.proofs.MinMax.{max_q_right, max_q_is_left, max_q_ge_left, max_q_le, le_q_not}
-use Rattle.upp_limits.specs.rational.proofs.Over.{le_q_out}
-use Rattle.upp_limits.specs.rational.proofs.Bounds.{least_member}
-use Rattle.upp_limits.specs.rational.proofs.ExtendedOrder.{le_ext_refl, min_ext_of_le}
-use Rattle.upp_limits.specs.rational.proofs.Linear.{with1, with2, with3, with4, with5, with6}
-use Rattle.upp_limits.specs.min_plus.specs.Functions.{zero_q, IsRising, From}
-use Rattle.upp_limits.specs.min_plus.specs.Formulas.{IsBucket, IsPacketised, rate_latency_value}
-use Rattle.upp_limits.specs.min_plus.specs.Pointwise.{excess, scaled}
-use Rattle.upp_limits.specs.min_plus.specs.Running.{left_after, IsRunningInfimum, IsRunningSupremum}
-use Rattle.upp_limits.specs.min_plus.specs.Convolution.{IsConvolution, IsDeconvolution}
-use Rattle.upp_limits.specs.min_plus.specs.Deviations.{IsHorizontalDeviation, IsVerticalDeviation}
-use Rattle.upp_limits.specs.min_plus.proofs.BucketDelay.{horizontal_finite, horizontal_zero}
-use Rattle.upp_limits.specs.min_plus.proofs.BucketBacklog.{vertical_finite}
-use Rattle.upp_limits.specs.min_plus.proofs.BucketOperators.{rising_run_sup, bucket_deconvolution, service_convolution}
+use Rattle.rational.specs.Rational.{ℚ, ◌+ℚ◌, ◌-ℚ◌, ◌*ℚ◌, ◌/ℚ◌, ◌≤ℚ◌, ◌<ℚ◌}
+use Rattle.rational.specs.MinMax.{max_q}
+use Rattle.rational.specs.Extended.{Ext, ◌+ₑ◌}
+use Rattle.rational.specs.declared.Extended.TheVariants.{Fin}
+use Rattle.rational.proofs.Laws.{le_refl, le_or_lt, le_of_lt, le_trans, mul_assoc, mul_add, sub_mul, add_mul, mul_zero, zero_mul, mul_le_mul, mul_nonneg, not_zero}
+use Rattle.rational.proofs.Quotients.{div_unique, zero_div}
+use Rattle.rational.proofs.MinMax.{max_q_right, max_q_is_left, max_q_ge_left, max_q_le, le_q_not}
+use Rattle.rational.proofs.Over.{le_q_out}
+use Rattle.rational.proofs.Bounds.{least_member}
+use Rattle.rational.proofs.ExtendedOrder.{le_ext_refl, min_ext_of_le}
+use Rattle.rational.proofs.Linear.{with1, with2, with3, with4, with5, with6}
+use Rattle.min_plus.specs.Functions.{zero_q, IsRising, From}
+use Rattle.min_plus.specs.Formulas.{IsBucket, IsPacketised, rate_latency_value}
+use Rattle.min_plus.specs.Pointwise.{excess, scaled}
+use Rattle.min_plus.specs.Running.{left_after, IsRunningInfimum, IsRunningSupremum}
+use Rattle.min_plus.specs.Convolution.{IsConvolution, IsDeconvolution}
+use Rattle.min_plus.specs.Deviations.{IsHorizontalDeviation, IsVerticalDeviation}
+use Rattle.min_plus.proofs.BucketDelay.{horizontal_finite, horizontal_zero}
+use Rattle.min_plus.proofs.BucketBacklog.{vertical_finite}
+use Rattle.min_plus.proofs.BucketOperators.{rising_run_sup, bucket_deconvolution, service_convolution}
 use Rattle.upp_limits.specs.declared.op_kind.OpKind.TheVariants.{Sum, Min, PosMinus, Shift, FifoLeft, Convolve, Deconvolve}
-use Rattle.upp_limits.specs.upp_curve.specs.Curve.{SpecCurve, value_at}
-use Rattle.upp_limits.specs.upp_curve.specs.Curves.{IsCurve}
-use Rattle.upp_limits.specs.upp_curve.specs.Kinds.{bucket, rate_latency}
+use Rattle.upp_curve.specs.Curve.{SpecCurve, value_at}
+use Rattle.upp_curve.specs.Curves.{IsCurve}
+use Rattle.upp_curve.specs.Kinds.{bucket, rate_latency}
 use Rattle.curve_call.specs.Answers.{IsMadeBy}
-use Rattle.net_model.specs.run_laws.proofs.Latency.{latency_rises}
-use Rattle.net_model.specs.run_laws.specs.Cards.{whole}
+use Rattle.run_laws.proofs.Latency.{latency_rises}
+use Rattle.run_laws.specs.Cards.{whole}
 use Rattle.residual_laws.specs.PriorityLaws.{priority_left}
 use Rattle.net_cells.specs.Means.{IsPriorityCurve}
 use Rattle.worked_runs.proofs.Curves.{IsBurst, IsLate}

@@ -1,22 +1,22 @@
 -- The curves that several worked networks have, and sums and products of their numbers, by computing.
 use Rattle.std.specs.Prelude.{◌≡◌, [], ◌∷◌}
 use Rattle.std.proofs.Common.{refl, ap, ◌∙◌}
-use Rattle.upp_limits.specs.rational.specs.Rational.{◌-ℚ◌, ◌*ℚ◌}
-use Rattle.upp_limits.specs.rational.specs.declared.Extended.TheVariants.{Fin}
-use Rattle.upp_limits.specs.rational.specs.Fractions.{same_parts}
-use Rattle.upp_limits.specs.rational.specs.Extended.{Ext, ◌+ₑ◌, min_ext}
-use Rattle.upp_limits.specs.rational.proofs.ExtendedOrder.{add_zero_ext, le_ext_refl, min_ext_of_le}
-use Rattle.upp_limits.specs.min_plus.specs.Functions.{zero_q}
-use Rattle.upp_limits.specs.min_plus.specs.Formulas.{IsBucket}
-use Rattle.upp_limits.specs.min_plus.specs.Deviations.{IsHorizontalDeviation, IsVerticalDeviation}
+use Rattle.rational.specs.Rational.{◌-ℚ◌, ◌*ℚ◌}
+use Rattle.rational.specs.declared.Extended.TheVariants.{Fin}
+use Rattle.rational.specs.Fractions.{same_parts}
+use Rattle.rational.specs.Extended.{Ext, ◌+ₑ◌, min_ext}
+use Rattle.rational.proofs.ExtendedOrder.{add_zero_ext, le_ext_refl, min_ext_of_le}
+use Rattle.min_plus.specs.Functions.{zero_q}
+use Rattle.min_plus.specs.Formulas.{IsBucket}
+use Rattle.min_plus.specs.Deviations.{IsHorizontalDeviation, IsVerticalDeviation}
 use Rattle.upp_limits.specs.declared.op_kind.OpKind.TheVariants.{PosMinus, FifoLeft}
-use Rattle.upp_limits.specs.upp_curve.specs.Curve.{SpecCurve, value_at}
-use Rattle.upp_limits.specs.upp_curve.specs.Kinds.{bucket, rate_latency}
+use Rattle.upp_curve.specs.Curve.{SpecCurve, value_at}
+use Rattle.upp_curve.specs.Kinds.{bucket, rate_latency}
 use Rattle.curve_call.specs.Answers.{IsMadeBy}
-use Rattle.net_model.specs.run_laws.proofs.Small.{le_t, lt_t}
-use Rattle.upp_limits.specs.upp_curve.proofs.KindValues.{bucket_is}
-use Rattle.upp_limits.specs.upp_curve.proofs.Worked.{computing}
-use Rattle.net_model.specs.run_laws.specs.Cards.{whole}
+use Rattle.run_laws.proofs.Small.{le_t, lt_t}
+use Rattle.upp_curve.proofs.KindValues.{bucket_is}
+use Rattle.upp_curve.proofs.Worked.{computing}
+use Rattle.run_laws.specs.Cards.{whole}
 use Rattle.net_cells.specs.NumberSums.{sum_of_numbers}
 use Rattle.worked_runs.proofs.Curves.{IsBurst, burst_by, IsLate, late_by}
 use Rattle.worked_runs.proofs.Operators.{less_packet, alone_left, delay_of, backlog_of}

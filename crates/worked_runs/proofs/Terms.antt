@@ -1,10 +1,10 @@
 -- Sums over what a server sees, of which two terms are not 0: arrivals, and work.
 use Rattle.std.specs.Prelude.{◌≡◌}
 use Rattle.std.proofs.Common.{ap, ◌∙◌}
-use Rattle.upp_limits.specs.rational.specs.Rational.{ℚ, ◌+ℚ◌}
-use Rattle.upp_limits.specs.rational.proofs.Laws.{add_zero}
-use Rattle.upp_limits.specs.min_plus.specs.Functions.{zero_q}
-use Rattle.net_model.specs.run_laws.proofs.Sums.{add_nothing}
+use Rattle.rational.specs.Rational.{ℚ, ◌+ℚ◌}
+use Rattle.rational.proofs.Laws.{add_zero}
+use Rattle.min_plus.specs.Functions.{zero_q}
+use Rattle.run_laws.proofs.Sums.{add_nothing}
 
 -- two packets arrive, and each is worked on and leaves
 pub both_arrive : (u v : ℚ) → u +ℚ (v +ℚ (zero_q +ℚ (zero_q +ℚ (zero_q +ℚ (zero_q +ℚ zero_q))))) ≡ u +ℚ v

@@ -1,7 +1,7 @@
 -- Two flows in one first in, first out queue reach their bounds.
 use Rattle.std.specs.Prelude.{codes}
 use Rattle.std.proofs.Common.{[], ◌∷◌, refl, arith}
-use Rattle.net_model.specs.run_laws.specs.Cards.{whole}
+use Rattle.run_laws.specs.Cards.{whole}
 use Rattle.net_model.specs.Accepted.{IsFlow, IsAccepted}
 use Rattle.net_model.specs.Orders.{IsOrder}
 use Rattle.net_model.proofs.Short.{named_by_two}

@@ -1,16 +1,16 @@
 -- Two packets in one first in, first out queue.
 use Rattle.std.specs.Prelude.{true, ◌&&◌, [], ◌∷◌}
 use Rattle.std.proofs.Common.{arith, ap, refl, inl}
-use Rattle.upp_limits.specs.rational.specs.Rational.{ℚ, lt_q}
-use Rattle.upp_limits.specs.rational.proofs.Linear.{with1}
-use Rattle.net_model.specs.run_laws.specs.Cards.{whole}
-use Rattle.net_model.specs.run_laws.specs.Servers.{Fifo, clip}
-use Rattle.net_model.specs.run_laws.specs.Counts.{when}
-use Rattle.net_model.specs.run_laws.specs.Lawful.{IsLawful}
-use Rattle.net_model.specs.run_laws.specs.Routes.{Routes}
-use Rattle.net_model.specs.run_laws.specs.Views.{view}
-use Rattle.net_model.specs.run_laws.proofs.Small.{sum_t, enters, works, leaves}
-use Rattle.net_model.specs.run_laws.proofs.SmallRuns.{one_idle, none_due}
+use Rattle.rational.specs.Rational.{ℚ, lt_q}
+use Rattle.rational.proofs.Linear.{with1}
+use Rattle.run_laws.specs.Cards.{whole}
+use Rattle.run_laws.specs.Servers.{Fifo, clip}
+use Rattle.run_laws.specs.Counts.{when}
+use Rattle.run_laws.specs.Lawful.{IsLawful}
+use Rattle.run_laws.specs.Routes.{Routes}
+use Rattle.run_laws.specs.Views.{view}
+use Rattle.run_laws.proofs.Small.{sum_t, enters, works, leaves}
+use Rattle.run_laws.proofs.SmallRuns.{one_idle, none_due}
 use Rattle.net_bounds.specs.NetRuns.{routes_of}
 use Rattle.worked_runs.specs.TwoFlows.{two_flows, first_flow_last, second_flow_last}
 use Rattle.worked_runs.specs.Reached.{HasDelay}

@@ -1,8 +1,8 @@
 -- Two flows at a priority server reach their bounds.
 use Rattle.std.specs.Prelude.{codes}
 use Rattle.std.proofs.Common.{[], ◌∷◌, refl, arith}
-use Rattle.net_model.specs.run_laws.specs.Cards.{whole}
-use Rattle.net_model.specs.run_laws.specs.Servers.{Priority}
+use Rattle.run_laws.specs.Cards.{whole}
+use Rattle.run_laws.specs.Servers.{Priority}
 use Rattle.net_model.specs.Accepted.{IsServer, IsFlow, IsAccepted}
 use Rattle.net_model.specs.Networks.{NetServer, NetFlow}
 use Rattle.net_model.specs.Orders.{IsOrder}

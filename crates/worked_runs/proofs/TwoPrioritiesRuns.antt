@@ -1,27 +1,27 @@
 -- Two packets at a priority server.
 use Rattle.std.specs.Prelude.{◌≡◌, ◌⊎◌, true, ◌&&◌, [], ◌∷◌}
 use Rattle.std.proofs.Common.{arith, ap, ap₂, ◌∙◌, refl, sym, inl, inr}
-use Rattle.upp_limits.specs.rational.specs.Rational.{ℚ, ◌+ℚ◌, ◌-ℚ◌, ◌≤ℚ◌, ◌<ℚ◌, lt_q}
-use Rattle.upp_limits.specs.rational.proofs.Integers.{nat_nonneg}
-use Rattle.upp_limits.specs.rational.proofs.Linear.{with1, with3, with4, with6}
-use Rattle.upp_limits.specs.upp_curve.specs.Curve.{value_at}
-use Rattle.upp_limits.specs.upp_curve.specs.Kinds.{rate_latency}
-use Rattle.upp_limits.specs.upp_curve.proofs.KindValues.{service_is}
-use Rattle.net_model.specs.run_laws.specs.Cards.{whole, all}
-use Rattle.net_model.specs.run_laws.specs.Servers.{Priority, Span, clip}
-use Rattle.net_model.specs.run_laws.specs.Counts.{when, arrived, worked}
-use Rattle.net_model.specs.run_laws.specs.Premises.{KeepsService}
-use Rattle.net_model.specs.run_laws.specs.Lawful.{IsLawful}
-use Rattle.net_model.specs.run_laws.specs.Routes.{Routes}
-use Rattle.net_model.specs.run_laws.specs.Views.{view}
-use Rattle.net_model.specs.run_laws.proofs.Small.{le_t, lt_t, sum_t, enters, works, leaves}
-use Rattle.net_model.specs.run_laws.proofs.Clips.{clip_early, clip_late}
-use Rattle.upp_limits.specs.rational.proofs.Laws.{le_or_lt, le_of_lt, le_trans}
-use Rattle.upp_limits.specs.rational.specs.Rational.{◌*ℚ◌}
+use Rattle.rational.specs.Rational.{ℚ, ◌+ℚ◌, ◌-ℚ◌, ◌≤ℚ◌, ◌<ℚ◌, lt_q}
+use Rattle.rational.proofs.Integers.{nat_nonneg}
+use Rattle.rational.proofs.Linear.{with1, with3, with4, with6}
+use Rattle.upp_curve.specs.Curve.{value_at}
+use Rattle.upp_curve.specs.Kinds.{rate_latency}
+use Rattle.upp_curve.proofs.KindValues.{service_is}
+use Rattle.run_laws.specs.Cards.{whole, all}
+use Rattle.run_laws.specs.Servers.{Priority, Span, clip}
+use Rattle.run_laws.specs.Counts.{when, arrived, worked}
+use Rattle.run_laws.specs.Premises.{KeepsService}
+use Rattle.run_laws.specs.Lawful.{IsLawful}
+use Rattle.run_laws.specs.Routes.{Routes}
+use Rattle.run_laws.specs.Views.{view}
+use Rattle.run_laws.proofs.Small.{le_t, lt_t, sum_t, enters, works, leaves}
+use Rattle.run_laws.proofs.Clips.{clip_early, clip_late}
+use Rattle.rational.proofs.Laws.{le_or_lt, le_of_lt, le_trans}
+use Rattle.rational.specs.Rational.{◌*ℚ◌}
 use Rattle.worked_trees.proofs.Busy.{not_yet, in_span, span_at_rate, service_at_most, IsBusyOnly, keeps_latency}
-use Rattle.net_model.specs.run_laws.proofs.Sums.{when_true}
-use Rattle.net_model.specs.run_laws.proofs.Sizes.{whole_times}
-use Rattle.net_model.specs.run_laws.proofs.SmallRuns.{one_idle, none_due}
+use Rattle.run_laws.proofs.Sums.{when_true}
+use Rattle.run_laws.proofs.Sizes.{whole_times}
+use Rattle.run_laws.proofs.SmallRuns.{one_idle, none_due}
 use Rattle.net_bounds.specs.NetRuns.{routes_of}
 use Rattle.worked_runs.specs.TwoPriorities.{two_priorities, lower_first, higher_first}
 use Rattle.worked_runs.specs.Reached.{HasDelay}

@@ -1,8 +1,8 @@
 -- Two flows at a deficit round robin server stay below their bounds.
 use Rattle.std.specs.Prelude.{All, codes}
 use Rattle.std.proofs.Common.{zero, suc, [], ◌∷◌, refl, arith}
-use Rattle.net_model.specs.run_laws.specs.Cards.{whole}
-use Rattle.net_model.specs.run_laws.specs.Servers.{Drr}
+use Rattle.run_laws.specs.Cards.{whole}
+use Rattle.run_laws.specs.Servers.{Drr}
 use Rattle.net_model.specs.Accepted.{IsLength, IsServer, IsFlow, IsAccepted}
 use Rattle.net_model.specs.Networks.{NetServer, NetFlow}
 use Rattle.net_model.specs.Orders.{IsOrder}

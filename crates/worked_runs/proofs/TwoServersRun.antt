@@ -1,26 +1,26 @@
 -- One packet over two servers with links of 5.
 use Rattle.std.specs.Prelude.{◌≡◌, ◌<◌, ℕ, zero, suc, true, ◌&&◌, [], ◌∷◌}
 use Rattle.std.proofs.Common.{arith, sym, ap, ◌∙◌, refl, inl, inr}
-use Rattle.upp_limits.specs.rational.specs.Rational.{ℚ, ◌+ℚ◌, ◌-ℚ◌, lt_q}
-use Rattle.upp_limits.specs.rational.specs.Extended.{Ext}
-use Rattle.upp_limits.specs.rational.proofs.Laws.{le_refl, le_trans}
-use Rattle.upp_limits.specs.rational.proofs.Over.{le_q_out}
-use Rattle.upp_limits.specs.rational.proofs.Linear.{with1, with2, with3}
-use Rattle.upp_limits.specs.min_plus.specs.Formulas.{IsService}
-use Rattle.net_model.specs.run_laws.specs.Cards.{whole, all}
-use Rattle.net_model.specs.run_laws.specs.Servers.{Span, clip}
-use Rattle.net_model.specs.run_laws.specs.Counts.{when, arrived, worked}
-use Rattle.net_model.specs.run_laws.specs.Premises.{KeepsService}
-use Rattle.net_model.specs.run_laws.specs.FlowDelays.{delays}
-use Rattle.net_model.specs.run_laws.specs.Lawful.{IsLawful}
-use Rattle.net_model.specs.run_laws.specs.Routes.{Routes}
-use Rattle.net_model.specs.run_laws.specs.Views.{view}
-use Rattle.net_model.specs.run_laws.proofs.Clips.{clip_early, clip_late}
-use Rattle.net_model.specs.run_laws.proofs.Small.{le_t, lt_t, sum_t, enters, works, leaves}
-use Rattle.net_model.specs.run_laws.proofs.Sums.{when_true, when_most}
-use Rattle.net_model.specs.run_laws.proofs.Sizes.{whole_times}
-use Rattle.net_model.specs.run_laws.proofs.OverALink.{two_idle}
-use Rattle.net_model.specs.run_laws.proofs.SmallRuns.{none_due}
+use Rattle.rational.specs.Rational.{ℚ, ◌+ℚ◌, ◌-ℚ◌, lt_q}
+use Rattle.rational.specs.Extended.{Ext}
+use Rattle.rational.proofs.Laws.{le_refl, le_trans}
+use Rattle.rational.proofs.Over.{le_q_out}
+use Rattle.rational.proofs.Linear.{with1, with2, with3}
+use Rattle.min_plus.specs.Formulas.{IsService}
+use Rattle.run_laws.specs.Cards.{whole, all}
+use Rattle.run_laws.specs.Servers.{Span, clip}
+use Rattle.run_laws.specs.Counts.{when, arrived, worked}
+use Rattle.run_laws.specs.Premises.{KeepsService}
+use Rattle.run_laws.specs.FlowDelays.{delays}
+use Rattle.run_laws.specs.Lawful.{IsLawful}
+use Rattle.run_laws.specs.Routes.{Routes}
+use Rattle.run_laws.specs.Views.{view}
+use Rattle.run_laws.proofs.Clips.{clip_early, clip_late}
+use Rattle.run_laws.proofs.Small.{le_t, lt_t, sum_t, enters, works, leaves}
+use Rattle.run_laws.proofs.Sums.{when_true, when_most}
+use Rattle.run_laws.proofs.Sizes.{whole_times}
+use Rattle.run_laws.proofs.OverALink.{two_idle}
+use Rattle.run_laws.proofs.SmallRuns.{none_due}
 use Rattle.net_bounds.specs.NetRuns.{routes_of}
 use Rattle.worked_runs.specs.TwoServers.{two_servers, over_both}
 use Rattle.worked_trees.proofs.Busy.{none_over, IsAtRate, keeps_at_rate, service_at_most, span_at_rate, not_yet}

@@ -1,8 +1,8 @@
 -- One packet through one server: the packet of 12000 bits enters at 0, and is worked on from 10 to 130.
 use Rattle.std.specs.Prelude.{[], ◌∷◌, codes, Some}
-use Rattle.net_model.specs.run_laws.specs.Cards.{whole}
-use Rattle.net_model.specs.run_laws.specs.Examples.{one_packet}
-use Rattle.net_model.specs.run_laws.specs.Servers.{Fifo}
+use Rattle.run_laws.specs.Cards.{whole}
+use Rattle.run_laws.specs.Examples.{one_packet}
+use Rattle.run_laws.specs.Servers.{Fifo}
 use Rattle.net_model.specs.Networks.{Net}
 use Rattle.worked_runs.specs.Parts.{late_server, first_flow}
 use Rattle.worked_runs.specs.Reached.{ReachesItsBound}

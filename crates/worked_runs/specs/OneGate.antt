@@ -1,12 +1,12 @@
 -- One packet through a gate that is open for the last 250 of each 1000: it enters when the gate closes, and is worked
 -- on from 750 to 990. The flow sends a packet each 1500.
 use Rattle.std.specs.Prelude.{[], ◌∷◌, codes, Some}
-use Rattle.net_model.specs.run_laws.specs.declared.steps.Step.TheVariants.{Enter, Work, Leave}
-use Rattle.net_model.specs.run_laws.specs.Runs.{SpecRun}
-use Rattle.net_model.specs.run_laws.specs.Cards.{whole}
-use Rattle.net_model.specs.run_laws.specs.Examples.{ends_at}
-use Rattle.net_model.specs.run_laws.specs.Servers.{Fifo}
-use Rattle.upp_limits.specs.upp_curve.specs.Kinds.{gate, stair}
+use Rattle.run_laws.specs.declared.steps.Step.TheVariants.{Enter, Work, Leave}
+use Rattle.run_laws.specs.Runs.{SpecRun}
+use Rattle.run_laws.specs.Cards.{whole}
+use Rattle.run_laws.specs.Examples.{ends_at}
+use Rattle.run_laws.specs.Servers.{Fifo}
+use Rattle.upp_curve.specs.Kinds.{gate, stair}
 use Rattle.net_model.specs.declared.server.ServiceKind.TheVariants.{Gate}
 use Rattle.net_model.specs.Networks.{Net, NetServer, NetFlow}
 use Rattle.worked_runs.specs.Reached.{ReachesItsBound}

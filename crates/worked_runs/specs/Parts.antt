@@ -1,9 +1,9 @@
 -- What the worked networks are made of: servers with 100 bits a unit of time after a latency of 10, and flows that are
 -- token buckets. (Own choice.)
 use Rattle.std.specs.Prelude.{ℕ, List, [], ◌∷◌, codes}
-use Rattle.upp_limits.specs.upp_curve.specs.Kinds.{bucket, rate_latency}
-use Rattle.net_model.specs.run_laws.specs.Cards.{whole}
-use Rattle.net_model.specs.run_laws.specs.Servers.{Discipline}
+use Rattle.upp_curve.specs.Kinds.{bucket, rate_latency}
+use Rattle.run_laws.specs.Cards.{whole}
+use Rattle.run_laws.specs.Servers.{Discipline}
 use Rattle.net_model.specs.declared.server.ServiceKind.TheVariants.{Latency}
 use Rattle.net_model.specs.Networks.{NetServer, NetFlow}
 

@@ -2,10 +2,10 @@
 -- has a table; the flow's bound there is that of every table that meets the equations. (Le Boudec and Thiran; Bouillard,
 -- Boyer and Le Corronc: total-flow and separate-flow analysis. The networks and the runs are our own choice.)
 use Rattle.std.specs.Prelude.{◌≡◌, ℕ, List, [], ◌∷◌, Some}
-use Rattle.upp_limits.specs.rational.specs.Rational.{ℚ}
-use Rattle.upp_limits.specs.rational.specs.declared.Extended.TheVariants.{Fin}
-use Rattle.net_model.specs.run_laws.specs.Runs.{SpecRun}
-use Rattle.net_model.specs.run_laws.specs.FlowDelays.{delays}
+use Rattle.rational.specs.Rational.{ℚ}
+use Rattle.rational.specs.declared.Extended.TheVariants.{Fin}
+use Rattle.run_laws.specs.Runs.{SpecRun}
+use Rattle.run_laws.specs.FlowDelays.{delays}
 use Rattle.net_model.specs.Networks.{Net}
 use Rattle.net_model.specs.Accepted.{IsAccepted}
 use Rattle.net_model.specs.Orders.{IsOrder}

@@ -1,10 +1,10 @@
 -- Two packets in one first in, first out queue: both enter at 0, and the second leaves when both are worked off.
 use Rattle.std.specs.Prelude.{[], ◌∷◌, codes, Some}
-use Rattle.net_model.specs.run_laws.specs.declared.steps.Step.TheVariants.{Enter, Work, Leave}
-use Rattle.net_model.specs.run_laws.specs.Runs.{SpecRun}
-use Rattle.net_model.specs.run_laws.specs.Cards.{whole}
-use Rattle.net_model.specs.run_laws.specs.Examples.{ends_at}
-use Rattle.net_model.specs.run_laws.specs.Servers.{Fifo}
+use Rattle.run_laws.specs.declared.steps.Step.TheVariants.{Enter, Work, Leave}
+use Rattle.run_laws.specs.Runs.{SpecRun}
+use Rattle.run_laws.specs.Cards.{whole}
+use Rattle.run_laws.specs.Examples.{ends_at}
+use Rattle.run_laws.specs.Servers.{Fifo}
 use Rattle.net_model.specs.Networks.{Net}
 use Rattle.worked_runs.specs.Parts.{late_server, first_flow, second_flow}
 use Rattle.worked_runs.specs.Reached.{ReachesItsBound}

@@ -1,11 +1,11 @@
 -- Two packets at a priority server, each of a flow that sends one packet and no more. A packet is not broken off: the
 -- one of queue 1 that is there first keeps the one of queue 0 waiting.
 use Rattle.std.specs.Prelude.{[], ◌∷◌, codes, Some}
-use Rattle.net_model.specs.run_laws.specs.declared.steps.Step.TheVariants.{Enter, Work, Leave}
-use Rattle.net_model.specs.run_laws.specs.Runs.{SpecRun}
-use Rattle.net_model.specs.run_laws.specs.Cards.{whole}
-use Rattle.net_model.specs.run_laws.specs.Examples.{ends_at}
-use Rattle.net_model.specs.run_laws.specs.Servers.{Priority}
+use Rattle.run_laws.specs.declared.steps.Step.TheVariants.{Enter, Work, Leave}
+use Rattle.run_laws.specs.Runs.{SpecRun}
+use Rattle.run_laws.specs.Cards.{whole}
+use Rattle.run_laws.specs.Examples.{ends_at}
+use Rattle.run_laws.specs.Servers.{Priority}
 use Rattle.net_model.specs.Networks.{Net}
 use Rattle.worked_runs.specs.Parts.{late_server, bucket_flow}
 use Rattle.worked_runs.specs.Reached.{ReachesItsBound}

@@ -1,11 +1,11 @@
 -- Two packets at a deficit round robin server. They stay well below their bounds: the law counts whole rounds of the other
 -- queue, and a deficit of one packet.
 use Rattle.std.specs.Prelude.{[], ◌∷◌, codes, Some}
-use Rattle.net_model.specs.run_laws.specs.declared.steps.Step.TheVariants.{Enter, Work, Leave, Visit}
-use Rattle.net_model.specs.run_laws.specs.Runs.{SpecRun}
-use Rattle.net_model.specs.run_laws.specs.Cards.{whole}
-use Rattle.net_model.specs.run_laws.specs.Examples.{ends_at}
-use Rattle.net_model.specs.run_laws.specs.Servers.{Drr}
+use Rattle.run_laws.specs.declared.steps.Step.TheVariants.{Enter, Work, Leave, Visit}
+use Rattle.run_laws.specs.Runs.{SpecRun}
+use Rattle.run_laws.specs.Cards.{whole}
+use Rattle.run_laws.specs.Examples.{ends_at}
+use Rattle.run_laws.specs.Servers.{Drr}
 use Rattle.net_model.specs.Networks.{Net}
 use Rattle.worked_runs.specs.Parts.{late_server, first_flow, bucket_flow}
 use Rattle.worked_runs.specs.Reached.{HasBound, HasDelay}

@@ -1,12 +1,12 @@
 -- One packet through two servers with links of 5: it is worked on from 10 to 130, reaches the second server at 135, is
 -- worked on there from 145 to 265, and is through that link at 270.
 use Rattle.std.specs.Prelude.{[], ◌∷◌, codes, Some}
-use Rattle.upp_limits.specs.rational.specs.Rational.{◌+ℚ◌}
-use Rattle.net_model.specs.run_laws.specs.declared.steps.Step.TheVariants.{Enter, Reach, Work, Leave}
-use Rattle.net_model.specs.run_laws.specs.Runs.{SpecRun}
-use Rattle.net_model.specs.run_laws.specs.Cards.{whole}
-use Rattle.net_model.specs.run_laws.specs.Examples.{ends_at}
-use Rattle.net_model.specs.run_laws.specs.Servers.{Fifo}
+use Rattle.rational.specs.Rational.{◌+ℚ◌}
+use Rattle.run_laws.specs.declared.steps.Step.TheVariants.{Enter, Reach, Work, Leave}
+use Rattle.run_laws.specs.Runs.{SpecRun}
+use Rattle.run_laws.specs.Cards.{whole}
+use Rattle.run_laws.specs.Examples.{ends_at}
+use Rattle.run_laws.specs.Servers.{Fifo}
 use Rattle.net_model.specs.Networks.{Net}
 use Rattle.worked_runs.specs.Parts.{late_server, bucket_flow}
 use Rattle.worked_runs.specs.Reached.{ReachesItsBound}

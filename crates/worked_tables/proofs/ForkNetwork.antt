@@ -2,9 +2,9 @@
 use Rattle.std.specs.Prelude.{Some, None, ◌≡◌, ℕ, zero, suc, ◌*◌, ◌<◌, ◌≤◌, pos, true, List, [], ◌∷◌, length, get_or, map, All}
 use Rattle.std.proofs.Common.{arith, sym, ap, ◌∙◌, refl, subst}
 use Rattle.std.proofs.lemmas.Int.{ints}
-use Rattle.min_plus.specs.rational.specs.Rational.{ℚ}
-use Rattle.min_plus.specs.rational.specs.Fractions.{frac-same}
-use Rattle.min_plus.specs.rational.proofs.Over.{mul_frac}
+use Rattle.rational.specs.Rational.{ℚ}
+use Rattle.rational.specs.Fractions.{frac-same}
+use Rattle.rational.proofs.Over.{mul_frac}
 use Rattle.run_laws.specs.Cards.{whole}
 use Rattle.run_laws.specs.Servers as servers
 use Rattle.tree_runs.specs.Trees as trees

@@ -2,9 +2,9 @@
 use Rattle.std.specs.Prelude.{◌≡◌, ℕ, zero, suc, pos, ◌<◌, List, [], ◌∷◌, map, slice_get}
 use Rattle.std.proofs.Common.{arith, refl, sym, ap, ◌∙◌, subst}
 use Rattle.min_plus.specs.Formulas.{stair_value}
-use Rattle.min_plus.specs.rational.specs.Rational.{ℚ, ◌*ℚ◌}
-use Rattle.min_plus.specs.rational.specs.Fractions.{frac-same}
-use Rattle.min_plus.specs.rational.proofs.Over.{mul_frac}
+use Rattle.rational.specs.Rational.{ℚ, ◌*ℚ◌}
+use Rattle.rational.specs.Fractions.{frac-same}
+use Rattle.rational.proofs.Over.{mul_frac}
 use Rattle.run_laws.specs.Cards.{whole}
 use Rattle.run_laws.specs.Premises.{KeepsService}
 use Rattle.run_laws.specs.RunPremises.{KeepsPremises}

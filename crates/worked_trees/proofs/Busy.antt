@@ -1,15 +1,15 @@
 -- Work at an even pace, and how a server that has nothing to do up to some time keeps a curve from then on.
 use Rattle.std.specs.Prelude.{◌≡◌, ◌⊎◌, List, true, ◌&&◌}
 use Rattle.std.proofs.Common.{arith, sym, ap, ◌∙◌, inl, inr}
-use Rattle.min_plus.specs.rational.specs.Rational.{ℚ, ◌+ℚ◌, ◌-ℚ◌, ◌*ℚ◌, ◌/ℚ◌, ◌≤ℚ◌, ◌<ℚ◌, lt_q}
-use Rattle.min_plus.specs.rational.specs.MinMax.{max_q}
-use Rattle.min_plus.specs.rational.specs.Extended.{Ext, ◌≤ₑ◌, ◌+ₑ◌}
-use Rattle.min_plus.specs.rational.specs.declared.Extended.TheVariants.{Fin}
-use Rattle.min_plus.specs.rational.proofs.Laws.{le_refl, le_or_lt, le_of_lt, le_lt_trans, lt_trans, between, antisym, mul_comm, mul_assoc, mul_zero, mul_add, mul_le_mul, mul_cancel, not_zero}
-use Rattle.min_plus.specs.rational.proofs.ExtendedOrder.{le_ext_trans, add_le_ext}
-use Rattle.min_plus.specs.rational.proofs.MinMax.{max_q_left, max_q_right, le_q_not, lt_q_not}
-use Rattle.min_plus.specs.rational.proofs.Over.{le_q_out}
-use Rattle.min_plus.specs.rational.proofs.Linear.{with2, with3, with4, with5, with6}
+use Rattle.rational.specs.Rational.{ℚ, ◌+ℚ◌, ◌-ℚ◌, ◌*ℚ◌, ◌/ℚ◌, ◌≤ℚ◌, ◌<ℚ◌, lt_q}
+use Rattle.rational.specs.MinMax.{max_q}
+use Rattle.rational.specs.Extended.{Ext, ◌≤ₑ◌, ◌+ₑ◌}
+use Rattle.rational.specs.declared.Extended.TheVariants.{Fin}
+use Rattle.rational.proofs.Laws.{le_refl, le_or_lt, le_of_lt, le_lt_trans, lt_trans, between, antisym, mul_comm, mul_assoc, mul_zero, mul_add, mul_le_mul, mul_cancel, not_zero}
+use Rattle.rational.proofs.ExtendedOrder.{le_ext_trans, add_le_ext}
+use Rattle.rational.proofs.MinMax.{max_q_left, max_q_right, le_q_not, lt_q_not}
+use Rattle.rational.proofs.Over.{le_q_out}
+use Rattle.rational.proofs.Linear.{with2, with3, with4, with5, with6}
 use Rattle.min_plus.specs.Functions.{zero_q}
 use Rattle.min_plus.specs.Formulas.{IsService, rate_latency_value}
 use Rattle.run_laws.specs.Cards.{all, ServerStep}

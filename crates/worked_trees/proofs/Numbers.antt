@@ -1,17 +1,17 @@
 -- How far the stair of the flow lies from the service of a server.
 use Rattle.std.specs.Prelude.{◌≡◌, suc, pos}
 use Rattle.std.proofs.Common.{arith, refl, subst, inl, inr}
-use Rattle.min_plus.specs.rational.specs.Rational.{ℚ, int, ◌+ℚ◌, ◌-ℚ◌, ◌*ℚ◌, ◌/ℚ◌, ◌≤ℚ◌}
-use Rattle.min_plus.specs.rational.specs.MinMax.{max_q}
-use Rattle.min_plus.specs.rational.specs.Whole.{whole_part}
-use Rattle.min_plus.specs.rational.specs.Extended.{Ext, ◌≤ₑ◌}
-use Rattle.min_plus.specs.rational.specs.declared.Extended.TheVariants.{Fin}
-use Rattle.min_plus.specs.rational.proofs.Integers.{nat_le, nat_next, le_or_more}
-use Rattle.min_plus.specs.rational.proofs.Laws.{mul_comm}
-use Rattle.min_plus.specs.rational.proofs.Linear.{with2, with5, with7}
-use Rattle.min_plus.specs.rational.proofs.MinMax.{max_q_ge_left, max_q_ge_right}
-use Rattle.min_plus.specs.rational.proofs.Quotients.{div_nonneg, le_div}
-use Rattle.min_plus.specs.rational.proofs.Whole.{whole_le}
+use Rattle.rational.specs.Rational.{ℚ, int, ◌+ℚ◌, ◌-ℚ◌, ◌*ℚ◌, ◌/ℚ◌, ◌≤ℚ◌}
+use Rattle.rational.specs.MinMax.{max_q}
+use Rattle.rational.specs.Whole.{whole_part}
+use Rattle.rational.specs.Extended.{Ext, ◌≤ₑ◌}
+use Rattle.rational.specs.declared.Extended.TheVariants.{Fin}
+use Rattle.rational.proofs.Integers.{nat_le, nat_next, le_or_more}
+use Rattle.rational.proofs.Laws.{mul_comm}
+use Rattle.rational.proofs.Linear.{with2, with5, with7}
+use Rattle.rational.proofs.MinMax.{max_q_ge_left, max_q_ge_right}
+use Rattle.rational.proofs.Quotients.{div_nonneg, le_div}
+use Rattle.rational.proofs.Whole.{whole_le}
 use Rattle.min_plus.specs.Formulas.{stair_value, rate_latency_value}
 use Rattle.min_plus.specs.Pointwise.{packetised}
 use Rattle.run_laws.specs.Cards.{whole}

@@ -2,15 +2,15 @@
 use Rattle.std.specs.Prelude.{◌≡◌, true, false, ◌&&◌}
 use Rattle.std.proofs.Common.{arith, sym, ap, ◌∙◌, refl, inl, inr, subst}
 use Rattle.std.proofs.lemmas.Bool.{cases_Bool, and_parts}
-use Rattle.min_plus.specs.rational.specs.Rational.{ℚ, ◌+ℚ◌, ◌-ℚ◌, ◌*ℚ◌, ◌/ℚ◌, ◌≤ℚ◌, ◌<ℚ◌, lt_q, le_q}
-use Rattle.min_plus.specs.rational.specs.MinMax.{max_q}
-use Rattle.min_plus.specs.rational.specs.Extended.{Ext, ◌≤ₑ◌, ◌+ₑ◌}
-use Rattle.min_plus.specs.rational.specs.declared.Extended.TheVariants.{Fin}
-use Rattle.min_plus.specs.rational.proofs.Laws.{le_refl, le_trans, le_or_lt, le_of_lt, le_lt_trans, lt_trans, lt_irrefl}
-use Rattle.min_plus.specs.rational.proofs.Laws.{antisym, mul_comm}
-use Rattle.min_plus.specs.rational.proofs.Linear.{with1, with2, with3, with4, with5}
-use Rattle.min_plus.specs.rational.proofs.MinMax.{max_q_ge_left, max_q_ge_right, max_q_le, max_q_right}
-use Rattle.min_plus.specs.rational.proofs.Over.{le_q_in, lt_q_out}
+use Rattle.rational.specs.Rational.{ℚ, ◌+ℚ◌, ◌-ℚ◌, ◌*ℚ◌, ◌/ℚ◌, ◌≤ℚ◌, ◌<ℚ◌, lt_q, le_q}
+use Rattle.rational.specs.MinMax.{max_q}
+use Rattle.rational.specs.Extended.{Ext, ◌≤ₑ◌, ◌+ₑ◌}
+use Rattle.rational.specs.declared.Extended.TheVariants.{Fin}
+use Rattle.rational.proofs.Laws.{le_refl, le_trans, le_or_lt, le_of_lt, le_lt_trans, lt_trans, lt_irrefl}
+use Rattle.rational.proofs.Laws.{antisym, mul_comm}
+use Rattle.rational.proofs.Linear.{with1, with2, with3, with4, with5}
+use Rattle.rational.proofs.MinMax.{max_q_ge_left, max_q_ge_right, max_q_le, max_q_right}
+use Rattle.rational.proofs.Over.{le_q_in, lt_q_out}
 use Rattle.min_plus.specs.Functions.{zero_q}
 use Rattle.run_laws.specs.Cards.{all, whole}
 use Rattle.run_laws.specs.Servers.{Priority, Span, clip}

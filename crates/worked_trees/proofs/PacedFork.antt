@@ -2,12 +2,12 @@
 use Rattle.std.specs.Prelude.{Some, None, ◌≡◌, ◌<◌, ℕ, zero, suc, pos, ◌==◌, true}
 use Rattle.std.proofs.Common.{arith, sym, ap, refl, inl, inr}
 use Rattle.std.proofs.lemmas.Bool.{eqb-true, ne_eqb}
-use Rattle.min_plus.specs.rational.specs.Rational.{ℚ, int, ◌+ℚ◌, ◌≤ℚ◌}
-use Rattle.min_plus.specs.rational.specs.MinMax.{min_q}
-use Rattle.min_plus.specs.rational.specs.Extended.{◌≤ₑ◌}
-use Rattle.min_plus.specs.rational.specs.declared.Extended.TheVariants.{Fin}
-use Rattle.min_plus.specs.rational.proofs.ExtendedOrder.{le_ext_refl, min_left}
-use Rattle.min_plus.specs.rational.proofs.Linear.{with1, with2}
+use Rattle.rational.specs.Rational.{ℚ, int, ◌+ℚ◌, ◌≤ℚ◌}
+use Rattle.rational.specs.MinMax.{min_q}
+use Rattle.rational.specs.Extended.{◌≤ₑ◌}
+use Rattle.rational.specs.declared.Extended.TheVariants.{Fin}
+use Rattle.rational.proofs.ExtendedOrder.{le_ext_refl, min_left}
+use Rattle.rational.proofs.Linear.{with1, with2}
 use Rattle.min_plus.specs.Formulas.{IsService}
 use Rattle.run_laws.specs.Runs.{SpecRun}
 use Rattle.run_laws.specs.Bounds.{IsQueueBounded}

@@ -1,15 +1,15 @@
 -- One packet over the fork, which reaches the sum of its branch.
 use Rattle.std.specs.Prelude.{◌≡◌, ◌<◌, ℕ, zero, suc, pos, ◌+◌, true, ◌==◌, ◌&&◌, List, [], ◌∷◌}
 use Rattle.std.proofs.Common.{arith, sym, ap, ◌∙◌, refl, inl, inr}
-use Rattle.min_plus.specs.rational.specs.Rational.{ℚ, int, ◌+ℚ◌, ◌-ℚ◌, ◌*ℚ◌, ◌/ℚ◌, ◌≤ℚ◌, le_q, lt_q}
-use Rattle.min_plus.specs.rational.specs.Whole.{whole_part}
-use Rattle.min_plus.specs.rational.specs.Extended.{◌≤ₑ◌}
-use Rattle.min_plus.specs.rational.specs.declared.Extended.TheVariants.{Fin}
-use Rattle.min_plus.specs.rational.proofs.Integers.{nat_le}
-use Rattle.min_plus.specs.rational.proofs.Laws.{le_refl, le_trans}
-use Rattle.min_plus.specs.rational.proofs.MinMax.{lt_q_not}
-use Rattle.min_plus.specs.rational.proofs.Over.{le_q_out}
-use Rattle.min_plus.specs.rational.proofs.Linear.{with1, with2, with3}
+use Rattle.rational.specs.Rational.{ℚ, int, ◌+ℚ◌, ◌-ℚ◌, ◌*ℚ◌, ◌/ℚ◌, ◌≤ℚ◌, le_q, lt_q}
+use Rattle.rational.specs.Whole.{whole_part}
+use Rattle.rational.specs.Extended.{◌≤ₑ◌}
+use Rattle.rational.specs.declared.Extended.TheVariants.{Fin}
+use Rattle.rational.proofs.Integers.{nat_le}
+use Rattle.rational.proofs.Laws.{le_refl, le_trans}
+use Rattle.rational.proofs.MinMax.{lt_q_not}
+use Rattle.rational.proofs.Over.{le_q_out}
+use Rattle.rational.proofs.Linear.{with1, with2, with3}
 use Rattle.run_laws.specs.Cards.{whole, all, of_queue, ServerStep}
 use Rattle.run_laws.specs.Counts.{when, within, arrived, worked}
 use Rattle.run_laws.specs.Delays.{hop_delays, backlog}

@@ -2,9 +2,9 @@
 -- there at that time already. (Le Boudec and Thiran, section 6.2, count from the server's backlogged period; the view
 -- is our own.)
 use Rattle.std.specs.Prelude.{◌≡◌, ℕ, List, [], ◌∷◌}
-use Rattle.min_plus.specs.rational.specs.Rational.{ℚ, ◌-ℚ◌, ◌/ℚ◌, ◌≤ℚ◌, ◌<ℚ◌}
-use Rattle.min_plus.specs.rational.specs.Extended.{Ext, ◌+ₑ◌}
-use Rattle.min_plus.specs.rational.specs.declared.Extended.TheVariants.{Fin}
+use Rattle.rational.specs.Rational.{ℚ, ◌-ℚ◌, ◌/ℚ◌, ◌≤ℚ◌, ◌<ℚ◌}
+use Rattle.rational.specs.Extended.{Ext, ◌+ₑ◌}
+use Rattle.rational.specs.declared.Extended.TheVariants.{Fin}
 use Rattle.min_plus.specs.Formulas.{bucket_value}
 use Rattle.run_laws.specs.Cards.{Card, Class, all, of_queue, whole, ServerStep, Arrives, Works, Leaves}
 use Rattle.run_laws.specs.Servers.{Priority}

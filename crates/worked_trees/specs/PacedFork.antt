@@ -1,9 +1,9 @@
 -- A periodic flow over a fork of three servers of a limited pace: each of its queues and branches is bounded by
 -- numbers in every run, and one branch reaches its number.
 use Rattle.std.specs.Prelude.{◌≡◌, ◌<◌, ℕ, zero, suc, List, [], ◌∷◌}
-use Rattle.min_plus.specs.rational.specs.Rational.{ℚ, ◌+ℚ◌}
-use Rattle.min_plus.specs.rational.specs.Extended.{Ext, ◌≤ₑ◌}
-use Rattle.min_plus.specs.rational.specs.declared.Extended.TheVariants.{Fin, Inf}
+use Rattle.rational.specs.Rational.{ℚ, ◌+ℚ◌}
+use Rattle.rational.specs.Extended.{Ext, ◌≤ₑ◌}
+use Rattle.rational.specs.declared.Extended.TheVariants.{Fin, Inf}
 use Rattle.min_plus.specs.Formulas.{stair_value, rate_latency_value}
 use Rattle.run_laws.specs.declared.steps.Step.TheVariants.{Enter, Reach, Work, Leave}
 use Rattle.run_laws.specs.Runs.{SpecRun}

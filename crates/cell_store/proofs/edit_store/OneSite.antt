@@ -9,7 +9,7 @@ use Rattle.net_model.specs.declared.edit.Edit.{Edit}
 use Rattle.net_model.specs.declared.edit.Edit.TheVariants.{Rate, Latency, Link, Quantum, Bucket, Stair, Packet, Route, Add, Drop, Undo}
 use Rattle.net_model.specs.Networks.{Net, NetServer, NetFlow}
 use Rattle.net_model.specs.Quanta.{is_quantum_of}
-use Rattle.upp_limits.specs.upp_curve.specs.Kinds.{bucket}
+use Rattle.upp_curve.specs.Kinds.{bucket}
 use Rattle.net_cells.specs.Numbered.{discipline}
 use Rattle.net_edits.specs.Refusals.{Or, and_then, only_if}
 use Rattle.net_edits.specs.Lookups.{number_of, is_flow_named, server_number, flow_number}

@@ -3,28 +3,28 @@ use Rattle.std.proofs.Common.{◌≡◌, ℕ, suc, List, [], ◌∷◌, map, inl
 use Rattle.std.specs.Prelude.{◌==◌, ◌&&◌, Some, IsTrue, Contains, true}
 use Rattle.std.specs.List.{range_with_len}
 use Rattle.std.proofs.lemmas.Bool.{and_from}
-use Rattle.upp_limits.specs.rational.specs.Rational.{ℚ}
-use Rattle.upp_limits.specs.rational.specs.Extended.{Ext, ◌≤ₑ◌, ◌+ₑ◌}
-use Rattle.upp_limits.specs.rational.specs.declared.Extended.TheVariants.{Fin}
-use Rattle.upp_limits.specs.rational.proofs.ExtendedOrder.{le_ext_trans, le_or_lt_ext, add_le_ext, zero_add_ext, min_greatest}
-use Rattle.upp_limits.specs.rational.proofs.Laws.{le_refl, le_lt_trans, lt_irrefl}
-use Rattle.upp_limits.specs.min_plus.specs.Deviations.{IsLag, IsHorizontalDeviation}
-use Rattle.upp_limits.specs.min_plus.specs.Functions.{IsNonneg, zero_q, Time}
-use Rattle.upp_limits.specs.upp_curve.specs.Curve.{value_at}
+use Rattle.rational.specs.Rational.{ℚ}
+use Rattle.rational.specs.Extended.{Ext, ◌≤ₑ◌, ◌+ₑ◌}
+use Rattle.rational.specs.declared.Extended.TheVariants.{Fin}
+use Rattle.rational.proofs.ExtendedOrder.{le_ext_trans, le_or_lt_ext, add_le_ext, zero_add_ext, min_greatest}
+use Rattle.rational.proofs.Laws.{le_refl, le_lt_trans, lt_irrefl}
+use Rattle.min_plus.specs.Deviations.{IsLag, IsHorizontalDeviation}
+use Rattle.min_plus.specs.Functions.{IsNonneg, zero_q, Time}
+use Rattle.upp_curve.specs.Curve.{value_at}
 use Rattle.net_model.specs.Accepted.{IsAccepted}
 use Rattle.net_model.specs.Networks.{Net}
 use Rattle.net_model.specs.Orders.{IsOrder}
-use Rattle.report_text.specs.net_cells.specs.declared.cell.Cell.{Cell}
-use Rattle.report_text.specs.net_cells.specs.declared.cell.Kind.TheVariants.{QueueDelay, HopDelay, Tfa, Sfa, Bound}
-use Rattle.report_text.specs.net_cells.specs.Cells.{cell_of, has_cell}
-use Rattle.report_text.specs.net_cells.specs.Equations.{MeetsEquations}
-use Rattle.report_text.specs.net_cells.specs.Means.{HaveNumbers, with_links, OfCurves}
-use Rattle.report_text.specs.net_cells.specs.Meanings.{Meaning, number, CellTable, IsNumberIn}
-use Rattle.report_text.specs.net_cells.specs.Numbered.{hops, is_live, link, path, server_of_hop, queue_of_hop}
-use Rattle.report_text.specs.net_cells.specs.NumberSums.{sum_of_numbers}
-use Rattle.report_text.specs.net_cells.specs.TableValues.{HasNumber}
-use Rattle.report_text.specs.net_cells.proofs.Precedes.{operands_are_cells}
-use Rattle.report_text.specs.net_cells.proofs.TableValues.{has_number, same_number}
+use Rattle.net_cells.specs.declared.cell.Cell.{Cell}
+use Rattle.net_cells.specs.declared.cell.Kind.TheVariants.{QueueDelay, HopDelay, Tfa, Sfa, Bound}
+use Rattle.net_cells.specs.Cells.{cell_of, has_cell}
+use Rattle.net_cells.specs.Equations.{MeetsEquations}
+use Rattle.net_cells.specs.Means.{HaveNumbers, with_links, OfCurves}
+use Rattle.net_cells.specs.Meanings.{Meaning, number, CellTable, IsNumberIn}
+use Rattle.net_cells.specs.Numbered.{hops, is_live, link, path, server_of_hop, queue_of_hop}
+use Rattle.net_cells.specs.NumberSums.{sum_of_numbers}
+use Rattle.net_cells.specs.TableValues.{HasNumber}
+use Rattle.net_cells.proofs.Precedes.{operands_are_cells}
+use Rattle.net_cells.proofs.TableValues.{has_number, same_number}
 use Rattle.net_bounds.proofs.FormulaParts.{number_map}
 use Rattle.net_bounds.proofs.Routed.{link_nonneg}
 

@@ -1,13 +1,13 @@
 -- Before all times of a view nothing is there.
 use Rattle.std.proofs.Common.{◌≡◌, List, [], ◌∷◌, inl, inr, refl, arith}
 use Rattle.std.specs.Prelude.{pos, Bool, true, false, ◌&&◌}
-use Rattle.upp_limits.specs.rational.specs.Rational.{ℚ, int, le_q, lt_q, ◌+ℚ◌, ◌-ℚ◌, ◌≤ℚ◌, ◌<ℚ◌}
-use Rattle.upp_limits.specs.rational.proofs.Laws.{le_refl, le_trans, le_or_lt, le_lt_trans, le_of_lt}
-use Rattle.upp_limits.specs.rational.proofs.Linear.{with1, with2}
-use Rattle.upp_limits.specs.rational.proofs.MinMax.{le_q_not, lt_q_not}
-use Rattle.net_model.specs.run_laws.specs.Cards.{Class, size, ServerStep, Arrives, Works, Leaves, Visits}
-use Rattle.net_model.specs.run_laws.specs.Counts.{when, arrived_upto, departed}
-use Rattle.net_model.specs.run_laws.specs.Delays.{backlog}
+use Rattle.rational.specs.Rational.{ℚ, int, le_q, lt_q, ◌+ℚ◌, ◌-ℚ◌, ◌≤ℚ◌, ◌<ℚ◌}
+use Rattle.rational.proofs.Laws.{le_refl, le_trans, le_or_lt, le_lt_trans, le_of_lt}
+use Rattle.rational.proofs.Linear.{with1, with2}
+use Rattle.rational.proofs.MinMax.{le_q_not, lt_q_not}
+use Rattle.run_laws.specs.Cards.{Class, size, ServerStep, Arrives, Works, Leaves, Visits}
+use Rattle.run_laws.specs.Counts.{when, arrived_upto, departed}
+use Rattle.run_laws.specs.Delays.{backlog}
 
 -- no packet arrives or leaves at this time or before it
 abbrev IsBefore : ℚ → List ServerStep → Type 0

@@ -3,24 +3,24 @@ use Rattle.std.proofs.Common.{◌≡◌, ℕ, ◌<◌, List, [], length, get_or,
 use Rattle.std.specs.Prelude.{pos, Some, option_and_then, IsTrue, slice_get}
 use Rattle.std.specs.Option.{option_map}
 use Rattle.std.proofs.lemmas.Option.{slice_get-get_or}
-use Rattle.upp_limits.specs.rational.specs.Rational.{ℚ, int, ◌≤ℚ◌}
-use Rattle.upp_limits.specs.rational.specs.Extended.{Ext, ◌≤ₑ◌}
-use Rattle.upp_limits.specs.rational.specs.declared.Extended.TheVariants.{Fin, Inf}
-use Rattle.net_model.specs.run_laws.specs.Cards.{whole, of_queue}
-use Rattle.net_model.specs.run_laws.specs.Delays.{AreAtMost}
-use Rattle.net_model.specs.run_laws.specs.FlowDelays.{delays_from}
-use Rattle.net_model.specs.run_laws.specs.Routes.{Routes, server_at}
-use Rattle.net_model.specs.run_laws.specs.Runs.{SpecRun}
-use Rattle.net_model.specs.run_laws.specs.Servers.{queue_count}
+use Rattle.rational.specs.Rational.{ℚ, int, ◌≤ℚ◌}
+use Rattle.rational.specs.Extended.{Ext, ◌≤ₑ◌}
+use Rattle.rational.specs.declared.Extended.TheVariants.{Fin, Inf}
+use Rattle.run_laws.specs.Cards.{whole, of_queue}
+use Rattle.run_laws.specs.Delays.{AreAtMost}
+use Rattle.run_laws.specs.FlowDelays.{delays_from}
+use Rattle.run_laws.specs.Routes.{Routes, server_at}
+use Rattle.run_laws.specs.Runs.{SpecRun}
+use Rattle.run_laws.specs.Servers.{queue_count}
 use Rattle.net_model.specs.Accepted.{IsAccepted}
 use Rattle.net_model.specs.Networks.{Net}
 use Rattle.net_model.specs.NetRoutes.{routes_of}
-use Rattle.report_text.specs.net_cells.specs.declared.cell.Kind.TheVariants.{QueueBacklog, Bound}
-use Rattle.report_text.specs.net_cells.specs.Cells.{cell_of}
-use Rattle.report_text.specs.net_cells.specs.Meanings.{CellTable}
-use Rattle.report_text.specs.net_cells.specs.Numbered.{is_live, queues}
-use Rattle.report_text.specs.net_cells.proofs.Places.{live_inside}
-use Rattle.report_text.specs.net_cells.proofs.TableValues.{same_number}
+use Rattle.net_cells.specs.declared.cell.Kind.TheVariants.{QueueBacklog, Bound}
+use Rattle.net_cells.specs.Cells.{cell_of}
+use Rattle.net_cells.specs.Meanings.{CellTable}
+use Rattle.net_cells.specs.Numbered.{is_live, queues}
+use Rattle.net_cells.proofs.Places.{live_inside}
+use Rattle.net_cells.proofs.TableValues.{same_number}
 use Rattle.net_bounds.specs.Guarantee.{IsKept}
 use Rattle.net_bounds.specs.Promises.{seen_by, HoldsAtMost}
 use Rattle.net_bounds.proofs.Kept.{table_bounds_every_run, with_queues}
@@ -33,7 +33,7 @@ use Rattle.command_replies.specs.run_findings.RunBounds.{IsWithin}
 use Rattle.command_replies.proofs.run_findings.AtLeastZero.{Given, bound_nonneg}
 use Rattle.command_replies.proofs.run_findings.Before.{empty_by}
 use Rattle.command_replies.proofs.run_findings.OneRun.{most_at}
-use Rattle.upp_limits.specs.min_plus.specs.Functions.{IsNonneg}
+use Rattle.min_plus.specs.Functions.{IsNonneg}
 
 -- ---- numbers
 largest_within : (xs : List ℚ) (w : ℚ) (most : Ext) → IsLargest xs w → IsNonneg most → AreAtMost most xs

@@ -3,24 +3,24 @@ use Rattle.std.proofs.Common.{◌≡◌, ℕ, zero, suc, ◌≤◌, ◌<◌, Lis
 use Rattle.std.proofs.Common.{None, inl, inr, refl, sym, ap, subst, ◌∙◌, arith}
 use Rattle.std.specs.Prelude.{pos}
 use Rattle.std.proofs.lemmas.List.{ext_get_or}
-use Rattle.upp_limits.specs.rational.specs.Rational.{ℚ, int, ◌≤ℚ◌}
-use Rattle.upp_limits.specs.rational.specs.declared.Extended.TheVariants.{Fin}
-use Rattle.upp_limits.specs.rational.proofs.Integers.{nat_le_out}
-use Rattle.upp_limits.specs.rational.proofs.Laws.{antisym}
-use Rattle.net_model.specs.run_laws.specs.Cards.{whole}
-use Rattle.net_model.specs.run_laws.specs.Delays.{AreAtMost}
-use Rattle.net_model.specs.run_laws.specs.Lawful.{IsLawful}
-use Rattle.net_model.specs.run_laws.specs.Routes.{Routes, server_at}
-use Rattle.net_model.specs.run_laws.specs.Runs.{SpecRun}
-use Rattle.net_model.specs.run_laws.specs.Servers.{queue_count}
-use Rattle.net_model.specs.run_laws.specs.FlowDelays.{delays_from}
-use Rattle.net_model.specs.run_laws.specs.RunPremises.{KeepsPremises}
+use Rattle.rational.specs.Rational.{ℚ, int, ◌≤ℚ◌}
+use Rattle.rational.specs.declared.Extended.TheVariants.{Fin}
+use Rattle.rational.proofs.Integers.{nat_le_out}
+use Rattle.rational.proofs.Laws.{antisym}
+use Rattle.run_laws.specs.Cards.{whole}
+use Rattle.run_laws.specs.Delays.{AreAtMost}
+use Rattle.run_laws.specs.Lawful.{IsLawful}
+use Rattle.run_laws.specs.Routes.{Routes, server_at}
+use Rattle.run_laws.specs.Runs.{SpecRun}
+use Rattle.run_laws.specs.Servers.{queue_count}
+use Rattle.run_laws.specs.FlowDelays.{delays_from}
+use Rattle.run_laws.specs.RunPremises.{KeepsPremises}
 use Rattle.net_model.specs.Accepted.{IsAccepted}
 use Rattle.net_model.specs.declared.breach.Breach.{Breach}
 use Rattle.net_model.specs.Networks.{Net}
 use Rattle.net_model.specs.NetRoutes.{routes_of}
-use Rattle.report_text.specs.net_cells.specs.Numbered.{packet, arrival, service}
-use Rattle.upp_limits.specs.upp_curve.specs.Curve.{value_at}
+use Rattle.net_cells.specs.Numbered.{packet, arrival, service}
+use Rattle.upp_curve.specs.Curve.{value_at}
 use Rattle.simulator.specs.run_measures.Peaks.{IsPeak, ArePeaks, peak_in}
 use Rattle.simulator.specs.run_measures.Worst.{IsLargest, AreWorst}
 use Rattle.flow_watch.specs.watch_laws.Breaches.{IsBreach}

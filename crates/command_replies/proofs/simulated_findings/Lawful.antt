@@ -1,8 +1,8 @@
 -- The stated run of an accepted network and a trace of it is lawful; where its gauge is below 2 ^ 120, what its first
 -- breach is looked for by has sizes.
 use Rattle.std.specs.Prelude.{◌<◌, ◌^◌}
-use Rattle.net_model.specs.run_laws.specs.Lawful.{IsLawful}
-use Rattle.net_model.specs.run_laws.specs.Runs.{SpecRun}
+use Rattle.run_laws.specs.Lawful.{IsLawful}
+use Rattle.run_laws.specs.Runs.{SpecRun}
 use Rattle.net_model.specs.Accepted.{IsAccepted}
 use Rattle.net_model.specs.Networks.{Net}
 use Rattle.net_model.specs.NetRoutes.{routes_of}

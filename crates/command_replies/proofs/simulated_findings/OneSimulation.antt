@@ -4,7 +4,7 @@ use native.Mathlib.Nat.{not-le_of_lt}
 use Rattle.net_model.specs.Accepted.{IsAccepted}
 use Rattle.net_model.specs.Networks.{Net}
 use Rattle.net_model.specs.Traces.{SpecTrace, IsTrace}
-use Rattle.report_text.specs.net_cells.specs.Meanings.{CellTable}
+use Rattle.net_cells.specs.Meanings.{CellTable}
 use Rattle.net_model.specs.stated_runs.FromTraces.{setup_of, IsTraceOf}
 use Rattle.net_model.proofs.stated_runs.MadeSetups as made
 use Rattle.net_model.proofs.stated_runs.Unique.{run_once}

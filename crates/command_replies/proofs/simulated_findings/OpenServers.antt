@@ -5,10 +5,10 @@ use Rattle.std.specs.Option.{option_map}
 use Rattle.std.proofs.lemmas.Bool.{ne_eqb}
 use Rattle.std.proofs.lemmas.Option.{slice_get_cases, slice_get-map}
 use Rattle.std.proofs.lemmas.List.{length-map}
-use Rattle.upp_limits.specs.upp_curve.specs.Curve.{SpecCurve, value_at}
-use Rattle.net_model.specs.run_laws.specs.Runs.{SpecRun}
-use Rattle.net_model.specs.run_laws.specs.Views.{view}
-use Rattle.net_model.specs.run_laws.specs.Premises.{KeepsService}
+use Rattle.upp_curve.specs.Curve.{SpecCurve, value_at}
+use Rattle.run_laws.specs.Runs.{SpecRun}
+use Rattle.run_laws.specs.Views.{view}
+use Rattle.run_laws.specs.Premises.{KeepsService}
 use Rattle.net_model.specs.Accepted.{IsAccepted}
 use Rattle.net_model.specs.declared.server.Server.{Server}
 use Rattle.net_model.specs.declared.server.ServiceKind.{ServiceKind}
@@ -18,7 +18,7 @@ use Rattle.net_model.specs.Networks.{Net, NetServer}
 use Rattle.net_model.specs.NetRoutes.{routes_of}
 use Rattle.net_model.specs.Traces.{SpecTrace, IsTrace}
 use Rattle.net_model.specs.Views.{server_of, servers_of}
-use Rattle.report_text.specs.net_cells.specs.Numbered.{service_of}
+use Rattle.net_cells.specs.Numbered.{service_of}
 use Rattle.net_model.specs.stated_runs.FromTraces.{setup_of, stalls_at, IsTraceOf}
 use Rattle.net_model.specs.stated_runs.Simulated.{IsSimulated}
 use Rattle.sim_bounds.specs.stated_service.Laws.{IsByFormula}

@@ -1,13 +1,13 @@
 -- What holds of what is found in a lawful run.
 use Rattle.std.specs.Prelude.{◌≡◌, ℕ, List}
-use Rattle.net_model.specs.run_laws.specs.Lawful.{IsLawful}
-use Rattle.net_model.specs.run_laws.specs.Runs.{SpecRun}
+use Rattle.run_laws.specs.Lawful.{IsLawful}
+use Rattle.run_laws.specs.Runs.{SpecRun}
 use Rattle.net_model.specs.Accepted.{IsAccepted}
 use Rattle.net_model.specs.Networks.{Net}
 use Rattle.net_model.specs.NetRoutes.{routes_of}
 use Rattle.net_model.specs.Orders.{IsOrder}
-use Rattle.report_text.specs.net_cells.specs.Equations.{MeetsEquations}
-use Rattle.report_text.specs.net_cells.specs.Meanings.{CellTable}
+use Rattle.net_cells.specs.Equations.{MeetsEquations}
+use Rattle.net_cells.specs.Meanings.{CellTable}
 use Rattle.net_bounds.specs.NetRuns.{IsRunOf}
 use Rattle.run_watch.specs.simulated_sizes.Laws.{AreCurves}
 use Rattle.report_text.specs.RunReport.{Found}

@@ -1,13 +1,13 @@
 -- What is found in a lawful run of a network, be it simulated or recorded, and a reply that tells it.
 use Rattle.std.specs.Prelude.{◌≡◌, ℕ, List, length, Option, Some, None}
-use Rattle.net_model.specs.run_laws.specs.Runs.{SpecRun}
+use Rattle.run_laws.specs.Runs.{SpecRun}
 use Rattle.net_model.specs.declared.breach.Breach.{Breach}
 use Rattle.net_model.specs.Networks.{Net}
 use Rattle.net_model.specs.NetRoutes.{routes_of}
 use Rattle.simulator.specs.run_measures.Peaks.{ArePeaks}
 use Rattle.simulator.specs.run_measures.Worst.{AreWorst}
 use Rattle.run_watch.specs.first_breaches.Firsts.{TellsFirst}
-use Rattle.report_text.specs.net_cells.specs.Meanings.{CellTable}
+use Rattle.net_cells.specs.Meanings.{CellTable}
 use Rattle.report_text.specs.RunReport.{Found}
 use Rattle.command_replies.specs.Replies.{Reply}
 

@@ -1,17 +1,17 @@
 -- What a report on a run shows beside its bounds.
 use Rattle.std.specs.Prelude.{◌≡◌, ◌<◌, ℕ, Option, Some, IsTrue, slice_get}
 use Rattle.std.specs.Option.{option_map}
-use Rattle.upp_limits.specs.rational.specs.Rational.{ℚ}
-use Rattle.upp_limits.specs.rational.specs.Extended.{◌≤ₑ◌}
-use Rattle.upp_limits.specs.rational.specs.declared.Extended.TheVariants.{Fin}
-use Rattle.net_model.specs.run_laws.specs.Cards.{whole}
+use Rattle.rational.specs.Rational.{ℚ}
+use Rattle.rational.specs.Extended.{◌≤ₑ◌}
+use Rattle.rational.specs.declared.Extended.TheVariants.{Fin}
+use Rattle.run_laws.specs.Cards.{whole}
 use Rattle.net_model.specs.Networks.{Net}
-use Rattle.report_text.specs.net_cells.specs.declared.cell.Cell.{Cell}
-use Rattle.report_text.specs.net_cells.specs.declared.cell.Kind.TheVariants.{QueueBacklog, Bound}
-use Rattle.report_text.specs.net_cells.specs.Cells.{cell_of}
-use Rattle.report_text.specs.net_cells.specs.Meanings.{CellTable}
-use Rattle.report_text.specs.net_cells.specs.Numbered.{is_live, queues}
-use Rattle.report_text.specs.net_cells.specs.TableValues.{HasNumber}
+use Rattle.net_cells.specs.declared.cell.Cell.{Cell}
+use Rattle.net_cells.specs.declared.cell.Kind.TheVariants.{QueueBacklog, Bound}
+use Rattle.net_cells.specs.Cells.{cell_of}
+use Rattle.net_cells.specs.Meanings.{CellTable}
+use Rattle.net_cells.specs.Numbered.{is_live, queues}
+use Rattle.net_cells.specs.TableValues.{HasNumber}
 use Rattle.report_text.specs.RunReport.{Found, peak_at}
 
 -- a number is shown, and the table's number at a cell is no less; an infinite one claims nothing

@@ -1,11 +1,11 @@
 -- What the status of a report tells of its run.
 use Rattle.std.specs.Prelude.{◌≡◌, ◌⊎◌, ◌↔◌, ℕ}
-use Rattle.upp_limits.specs.upp_curve.specs.Curve.{value_at}
-use Rattle.net_model.specs.run_laws.specs.Runs.{SpecRun}
-use Rattle.net_model.specs.run_laws.specs.RunPremises.{KeepsPremises}
+use Rattle.upp_curve.specs.Curve.{value_at}
+use Rattle.run_laws.specs.Runs.{SpecRun}
+use Rattle.run_laws.specs.RunPremises.{KeepsPremises}
 use Rattle.net_model.specs.Networks.{Net}
 use Rattle.net_model.specs.NetRoutes.{routes_of}
-use Rattle.report_text.specs.net_cells.specs.Numbered.{packet, arrival, service}
+use Rattle.net_cells.specs.Numbered.{packet, arrival, service}
 
 -- the status of a report: without a breach, or with one
 abbrev pub IsOfReport : ℕ → Type 0

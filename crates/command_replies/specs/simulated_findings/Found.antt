@@ -1,6 +1,6 @@
 -- What is found when a trace of a network is simulated, and the replies that tell it.
 use Rattle.std.specs.Prelude.{◌≡◌, ◌≤◌, ◌<◌, ◌^◌, ◌⊎◌, length}
-use Rattle.net_model.specs.run_laws.specs.Runs.{SpecRun}
+use Rattle.run_laws.specs.Runs.{SpecRun}
 use Rattle.net_model.specs.Networks.{Net}
 use Rattle.net_model.specs.NetRoutes.{routes_of}
 use Rattle.net_model.specs.Traces.{SpecTrace}
@@ -10,7 +10,7 @@ use Rattle.sim_bounds.specs.Gauge.{simulation_gauge}
 use Rattle.simulator.specs.run_measures.Peaks.{rows_of, ArePeaks}
 use Rattle.simulator.specs.run_measures.Worst.{AreWorst}
 use Rattle.simulator.specs.declared.packet_sim.measured.SimRun.{SimRun}
-use Rattle.report_text.specs.net_cells.specs.Meanings.{CellTable}
+use Rattle.net_cells.specs.Meanings.{CellTable}
 use Rattle.report_text.specs.RunReport.{Found}
 use Rattle.command_replies.specs.Replies.{Reply, too_wide_simulation}
 use Rattle.command_replies.specs.run_findings.Findings.{AreFindings, FoundText, TellsFindings}

@@ -1,13 +1,13 @@
 //! What the curves of a network keep.
 
 ghost use Rattle.std.specs.Prelude.{◌<◌, ℕ, IsTrue, length};
-ghost use Rattle.report_text.specs.net_cells.specs.Numbered.{is_live};
+ghost use Rattle.net_cells.specs.Numbered.{is_live};
 ghost use Rattle.run_watch.specs.first_breaches.Firsts.{HasService};
 ghost use Rattle.command_replies.specs.run_findings.Curves.{HasArrival};
 ghost use Rattle.run_watch.specs.simulated_sizes.Laws.{AreCurves};
 
+use net_cells::{live_flow, server};
 use net_model::Network;
-use report_text::net_cells::{live_flow, server};
 
 // What the service curve of a server keeps; it does nothing.
 fn keeps_service(net: &Network, number: u32)

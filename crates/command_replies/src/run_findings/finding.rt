@@ -1,7 +1,7 @@
 //! What is found in a run.
 
 ghost use Rattle.std.specs.Prelude.{◌≡◌, IfOk};
-ghost use Rattle.net_model.specs.run_laws.specs.Lawful.{IsLawful};
+ghost use Rattle.run_laws.specs.Lawful.{IsLawful};
 ghost use Rattle.net_model.specs.NetRoutes.{routes_of};
 ghost use Rattle.simulator.specs.run_measures.Worst.{DelaysFit};
 ghost use Rattle.run_watch.specs.first_breaches.Sizes.{HaveSizes};
@@ -10,9 +10,9 @@ ghost use Rattle.command_replies.specs.View.{code_of};
 ghost use Rattle.command_replies.specs.run_findings.Findings.{AreFindings, status_by};
 
 use crate::Status;
-use net_model::run_laws::Run;
 use net_model::{Breach, Network};
 use report_text::RunFound;
+use run_laws::Run;
 use run_watch::first_breaches::first_breach;
 use simulator::run_measures::{peaks, worst_delays};
 use std::alloc::{AllocError, Global};

@@ -4,7 +4,7 @@ use Rattle.net_model.specs.Accepted.{IsAccepted}
 use Rattle.net_model.specs.Networks.{Net}
 use Rattle.net_model.specs.Orders.{IsOrder}
 use Rattle.report_text.specs.declared.json_report.form.Form.{Form}
-use Rattle.report_text.specs.net_cells.specs.Meanings.{CellTable}
+use Rattle.net_cells.specs.Meanings.{CellTable}
 use Rattle.report_text.proofs.json_report.OneForm.{one_report_in}
 use Rattle.command_replies.specs.OnFiles.{IsTableOf}
 use Rattle.command_replies.specs.Replies.{Reply, AreSame}

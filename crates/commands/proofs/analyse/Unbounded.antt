@@ -1,9 +1,9 @@
 -- Only infinity is shown as `unbounded`.
 use Rattle.std.proofs.Common.{◌≡◌, Option, Some, None, ap}
 use Rattle.std.specs.Prelude.{codes}
-use Rattle.upp_limits.specs.rational.specs.Extended.{Ext}
-use Rattle.upp_limits.specs.rational.specs.declared.Extended.TheVariants.{Inf}
-use Rattle.report_text.specs.net_cells.specs.Meanings.{Meaning, curve, number}
+use Rattle.rational.specs.Extended.{Ext}
+use Rattle.rational.specs.declared.Extended.TheVariants.{Inf}
+use Rattle.net_cells.specs.Meanings.{Meaning, curve, number}
 use Rattle.report_text.specs.Shown.{shown_value}
 use Rattle.report_text.proofs.TextLemmas.{only_infinity}
 use Rattle.commands.specs.analyse.AnswerLaws.{UnboundedIsInfinite}

@@ -1,8 +1,8 @@
 -- Each status of a reply has its cause.
 use Rattle.std.proofs.Common.{ℕ, List, inl, inr}
-use Rattle.net_model.specs.run_laws.specs.Runs.{SpecRun}
+use Rattle.run_laws.specs.Runs.{SpecRun}
 use Rattle.net_model.specs.Networks.{Net}
-use Rattle.report_text.specs.net_cells.specs.Meanings.{CellTable}
+use Rattle.net_cells.specs.Meanings.{CellTable}
 use Rattle.run_check.specs.check_report.CheckReport.{lawful_report_of}
 use Rattle.command_replies.specs.Replies.{Reply}
 use Rattle.outcomes.specs.Stages.{stops, goes_on}

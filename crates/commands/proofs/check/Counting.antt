@@ -6,7 +6,7 @@ use Rattle.net_text.specs.Folds.{StepsAtMost}
 use Rattle.net_text.specs.Reading.{IsNetworkOf}
 use Rattle.net_text.specs.FoldLimits.{OverFold}
 use Rattle.subadd_closure.specs.FoldWork.{fold_work}
-use Rattle.net_model.specs.run_laws.specs.Runs.{SpecRun}
+use Rattle.run_laws.specs.Runs.{SpecRun}
 use Rattle.input_texts.specs.table_text.Rows.{rows_of}
 use Rattle.run_check.specs.run_table.Runs.{IsRunOf}
 use Rattle.run_check.proofs.run_table.OneRun.{readings_are_one}

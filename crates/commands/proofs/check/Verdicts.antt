@@ -1,11 +1,11 @@
 -- The status and the verdict of a report tell whether its run is lawful and keeps the premises.
 use Rattle.std.proofs.Common.{◌≡◌, inl, inr, ap}
-use Rattle.net_model.specs.run_laws.specs.Lawful.{IsLawful}
-use Rattle.net_model.specs.run_laws.specs.Runs.{SpecRun}
+use Rattle.run_laws.specs.Lawful.{IsLawful}
+use Rattle.run_laws.specs.Runs.{SpecRun}
 use Rattle.net_model.specs.Accepted.{IsAccepted}
 use Rattle.net_model.specs.Networks.{Net}
 use Rattle.net_model.specs.NetRoutes.{routes_of}
-use Rattle.report_text.specs.net_cells.specs.Meanings.{CellTable}
+use Rattle.net_cells.specs.Meanings.{CellTable}
 use Rattle.run_check.proofs.broken_laws.WholeRuns.{broken_is_unlawful}
 use Rattle.run_check.proofs.Started.{has_paths}
 use Rattle.run_watch.specs.simulated_sizes.Laws.{AreCurves}

@@ -2,7 +2,7 @@
 use Rattle.std.proofs.Common.{◌≡◌, ℕ, List, refl, sym, ap, ◌∙◌}
 use Rattle.std.specs.Prelude.{Option, Some, None}
 use Rattle.net_model.specs.declared.breach.Breach.{Breach}
-use Rattle.command_replies.specs.net_bounds.proofs.Kept.{table_bounds_every_run}
+use Rattle.net_bounds.proofs.Kept.{table_bounds_every_run}
 use Rattle.command_replies.specs.Replies.{Reply}
 use Rattle.command_replies.specs.run_findings.Findings.{status_by}
 use Rattle.command_replies.proofs.run_findings.Bounded.{within}

@@ -10,10 +10,10 @@ use Rattle.net_model.specs.Networks.{Net}
 use Rattle.net_model.specs.Orders.{IsOrder}
 use Rattle.net_model.proofs.net_graph.OneOrders.{one_order}
 use Rattle.net_model.proofs.net_graph.Returns.{order_or_cycle}
-use Rattle.report_text.specs.net_cells.specs.declared.cell.Cell.{Cell}
-use Rattle.report_text.specs.net_cells.specs.Meanings.{CellTable}
-use Rattle.report_text.specs.net_cells.specs.FirstOver.{FirstOver}
-use Rattle.report_text.specs.net_cells.proofs.Tables.{one_is_first_over}
+use Rattle.net_cells.specs.declared.cell.Cell.{Cell}
+use Rattle.net_cells.specs.Meanings.{CellTable}
+use Rattle.net_cells.specs.FirstOver.{FirstOver}
+use Rattle.net_cells.proofs.Tables.{one_is_first_over}
 use Rattle.net_edits.specs.declared.fault.EditFault.{EditFault}
 use Rattle.net_edits.specs.declared.fault.EditFault.TheVariants.{UnknownName, NameTaken, BadValue, LimitReached, Cycle, TooMany, TooWide, NothingToUndo, NoMemory}
 use Rattle.net_edits.specs.Edited.{edited}

@@ -8,15 +8,15 @@ use Rattle.net_model.specs.Networks.{Net}
 use Rattle.net_model.specs.Orders.{IsOrder}
 use Rattle.net_model.proofs.net_graph.OneOrders.{one_order}
 use Rattle.net_model.proofs.net_graph.Returns.{order_or_cycle}
-use Rattle.report_text.specs.net_cells.specs.declared.cell.Cell.{Cell}
-use Rattle.report_text.specs.net_cells.specs.FirstOver.{FirstOver}
-use Rattle.report_text.specs.net_cells.specs.Equations.{MeetsEquations}
-use Rattle.report_text.specs.net_cells.specs.Meanings.{Meaning, CellTable}
+use Rattle.net_cells.specs.declared.cell.Cell.{Cell}
+use Rattle.net_cells.specs.FirstOver.{FirstOver}
+use Rattle.net_cells.specs.Equations.{MeetsEquations}
+use Rattle.net_cells.specs.Meanings.{Meaning, CellTable}
 use Rattle.input_texts.specs.table_text.EditRows.{edit_view}
 use Rattle.cell_store.specs.Edits.{IsFirst}
 use Rattle.cell_store.specs.Placed.{placed}
 use Rattle.cell_store.specs.edit_store.Stored.{Stored, IsStored}
-use Rattle.report_text.specs.net_cells.proofs.Tables.{answers_meet}
+use Rattle.net_cells.proofs.Tables.{answers_meet}
 use Rattle.report_text.specs.declared.json_report.form.Form.{Form}
 use Rattle.commands.specs.edit_report.Said.{EditSaid}
 use Rattle.command_replies.specs.declared.answer.Answer.{Answer}

@@ -3,7 +3,7 @@ use Rattle.std.proofs.Common.{◌≡◌, ℕ, List, [], ◌∷◌, map, inl, inr
 use Rattle.net_model.specs.declared.edit.Edit.{Edit}
 use Rattle.net_model.specs.Accepted.{IsAccepted}
 use Rattle.net_model.specs.Networks.{Net}
-use Rattle.report_text.specs.net_cells.specs.Equations.{MeetsEquations}
+use Rattle.net_cells.specs.Equations.{MeetsEquations}
 use Rattle.input_texts.specs.table_text.Rows.{rows_of}
 use Rattle.input_texts.specs.table_text.EditRows.{EditText, edit_view}
 use Rattle.input_texts.proofs.table_text.OneEditList.{edits_one, no_edit_list, edit_fault_one}

@@ -7,10 +7,10 @@ use Rattle.net_model.specs.declared.edit.Edit.{Edit}
 use Rattle.net_model.specs.declared.edit.Edit.TheVariants.{Undo}
 use Rattle.net_model.specs.Networks.{Net}
 use Rattle.net_model.specs.Accepted.{IsAccepted}
-use Rattle.report_text.specs.net_cells.specs.Meanings.{Meaning}
-use Rattle.report_text.specs.net_cells.specs.Order.{evaluation_order}
-use Rattle.report_text.specs.net_cells.proofs.Lists.{contains_has}
-use Rattle.report_text.specs.net_cells.proofs.Members.{order_has}
+use Rattle.net_cells.specs.Meanings.{Meaning}
+use Rattle.net_cells.specs.Order.{evaluation_order}
+use Rattle.net_cells.proofs.Lists.{contains_has}
+use Rattle.net_cells.proofs.Members.{order_has}
 use Rattle.net_edits.specs.declared.fault.EditFault.{EditFault}
 use Rattle.cell_store.specs.Placed.{placed}
 use Rattle.cell_store.specs.edit_store.Stored.{Stored, HoldsTable, IsStored}

@@ -1,5 +1,5 @@
 -- What holds of the replies on edits: the guarantee, and completeness.
-use Rattle.command_replies.specs.net_bounds.proofs.Kept.{table_bounds_every_run}
+use Rattle.net_bounds.proofs.Kept.{table_bounds_every_run}
 use Rattle.input_texts.specs.table_text.Rows.{rows_of}
 use Rattle.input_texts.proofs.table_text.OneEditList.{edits_one, no_edit_list}
 use Rattle.command_replies.proofs.OneReply.{file_reached, table_reached}

@@ -3,12 +3,12 @@ use Rattle.std.proofs.Common.{◌≡◌, ℕ, ℤ, List, [], ◌∷◌, length, 
 use Rattle.std.specs.Prelude.{None, Ok, Err, not, ◌&&◌, nat_lt, string_bytes}
 use Rattle.upp_limits.specs.declared.own_limits.OverLimit.{OverLimit}
 use Rattle.upp_limits.specs.declared.own_limits.OverLimit.TheVariants as limit
-use Rattle.upp_limits.specs.rational.specs.Rational.{ℚ}
+use Rattle.rational.specs.Rational.{ℚ}
 use Rattle.net_model.specs.declared.edit.Edit.{Edit}
 use Rattle.net_model.specs.declared.edit.Edit.TheVariants as edit
 use Rattle.net_model.specs.declared.edit.PathEntry.{PathEntry}
 use Rattle.net_model.specs.Networks.{Net}
-use Rattle.report_text.specs.net_cells.specs.declared.cell.Cell.{Cell}
+use Rattle.net_cells.specs.declared.cell.Cell.{Cell}
 use Rattle.net_edits.specs.declared.fault.EditFault.{EditFault}
 use Rattle.net_edits.specs.declared.fault.EditFault.TheVariants.{UnknownName, NameTaken, BadValue, LimitReached, Cycle, TooMany, TooWide, NothingToUndo, NoMemory}
 use Rattle.net_edits.specs.Refusals.{Or, and_then, only_if, nothing_to_undo}

@@ -5,8 +5,8 @@ use Rattle.net_model.specs.declared.edit.Done.{Done}
 use Rattle.net_model.specs.declared.edit.Edit.{Edit}
 use Rattle.net_model.specs.declared.edit.Edit.TheVariants.{Undo}
 use Rattle.net_model.specs.Networks.{Net}
-use Rattle.report_text.specs.net_cells.specs.declared.cell.Cell.{Cell}
-use Rattle.report_text.specs.net_cells.specs.Work.{work}
+use Rattle.net_cells.specs.declared.cell.Cell.{Cell}
+use Rattle.net_cells.specs.Work.{work}
 use Rattle.net_edits.specs.declared.fault.EditFault.{EditFault}
 use Rattle.cell_store.specs.edit_store.Stored.{Stored, AreTouched}
 use Rattle.cell_store.specs.edit_store.Applied.{Gives, IsEvaluated}

@@ -1,7 +1,7 @@
 -- No value of a report on edits has a float.
 use Rattle.std.proofs.Common.{◌≡◌, List, [], ◌∷◌, map, refl, false}
 use Rattle.net_model.specs.Networks.{Net}
-use Rattle.report_text.specs.net_cells.specs.Meanings.{CellTable}
+use Rattle.net_cells.specs.Meanings.{CellTable}
 use Rattle.serde_json.specs.View.{items_of}
 use Rattle.serde_json.specs.Written.{has_float, items_have_float}
 use Rattle.report_text.proofs.json_report.Floats.{members_without_float}

@@ -1,6 +1,6 @@
 -- Each status of a reply has its cause.
 use Rattle.std.proofs.Common.{ℕ, length, inl, inr}
-use Rattle.report_text.specs.net_cells.specs.Meanings.{CellTable}
+use Rattle.net_cells.specs.Meanings.{CellTable}
 use Rattle.command_replies.specs.Replies.{Reply}
 use Rattle.outcomes.specs.Stages.{stops, goes_on}
 use Rattle.command_replies.proofs.Causes.{wide, report, on_cell_over}

@@ -6,7 +6,7 @@ use Rattle.net_model.specs.Traces.{SpecTrace}
 use Rattle.net_model.specs.Walks.{IsCycle, IsFeedForward}
 use Rattle.net_model.proofs.net_graph.Returns.{cycle_is_closed}
 use Rattle.net_model.specs.stated_runs.FromTraces.{IsTraceOf}
-use Rattle.report_text.specs.net_cells.specs.Meanings.{CellTable}
+use Rattle.net_cells.specs.Meanings.{CellTable}
 use Rattle.command_replies.specs.Replies.{Reply}
 use Rattle.command_replies.specs.simulated_findings.Found.{IsSimulationReplyBy}
 use Rattle.exercise_load.specs.Loads.{AreOfWorkload}

@@ -2,22 +2,22 @@
 use Rattle.std.proofs.Common.{◌≡◌, ℕ, ◌<◌, List, [], ◌∷◌, length, sym, ap, subst, ◌∙◌}
 use Rattle.std.specs.Prelude.{IsTrue, Some, None, is_some, slice_get}
 use Rattle.std.proofs.lemmas.Option.{slice_get-get_or, same_Some}
-use Rattle.upp_limits.specs.rational.specs.Rational.{ℚ}
-use Rattle.upp_limits.specs.rational.specs.Extended.{Ext, ◌≤ₑ◌}
-use Rattle.upp_limits.specs.rational.specs.declared.Extended.TheVariants.{Fin}
-use Rattle.upp_limits.specs.rational.proofs.ExtendedOrder.{le_ext_trans}
-use Rattle.net_model.specs.run_laws.specs.Delays.{AreAtMost}
-use Rattle.net_model.specs.run_laws.specs.FlowDelays.{delays}
-use Rattle.net_model.specs.run_laws.specs.Lawful.{IsLawful}
+use Rattle.rational.specs.Rational.{ℚ}
+use Rattle.rational.specs.Extended.{Ext, ◌≤ₑ◌}
+use Rattle.rational.specs.declared.Extended.TheVariants.{Fin}
+use Rattle.rational.proofs.ExtendedOrder.{le_ext_trans}
+use Rattle.run_laws.specs.Delays.{AreAtMost}
+use Rattle.run_laws.specs.FlowDelays.{delays}
+use Rattle.run_laws.specs.Lawful.{IsLawful}
 use Rattle.net_model.specs.Accepted.{IsAccepted}
 use Rattle.net_model.specs.Networks.{Net}
 use Rattle.net_model.specs.NetRoutes.{routes_of}
 use Rattle.net_model.specs.Orders.{IsOrder}
-use Rattle.report_text.specs.net_cells.specs.Equations.{MeetsEquations}
-use Rattle.report_text.specs.net_cells.specs.Meanings.{CellTable}
-use Rattle.report_text.specs.net_cells.specs.Numbered.{is_live}
-use Rattle.command_replies.specs.net_bounds.specs.NetRuns.{IsRunOf}
-use Rattle.command_replies.specs.net_bounds.proofs.Kept.{table_bounds_every_run}
+use Rattle.net_cells.specs.Equations.{MeetsEquations}
+use Rattle.net_cells.specs.Meanings.{CellTable}
+use Rattle.net_cells.specs.Numbered.{is_live}
+use Rattle.net_bounds.specs.NetRuns.{IsRunOf}
+use Rattle.net_bounds.proofs.Kept.{table_bounds_every_run}
 use Rattle.command_replies.specs.Replies.{Reply}
 use Rattle.command_replies.specs.run_findings.RunBounds.{AreWithinBounds}
 use Rattle.command_replies.proofs.run_findings.Bounded.{within}

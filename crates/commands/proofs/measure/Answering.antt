@@ -1,11 +1,11 @@
 -- From what single calls answer to the reply on the packets of a flow.
 use Rattle.std.specs.Prelude.{◌≡◌, ℕ, List, length, codes}
 use Rattle.std.proofs.Common.{ap, ◌∙◌}
-use Rattle.upp_limits.specs.rational.specs.Rational.{ℚ}
-use Rattle.upp_limits.specs.min_plus.specs.Functions.{zero_q}
-use Rattle.upp_limits.specs.upp_curve.specs.Curve.{SpecCurve, value_at}
-use Rattle.upp_limits.specs.upp_curve.specs.Curves.{IsCurve}
-use Rattle.upp_limits.specs.upp_curve.specs.Kinds.{bucket}
+use Rattle.rational.specs.Rational.{ℚ}
+use Rattle.min_plus.specs.Functions.{zero_q}
+use Rattle.upp_curve.specs.Curve.{SpecCurve, value_at}
+use Rattle.upp_curve.specs.Curves.{IsCurve}
+use Rattle.upp_curve.specs.Kinds.{bucket}
 use Rattle.upp_limits.specs.declared.op_kind.OpKind.TheVariants.{Vertical}
 use Rattle.upp_limits.specs.declared.own_limits.OverLimit.{OverLimit}
 use Rattle.upp_limits.specs.declared.own_limits.OverLimit.TheVariants.{TooMany, TooWide}

@@ -1,6 +1,6 @@
 -- Each status of a reply has its cause.
 use Rattle.std.proofs.Common.{ℕ, List, refl, inl, inr}
-use Rattle.upp_limits.specs.rational.specs.Rational.{ℚ}
+use Rattle.rational.specs.Rational.{ℚ}
 use Rattle.upp_limits.specs.declared.own_limits.OverLimit.TheVariants.{TooMany, TooWide}
 use Rattle.net_model.specs.declared.trace.TracePacket.{TracePacket}
 use Rattle.command_replies.specs.Replies.{Reply}

@@ -1,15 +1,15 @@
 -- The laws of the replies: what a report says, their statuses, completeness, and that there is one.
 use Rattle.std.specs.Prelude.{◌≡◌, ◌⊎◌, ℕ, List, length, codes}
 use Rattle.std.proofs.Common.{arith, refl, sym, ap, subst, ◌∙◌, inl, inr}
-use Rattle.upp_limits.specs.rational.specs.Rational.{ℚ}
-use Rattle.upp_limits.specs.rational.proofs.Laws.{antisym}
-use Rattle.upp_limits.specs.upp_curve.specs.Curve.{SpecCurve, value_at}
-use Rattle.upp_limits.specs.upp_curve.proofs.OneForm.{normal_unique}
+use Rattle.rational.specs.Rational.{ℚ}
+use Rattle.rational.proofs.Laws.{antisym}
+use Rattle.upp_curve.specs.Curve.{SpecCurve, value_at}
+use Rattle.upp_curve.proofs.OneForm.{normal_unique}
 use Rattle.upp_limits.specs.declared.own_limits.OverLimit.{OverLimit}
 use Rattle.upp_limits.specs.declared.own_limits.OverLimit.TheVariants.{TooMany, TooWide}
 use Rattle.upp_limits.specs.declared.op_kind.OpKind.TheVariants.{Vertical}
-use Rattle.upp_limits.specs.upp_curve.specs.Kinds.{bucket}
-use Rattle.upp_limits.specs.min_plus.specs.Functions.{zero_q}
+use Rattle.upp_curve.specs.Kinds.{bucket}
+use Rattle.min_plus.specs.Functions.{zero_q}
 use Rattle.curve_call.proofs.InTurn.{not_both}
 use Rattle.net_model.specs.declared.trace.TracePacket.{TracePacket}
 use Rattle.net_model.specs.Accepted.{IsAccepted}

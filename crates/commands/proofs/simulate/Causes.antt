@@ -3,7 +3,7 @@ use Rattle.std.proofs.Common.{ℕ, List, length, inl, inr}
 use Rattle.net_model.specs.Networks.{Net}
 use Rattle.net_model.specs.Traces.{SpecTrace}
 use Rattle.report_text.specs.RunReport.{run_report_of}
-use Rattle.report_text.specs.net_cells.specs.Meanings.{CellTable}
+use Rattle.net_cells.specs.Meanings.{CellTable}
 use Rattle.command_replies.specs.Replies.{Reply}
 use Rattle.outcomes.specs.Stages.{stops, goes_on}
 use Rattle.command_replies.proofs.Causes.{malformed, wide, cycle, report, on_no_network, on_cell_over}

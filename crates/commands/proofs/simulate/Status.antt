@@ -1,6 +1,6 @@
 -- The status of a report tells whether its run keeps the premises.
 use Rattle.std.proofs.Common.{ℕ, List, length}
-use Rattle.net_model.specs.run_laws.specs.Lawful.{IsLawful}
+use Rattle.run_laws.specs.Lawful.{IsLawful}
 use Rattle.net_model.specs.NetRoutes.{routes_of}
 use Rattle.input_texts.specs.table_text.Rows.{rows_of}
 use Rattle.report_text.specs.RunReport.{run_report_of}

@@ -1,7 +1,7 @@
 -- A report without a breach shows no number above the bound beside it, and the bounds of each report hold.
 use Rattle.std.proofs.Common.{◌≡◌, ℕ, List, length}
-use Rattle.command_replies.specs.net_bounds.specs.NetRuns.{IsRunOf}
-use Rattle.command_replies.specs.net_bounds.proofs.Kept.{table_bounds_every_run}
+use Rattle.net_bounds.specs.NetRuns.{IsRunOf}
+use Rattle.net_bounds.proofs.Kept.{table_bounds_every_run}
 use Rattle.command_replies.specs.Replies.{Reply}
 use Rattle.command_replies.proofs.run_findings.Bounded.{within}
 use Rattle.commands.specs.simulate.OnTraces.{IsRunReport}

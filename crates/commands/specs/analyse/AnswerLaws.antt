@@ -1,6 +1,6 @@
 -- What holds of the replies on a file.
 use Rattle.std.specs.Prelude.{◌≡◌, ℕ, List, Some, codes}
-use Rattle.upp_limits.specs.rational.specs.declared.Extended.TheVariants.{Inf}
+use Rattle.rational.specs.declared.Extended.TheVariants.{Inf}
 use Rattle.upp_limits.specs.declared.op_kind.OpFault.{OpFault}
 use Rattle.upp_limits.specs.declared.own_limits.OverLimit.TheVariants.{TooMany, TooWide}
 use Rattle.net_model.specs.Networks.{Net}
@@ -8,9 +8,9 @@ use Rattle.net_model.specs.Orders.{IsOrder}
 use Rattle.net_model.specs.Walks.{IsFeedForward}
 use Rattle.net_text.specs.Reading.{IsNetworkOf}
 use Rattle.net_text.specs.FoldLimits.{OverFold}
-use Rattle.report_text.specs.net_cells.specs.declared.cell.Cell.{Cell}
-use Rattle.report_text.specs.net_cells.specs.Meanings.{number, CellTable}
-use Rattle.report_text.specs.net_cells.specs.FirstOver.{FirstOver}
+use Rattle.net_cells.specs.declared.cell.Cell.{Cell}
+use Rattle.net_cells.specs.Meanings.{number, CellTable}
+use Rattle.net_cells.specs.FirstOver.{FirstOver}
 use Rattle.report_text.specs.Shown.{shown}
 use Rattle.report_text.specs.declared.json_report.form.Form.{Form}
 use Rattle.command_replies.specs.Causes as causes

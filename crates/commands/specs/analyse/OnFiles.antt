@@ -3,10 +3,10 @@
 use Rattle.std.specs.Prelude.{◌≡◌, ℕ, List}
 use Rattle.net_model.specs.Networks.{Net}
 use Rattle.net_model.specs.Orders.{IsOrder}
-use Rattle.report_text.specs.net_cells.specs.Meanings.{CellTable}
-use Rattle.report_text.specs.net_cells.specs.Equations.{MeetsEquations}
-use Rattle.report_text.specs.net_cells.specs.FirstOver.{AnswersAll}
-use Rattle.report_text.specs.net_cells.specs.Order.{evaluation_order}
+use Rattle.net_cells.specs.Meanings.{CellTable}
+use Rattle.net_cells.specs.Equations.{MeetsEquations}
+use Rattle.net_cells.specs.FirstOver.{AnswersAll}
+use Rattle.net_cells.specs.Order.{evaluation_order}
 use Rattle.command_replies.specs.Replies.{Reply}
 use Rattle.report_text.specs.declared.json_report.form.Form.{Form}
 use Rattle.report_text.specs.json_report.Forms.{report_in}

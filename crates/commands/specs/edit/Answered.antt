@@ -5,10 +5,10 @@ use Rattle.net_model.specs.declared.edit.Edit.TheVariants.{Undo}
 use Rattle.net_model.specs.Networks.{Net}
 use Rattle.net_model.specs.Accepted.{IsAccepted}
 use Rattle.net_model.specs.Orders.{IsOrder}
-use Rattle.report_text.specs.net_cells.specs.declared.cell.Cell.{Cell}
-use Rattle.report_text.specs.net_cells.specs.Meanings.{CellTable}
-use Rattle.report_text.specs.net_cells.specs.FirstOver.{AnswersAll}
-use Rattle.report_text.specs.net_cells.specs.Order.{evaluation_order}
+use Rattle.net_cells.specs.declared.cell.Cell.{Cell}
+use Rattle.net_cells.specs.Meanings.{CellTable}
+use Rattle.net_cells.specs.FirstOver.{AnswersAll}
+use Rattle.net_cells.specs.Order.{evaluation_order}
 use Rattle.net_edits.specs.declared.fault.EditFault.{EditFault}
 use Rattle.cell_store.specs.edit_store.Stored.{AreTouched}
 use Rattle.cell_store.specs.edit_store.Applied.{Gives}

@@ -9,8 +9,8 @@ use Rattle.net_text.specs.Folds.{StepsAtMost}
 use Rattle.net_text.specs.Reading.{IsNetworkOf, FirstFault}
 use Rattle.net_text.specs.FoldLimits.{OverFold}
 use Rattle.subadd_closure.specs.FoldWork.{fold_work}
-use Rattle.report_text.specs.net_cells.specs.declared.cell.Cell.{Cell}
-use Rattle.report_text.specs.net_cells.specs.Work.{work}
+use Rattle.net_cells.specs.declared.cell.Cell.{Cell}
+use Rattle.net_cells.specs.Work.{work}
 use Rattle.input_texts.specs.table_text.EditRows.{edit_view}
 use Rattle.cell_store.specs.edit_store.Stored.{AreTouched}
 use Rattle.cell_store.specs.edit_store.Applied.{Gives, IsEvaluated}

@@ -4,7 +4,7 @@ use Rattle.std.specs.Prelude.{ℕ, List, ◌++◌, ◌+◌, length, map, codes, 
 use Rattle.std.specs.Fmt.{decimal}
 use Rattle.std.specs.List.{flat_map, range_with_len}
 use Rattle.net_model.specs.Networks.{Net}
-use Rattle.report_text.specs.net_cells.specs.Meanings.{CellTable}
+use Rattle.net_cells.specs.Meanings.{CellTable}
 use Rattle.report_text.specs.Report.{report_of}
 use Rattle.serde_json.specs.Data.{Data, string, number, unsigned, boolean, array, object, no_members, member}
 use Rattle.serde_json.specs.View.{items_of}

@@ -1,19 +1,19 @@
 -- What holds of the replies on the number of a workload.
 use Rattle.std.specs.Prelude.{◌≡◌, ◌<◌, ◌^◌, ℕ, List, IsTrue}
-use Rattle.upp_limits.specs.rational.specs.Extended.{◌≤ₑ◌}
-use Rattle.upp_limits.specs.rational.specs.declared.Extended.TheVariants.{Fin}
+use Rattle.rational.specs.Extended.{◌≤ₑ◌}
+use Rattle.rational.specs.declared.Extended.TheVariants.{Fin}
 use Rattle.upp_limits.specs.declared.op_kind.OpFault.{OpFault}
 use Rattle.upp_limits.specs.declared.own_limits.OverLimit.TheVariants.{TooMany}
-use Rattle.net_model.specs.run_laws.specs.Bounds.{IsFlowBounded}
-use Rattle.net_model.specs.run_laws.specs.Runs.{SpecRun}
+use Rattle.run_laws.specs.Bounds.{IsFlowBounded}
+use Rattle.run_laws.specs.Runs.{SpecRun}
 use Rattle.net_model.specs.NetRoutes.{routes_of}
 use Rattle.net_model.specs.Networks.{Net}
 use Rattle.net_model.specs.Orders.{IsOrder}
-use Rattle.report_text.specs.net_cells.specs.declared.cell.Cell.{Cell}
-use Rattle.report_text.specs.net_cells.specs.FirstOver.{FirstOver}
-use Rattle.report_text.specs.net_cells.specs.Meanings.{CellTable}
-use Rattle.report_text.specs.net_cells.specs.Numbered.{is_live}
-use Rattle.command_replies.specs.net_bounds.specs.NetRuns.{IsRunOf}
+use Rattle.net_cells.specs.declared.cell.Cell.{Cell}
+use Rattle.net_cells.specs.FirstOver.{FirstOver}
+use Rattle.net_cells.specs.Meanings.{CellTable}
+use Rattle.net_cells.specs.Numbered.{is_live}
+use Rattle.net_bounds.specs.NetRuns.{IsRunOf}
 use Rattle.sim_bounds.specs.Gauge.{simulation_gauge}
 use Rattle.command_replies.specs.Causes as causes
 use Rattle.command_replies.specs.Causes.{NoReply}

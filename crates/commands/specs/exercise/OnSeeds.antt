@@ -5,10 +5,10 @@ use Rattle.upp_limits.specs.declared.own_limits.OverLimit.{OverLimit}
 use Rattle.upp_limits.specs.declared.own_limits.OverLimit.TheVariants.{TooWide}
 use Rattle.net_model.specs.Networks.{Net}
 use Rattle.net_model.specs.Orders.{IsOrder}
-use Rattle.report_text.specs.net_cells.specs.Equations.{MeetsEquations}
-use Rattle.report_text.specs.net_cells.specs.FirstOver.{AnswersAll}
-use Rattle.report_text.specs.net_cells.specs.Meanings.{CellTable}
-use Rattle.report_text.specs.net_cells.specs.Order.{evaluation_order}
+use Rattle.net_cells.specs.Equations.{MeetsEquations}
+use Rattle.net_cells.specs.FirstOver.{AnswersAll}
+use Rattle.net_cells.specs.Meanings.{CellTable}
+use Rattle.net_cells.specs.Order.{evaluation_order}
 use Rattle.run_watch.specs.simulated_sizes.Laws.{AreCurves}
 use Rattle.command_replies.specs.OnFiles.{IsNetOver, OnOrder, OnCurves}
 use Rattle.command_replies.specs.Replies.{Reply}

@@ -1,6 +1,6 @@
 -- Of the replies on a network's file and a trace, those of each status.
 use Rattle.std.specs.Prelude.{◌⊎◌, ℕ, List}
-use Rattle.upp_limits.specs.rational.specs.Rational.{ℚ}
+use Rattle.rational.specs.Rational.{ℚ}
 use Rattle.upp_limits.specs.declared.own_limits.OverLimit.{OverLimit}
 use Rattle.upp_limits.specs.declared.own_limits.OverLimit.TheVariants.{TooMany, TooWide}
 use Rattle.command_replies.specs.Causes as causes

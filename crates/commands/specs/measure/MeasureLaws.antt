@@ -1,13 +1,13 @@
 -- What holds of the replies on a network's file and a trace.
 use Rattle.std.specs.Prelude.{◌≡◌, ◌⊎◌, ℕ, List}
-use Rattle.upp_limits.specs.rational.specs.Rational.{ℚ, ◌≤ℚ◌}
-use Rattle.upp_limits.specs.upp_curve.specs.Curve.{SpecCurve, value_at}
+use Rattle.rational.specs.Rational.{ℚ, ◌≤ℚ◌}
+use Rattle.upp_curve.specs.Curve.{SpecCurve, value_at}
 use Rattle.upp_limits.specs.declared.own_limits.OverLimit.{OverLimit}
 use Rattle.net_model.specs.declared.trace.TracePacket.{TracePacket}
 use Rattle.measure_curve.specs.Laws.{IsLeastBucket}
 use Rattle.measure_curve.specs.Windows.{Keep}
-use Rattle.upp_limits.specs.rational.specs.Extended.{Ext, ◌≤ₑ◌}
-use Rattle.upp_limits.specs.min_plus.specs.Functions.{zero_q}
+use Rattle.rational.specs.Extended.{Ext, ◌≤ₑ◌}
+use Rattle.min_plus.specs.Functions.{zero_q}
 use Rattle.command_replies.specs.Replies.{Reply}
 use Rattle.commands.specs.measure.OnMeasures.{AreOwn, AreOver, IsMeasured, IsOverBurst, IsReportOf, IsMeasureReply}
 

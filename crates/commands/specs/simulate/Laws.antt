@@ -1,6 +1,6 @@
 -- What holds of the replies on a network and a trace.
 use Rattle.std.specs.Prelude.{◌≡◌, ◌≢◌, ◌<◌, ◌^◌, ◌⊎◌, ℕ, List, [], Some, slice_get}
-use Rattle.upp_limits.specs.rational.specs.Rational.{ℚ}
+use Rattle.rational.specs.Rational.{ℚ}
 use Rattle.upp_limits.specs.declared.op_kind.OpFault.{OpFault}
 use Rattle.upp_limits.specs.declared.own_limits.OverLimit.TheVariants.{TooMany, TooWide}
 use Rattle.net_model.specs.declared.breach.Breach.TheVariants.{Service}
@@ -10,9 +10,9 @@ use Rattle.net_model.specs.Traces.{SpecTrace}
 use Rattle.net_model.specs.Walks.{IsFeedForward}
 use Rattle.net_text.specs.Reading.{IsNetworkOf}
 use Rattle.net_text.specs.FoldLimits.{OverFold}
-use Rattle.report_text.specs.net_cells.specs.declared.cell.Cell.{Cell}
-use Rattle.report_text.specs.net_cells.specs.FirstOver.{FirstOver}
-use Rattle.command_replies.specs.net_bounds.specs.NetRuns.{IsRunOf}
+use Rattle.net_cells.specs.declared.cell.Cell.{Cell}
+use Rattle.net_cells.specs.FirstOver.{FirstOver}
+use Rattle.net_bounds.specs.NetRuns.{IsRunOf}
 use Rattle.sim_bounds.specs.Gauge.{simulation_gauge}
 use Rattle.net_model.specs.stated_runs.FromTraces.{stalls_at}
 use Rattle.sim_bounds.specs.stated_service.Laws.{IsByFormula}

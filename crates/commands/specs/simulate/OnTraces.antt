@@ -6,10 +6,10 @@ use Rattle.upp_limits.specs.declared.own_limits.OverLimit.{OverLimit}
 use Rattle.net_model.specs.Networks.{Net}
 use Rattle.net_model.specs.Orders.{IsOrder}
 use Rattle.net_model.specs.Traces.{SpecTrace, IsTrace}
-use Rattle.report_text.specs.net_cells.specs.Meanings.{CellTable}
-use Rattle.report_text.specs.net_cells.specs.Equations.{MeetsEquations}
-use Rattle.report_text.specs.net_cells.specs.FirstOver.{AnswersAll}
-use Rattle.report_text.specs.net_cells.specs.Order.{evaluation_order}
+use Rattle.net_cells.specs.Meanings.{CellTable}
+use Rattle.net_cells.specs.Equations.{MeetsEquations}
+use Rattle.net_cells.specs.FirstOver.{AnswersAll}
+use Rattle.net_cells.specs.Order.{evaluation_order}
 use Rattle.run_watch.specs.simulated_sizes.Laws.{AreCurves}
 use Rattle.input_texts.specs.table_text.Rows.{rows_of}
 use Rattle.input_texts.specs.table_text.Traces.{IsTraceOf}

@@ -1,7 +1,7 @@
 //! The verdict on a recorded run, and the report on it.
 
 ghost use Rattle.std.specs.Prelude.{◌≡◌, ◌<◌, ◌^◌, IfOk, length};
-ghost use Rattle.net_model.specs.run_laws.specs.Lawful.{IsLawful};
+ghost use Rattle.run_laws.specs.Lawful.{IsLawful};
 ghost use Rattle.net_model.specs.Accepted.{IsAccepted};
 ghost use Rattle.net_model.specs.NetRoutes.{routes_of};
 ghost use Rattle.run_check.specs.broken_laws.FirstBroken.{IsFirstBroken};
@@ -15,12 +15,12 @@ ghost use Rattle.commands.specs.check.Checked.{IsUnlawfulOn, IsLawfulOn, IsRepor
 use crate::check::refusals::check_too_wide;
 use command_replies::run_findings::{findings, status_by};
 use command_replies::{Answer, Status};
+use net_cells::cell_table::{Analysis, Table, Value};
 use net_model::Network;
-use net_model::run_laws::{Run, Step};
-use report_text::net_cells::cell_table::{Analysis, Table, Value};
 use run_check::check_gauge::is_too_wide;
 use run_check::check_report::{lawful_text, unlawful_text};
 use run_check::{Broken, first_broken};
+use run_laws::{Run, Step};
 use std::alloc::{AllocError, Global};
 
 // Whether a packet enters.

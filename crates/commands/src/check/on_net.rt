@@ -12,8 +12,8 @@ use crate::tabled::table_of;
 use command_replies::Answer;
 use command_replies::run_findings::keeps_curves;
 use net_model::Network;
-use net_model::run_laws::Run;
 use outcomes::Steps;
+use run_laws::Run;
 use std::alloc::{AllocError, Global};
 use std::sync::ledger::Ledger;
 

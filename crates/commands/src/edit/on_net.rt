@@ -5,7 +5,7 @@ ghost use Rattle.input_texts.specs.table_text.EditRows.{edit_view};
 ghost use Rattle.net_model.specs.Accepted.{IsAccepted};
 ghost use Rattle.net_model.specs.Orders.{IsOrder};
 ghost use Rattle.net_model.specs.Networks.{Net};
-ghost use Rattle.report_text.specs.net_cells.specs.Meanings.{CellTable};
+ghost use Rattle.net_cells.specs.Meanings.{CellTable};
 ghost use Rattle.command_replies.specs.View.{reply_of, status_of, code_of};
 ghost use Rattle.commands.specs.edit.NetHistories.{begun};
 ghost use Rattle.commands.specs.edit.OnEdits.{AreReported, IsReplyOnEdits};
@@ -13,14 +13,14 @@ ghost use Rattle.commands.specs.edit.EditCounts.{WorkOfEdits, CountsOnEdits};
 
 use crate::edit::rows::all_answered;
 use crate::edit_report::edit_text_in;
-use cell_store::cell_eval::Counted;
+use cell_eval::Counted;
 use cell_store::edit_store::Store;
 use command_replies::{Answer, Status, cell_too_many, cell_too_wide, goes_round};
+use net_cells::cell_table::{AnalysisFault, Evaluator, Value};
 use net_model::net_graph::{GraphFault, order};
 use net_model::{Edit, Network};
 use outcomes::Steps;
 use report_text::json_report::Form;
-use report_text::net_cells::cell_table::{AnalysisFault, Evaluator, Value};
 use std::alloc::{AllocError, Global};
 use std::sync::ledger::Ledger;
 

@@ -12,9 +12,9 @@ ghost use Rattle.commands.specs.edit.EditCounts.{IsWorkOf, IsTakenWork};
 
 use crate::edit_report::{Said, said_of};
 use cell_store::edit_store::Store;
+use net_cells::cell_table::{Evaluator, Value};
 use net_edits::EditFault;
 use net_model::{Done, Edit, Network};
-use report_text::net_cells::cell_table::{Evaluator, Value};
 use std::alloc::{AllocError, Global};
 
 // The network that an edit which no rule refuses would make, or the present one where the edit's own curve is over a

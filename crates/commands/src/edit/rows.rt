@@ -9,8 +9,8 @@ ghost use Rattle.commands.specs.edit.EditCounts.{WorkOfEdits};
 use crate::edit::row::answered;
 use crate::edit_report::Said;
 use cell_store::edit_store::Store;
+use net_cells::cell_table::{Evaluator, Value};
 use net_model::Edit;
-use report_text::net_cells::cell_table::{Evaluator, Value};
 use std::alloc::{AllocError, Global};
 
 /// Makes edits in turn, and gives what is said of each. Refused only for want of memory.

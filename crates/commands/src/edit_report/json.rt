@@ -7,10 +7,10 @@ ghost use Rattle.commands.specs.edit_report.EditReport.{said_data, edit_report_d
 ghost use Rattle.commands.specs.edit_report.Said.{said_view};
 
 use crate::edit_report::said::Said;
+use net_cells::cell_table::Table;
 use net_model::Network;
 use report_text::ShownValue;
 use report_text::json_report::{array_of, flow_values, json_line, queue_values};
-use report_text::net_cells::cell_table::Table;
 use serde_json::{Value, json};
 use std::alloc::{AllocError, Global};
 

@@ -6,9 +6,9 @@ ghost use Rattle.commands.specs.edit_report.Said.{said_view};
 
 use crate::edit_report::json::json_text;
 use crate::edit_report::said::Said;
+use net_cells::cell_table::Table;
 use net_model::Network;
 use report_text::json_report::Form;
-use report_text::net_cells::cell_table::Table;
 use report_text::{ShownValue, analysis_text, push_after, push_decimal, push_text};
 use std::alloc::{AllocError, Global};
 

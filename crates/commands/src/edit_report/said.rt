@@ -5,9 +5,9 @@ ghost use Rattle.report_text.specs.CellWords.{server_name, cell_words};
 ghost use Rattle.report_text.specs.Refusals.{spaced};
 ghost use Rattle.commands.specs.edit_report.Said as spec;
 
+use net_cells::Cell;
 use net_edits::EditFault;
 use net_model::{Done, Network};
-use report_text::net_cells::Cell;
 use report_text::{cell_text, server_name};
 use std::alloc::{AllocError, Global};
 

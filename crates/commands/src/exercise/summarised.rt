@@ -13,9 +13,9 @@ use command_replies::run_findings::status_by;
 use command_replies::simulated_findings::find;
 use command_replies::{Answer, sim_too_wide};
 use exercise_load::exercise_report::summary_text;
+use net_cells::cell_table::{Analysis, Table, Value};
 use net_model::{Network, Trace};
 use report_text::RunFound;
-use report_text::net_cells::cell_table::{Analysis, Table, Value};
 use simulator::net_simulator::SimFault;
 use std::alloc::{AllocError, Global};
 

@@ -1,21 +1,21 @@
 //! The answer on a network's file and a trace.
 
 ghost use Rattle.std.specs.Prelude.{◌≡◌, ◌+◌, ◌≤◌, IfOk};
-ghost use Rattle.upp_limits.specs.rational.specs.Rational.{◌≤ℚ◌};
-ghost use Rattle.upp_limits.specs.min_plus.specs.Functions.{zero_q};
+ghost use Rattle.rational.specs.Rational.{◌≤ℚ◌};
+ghost use Rattle.min_plus.specs.Functions.{zero_q};
 ghost use Rattle.command_replies.specs.View.{reply_of, status_of};
 ghost use Rattle.commands.specs.measure.MeasureCounts.{CountsOn};
 ghost use Rattle.commands.specs.measure.OnMeasures.{IsMeasureReply, IsReplyOnNet};
 
 use crate::measure::on_trace::on_trace;
 use command_replies::{Answer, on_fault, on_table_fault};
+use fraction128::Frac;
 use input_texts::table_text::read_trace;
 use net_model::Network;
 use net_text::read_network;
 use outcomes::Steps;
 use std::alloc::{AllocError, Global};
 use std::sync::ledger::Ledger;
-use upp_limits::fraction128::Frac;
 
 // The answer on a network and the bytes of a trace: by the trace's first fault, or on the trace.
 fn on_rows<L: Ledger>(

@@ -1,9 +1,9 @@
 //! The answer on a trace.
 
 ghost use Rattle.std.specs.Prelude.{◌≡◌, ◌+◌, ◌≤◌, IfOk, length};
-ghost use Rattle.upp_limits.specs.rational.specs.Rational.{◌≤ℚ◌};
-ghost use Rattle.upp_limits.specs.min_plus.specs.Functions.{zero_q};
-ghost use Rattle.upp_limits.specs.upp_curve.specs.Curve.{value_at};
+ghost use Rattle.rational.specs.Rational.{◌≤ℚ◌};
+ghost use Rattle.min_plus.specs.Functions.{zero_q};
+ghost use Rattle.upp_curve.specs.Curve.{value_at};
 ghost use Rattle.measure_curve.specs.Bursts.{IsBounded};
 ghost use Rattle.measure_curve.specs.Limits.{AreTooMany, AreTooWide};
 ghost use Rattle.measure_curve.specs.Staircases.{TellRises};
@@ -13,15 +13,15 @@ ghost use Rattle.commands.specs.measure.OnMeasures.{IsReplyOnPackets, IsReplyOnT
 
 use crate::measure::refusals::{too_many, too_wide, unknown_flow};
 use command_replies::{Answer, Status};
+use fraction128::Frac;
 use measure_curve::{MeasureFault, least_burst, least_curve};
 use net_model::{Network, Trace};
 use outcomes::Steps;
 use report_text::measure_report::measure_text;
 use std::alloc::{AllocError, Global};
 use std::sync::ledger::Ledger;
+use upp_curve::Curve;
 use upp_limits::OpFault;
-use upp_limits::fraction128::Frac;
-use upp_limits::upp_curve::Curve;
 
 // How many packets of a trace a flow has.
 fn packets_of(trace: &Trace, flow: u32) -> usize

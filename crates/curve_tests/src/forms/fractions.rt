@@ -1,9 +1,9 @@
 //! Worked values. What no clause says is how a number is spelt, and that the definitions are the ones meant.
 
+use fraction128::{Frac, FracFault, FracText, gcd_of, is_less, least_common_multiple};
 use std::alloc::{AllocError, Global};
 use std::process::Abort;
 use std::test::Fail;
-use upp_limits::fraction128::{Frac, FracFault, FracText, gcd_of, is_less, least_common_multiple};
 
 // The fraction of a text, or 0 where it is none.
 fn fraction(text: &str) -> Frac {

@@ -1,9 +1,9 @@
 //! Values worked out by hand.
 
 use crate::shapes::{line, ratio, whole};
-use upp_limits::fraction128::{Ext, Frac, Op, Wide};
-use upp_limits::rational::Extended;
-use upp_limits::upp_curve::affine_segment::{Line, cross, element_min, is_before, value};
+use fraction128::{Ext, Frac, Op, Wide};
+use rational::Extended;
+use upp_curve::affine_segment::{Line, cross, element_min, is_before, value};
 
 const LARGEST: i128 = i128::MAX;
 

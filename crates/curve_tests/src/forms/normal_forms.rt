@@ -2,13 +2,13 @@
 
 use crate::forms::own_limits::stair;
 use crate::shapes::{curve, fraction_piece, line_piece, piece, ratio, repeats, whole};
+use fraction128::Frac;
+use rational::Extended;
 use std::alloc::{AllocError, Global};
 use std::process::Abort;
 use std::test::Fail;
-use upp_limits::fraction128::Frac;
-use upp_limits::rational::Extended;
-use upp_limits::upp_curve::affine_segment::Piece;
-use upp_limits::upp_curve::{Tail, equal};
+use upp_curve::affine_segment::Piece;
+use upp_curve::{Tail, equal};
 use upp_normal::pieces_to;
 
 // From each time on a value.

@@ -1,10 +1,10 @@
 //! A gauge and tallies, worked out by hand.
 
 use crate::shapes::{curve, fraction_piece, line_piece, ratio, repeating, whole};
+use fraction128::Frac;
 use std::alloc::Global;
 use std::test::Fail;
-use upp_limits::fraction128::Frac;
-use upp_limits::upp_curve::{Curve, Tail};
+use upp_curve::{Curve, Tail};
 use upp_limits::{OpFault, OpKind, gauge, tally};
 
 // 1/2 at 0 and 1 + 5/4 t after it; each 3/2 later it is 5/7 higher.

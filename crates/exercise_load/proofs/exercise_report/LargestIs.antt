@@ -3,18 +3,18 @@ use Rattle.std.proofs.Common.{◌≡◌, ℕ, zero, suc, ◌<◌, List, [], ◌�
 use Rattle.std.specs.Prelude.{Contains, Option, Some, None, is_some, true}
 use Rattle.std.specs.List.{range_with_len}
 use Rattle.std.proofs.lemmas.List.FromFn.{get_or-range_with_len, length-range_with_len}
-use Rattle.upp_limits.specs.rational.specs.Rational.{ℚ, ◌≤ℚ◌}
-use Rattle.upp_limits.specs.rational.specs.Extended.{Ext, ◌≤ₑ◌, max_ext}
-use Rattle.upp_limits.specs.rational.specs.MinMax.{max_q}
-use Rattle.upp_limits.specs.rational.specs.declared.Extended.TheVariants.{Fin}
-use Rattle.upp_limits.specs.rational.proofs.ExtendedOrder.{le_ext_refl, le_ext_trans, max_left, max_right, max_one}
-use Rattle.upp_limits.specs.rational.proofs.Laws.{le_refl, le_trans}
-use Rattle.upp_limits.specs.rational.proofs.MinMax.{max_q_ge_left, max_q_ge_right, max_q_one}
-use Rattle.upp_limits.specs.min_plus.specs.Functions.{zero_q}
+use Rattle.rational.specs.Rational.{ℚ, ◌≤ℚ◌}
+use Rattle.rational.specs.Extended.{Ext, ◌≤ₑ◌, max_ext}
+use Rattle.rational.specs.MinMax.{max_q}
+use Rattle.rational.specs.declared.Extended.TheVariants.{Fin}
+use Rattle.rational.proofs.ExtendedOrder.{le_ext_refl, le_ext_trans, max_left, max_right, max_one}
+use Rattle.rational.proofs.Laws.{le_refl, le_trans}
+use Rattle.rational.proofs.MinMax.{max_q_ge_left, max_q_ge_right, max_q_one}
+use Rattle.min_plus.specs.Functions.{zero_q}
 use Rattle.net_model.specs.Networks.{Net, NetFlow}
-use Rattle.report_text.specs.net_cells.specs.Meanings.{Meaning, curve, number, CellTable}
-use Rattle.report_text.specs.net_cells.specs.Numbered.{flow_at}
-use Rattle.report_text.specs.net_cells.proofs.Places.{live_inside}
+use Rattle.net_cells.specs.Meanings.{Meaning, curve, number, CellTable}
+use Rattle.net_cells.specs.Numbered.{flow_at}
+use Rattle.net_cells.proofs.Places.{live_inside}
 use Rattle.exercise_load.specs.exercise_report.Largest.{number_alone, bound_cell, bound_of, bound_at, bounds, largest_bound, largest_delay}
 use Rattle.exercise_load.specs.exercise_report.SummaryLaws.{IsBoundOf, LargestBoundIsOne, LargestDelayIsOne}
 use Rattle.exercise_load.proofs.exercise_report.Folds.{Greater, from, each, one}

@@ -2,14 +2,14 @@
 use Rattle.std.proofs.Common.{◌≡◌, ℕ, List, ◌++◌, length, refl, ap, true}
 use Rattle.std.specs.Prelude.{◌==◌, ◌&&◌, is_some, Option, Some, None}
 use Rattle.std.specs.List.{fold}
-use Rattle.upp_limits.specs.rational.specs.Extended.{max_ext}
-use Rattle.upp_limits.specs.rational.specs.declared.Extended.TheVariants.{Fin}
-use Rattle.upp_limits.specs.min_plus.specs.Functions.{zero_q}
+use Rattle.rational.specs.Extended.{max_ext}
+use Rattle.rational.specs.declared.Extended.TheVariants.{Fin}
+use Rattle.min_plus.specs.Functions.{zero_q}
 use Rattle.net_model.specs.Networks.{Net, NetFlow}
-use Rattle.report_text.specs.net_cells.specs.Meanings.{CellTable}
-use Rattle.report_text.specs.net_cells.specs.Numbered.{flow_at, is_live}
-use Rattle.report_text.specs.net_cells.proofs.Tables.{tables_agree}
-use Rattle.report_text.specs.net_cells.proofs.Growing.{flat_below}
+use Rattle.net_cells.specs.Meanings.{CellTable}
+use Rattle.net_cells.specs.Numbered.{flow_at, is_live}
+use Rattle.net_cells.proofs.Tables.{tables_agree}
+use Rattle.net_cells.proofs.Growing.{flat_below}
 use Rattle.report_text.specs.Laws.{AgreeWherePrinted}
 use Rattle.report_text.specs.RunReport.{breach_line}
 use Rattle.exercise_load.specs.exercise_report.Largest.{number_alone, bound_cell, bound_of, bound_at, largest_bound}

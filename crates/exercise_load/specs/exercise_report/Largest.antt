@@ -1,17 +1,17 @@
 -- The largest of the bounds of a network's flows, and of the worst delays of a run. Own choice.
 use Rattle.std.specs.Prelude.{ℕ, List, [], ◌∷◌, length, Option, Some, None}
 use Rattle.std.specs.List.{flat_map, fold, range_with_len}
-use Rattle.upp_limits.specs.rational.specs.Rational.{ℚ}
-use Rattle.upp_limits.specs.rational.specs.Extended.{Ext, max_ext}
-use Rattle.upp_limits.specs.rational.specs.MinMax.{max_q}
-use Rattle.upp_limits.specs.rational.specs.declared.Extended.TheVariants.{Fin}
-use Rattle.upp_limits.specs.min_plus.specs.Functions.{zero_q}
+use Rattle.rational.specs.Rational.{ℚ}
+use Rattle.rational.specs.Extended.{Ext, max_ext}
+use Rattle.rational.specs.MinMax.{max_q}
+use Rattle.rational.specs.declared.Extended.TheVariants.{Fin}
+use Rattle.min_plus.specs.Functions.{zero_q}
 use Rattle.net_model.specs.Networks.{Net, NetFlow}
-use Rattle.report_text.specs.net_cells.specs.declared.cell.Cell.{Cell}
-use Rattle.report_text.specs.net_cells.specs.declared.cell.Kind.TheVariants.{Bound}
-use Rattle.report_text.specs.net_cells.specs.Cells.{cell_of}
-use Rattle.report_text.specs.net_cells.specs.Meanings.{Meaning, curve, number, CellTable}
-use Rattle.report_text.specs.net_cells.specs.Numbered.{flow_at}
+use Rattle.net_cells.specs.declared.cell.Cell.{Cell}
+use Rattle.net_cells.specs.declared.cell.Kind.TheVariants.{Bound}
+use Rattle.net_cells.specs.Cells.{cell_of}
+use Rattle.net_cells.specs.Meanings.{Meaning, curve, number, CellTable}
+use Rattle.net_cells.specs.Numbered.{flow_at}
 
 -- a number alone, where there is one
 abbrev pub number_alone : Option Meaning → List Ext

@@ -1,11 +1,11 @@
 -- The bytes of the summary of a workload that was analysed and simulated. Own choice.
 use Rattle.std.specs.Prelude.{ℕ, ◌++◌, List, length, codes}
 use Rattle.std.specs.Fmt.{decimal}
-use Rattle.upp_limits.specs.rational.specs.Extended.{Ext}
-use Rattle.upp_limits.specs.fraction128.specs.Text.{text_of}
+use Rattle.rational.specs.Extended.{Ext}
+use Rattle.fraction128.specs.Text.{text_of}
 use Rattle.input_texts.specs.plain_text.Numbers.{number_text}
 use Rattle.net_model.specs.Networks.{Net}
-use Rattle.report_text.specs.net_cells.specs.Meanings.{CellTable}
+use Rattle.net_cells.specs.Meanings.{CellTable}
 use Rattle.report_text.specs.Report.{live_flows}
 use Rattle.report_text.specs.RunReport.{Found, breach_line}
 use Rattle.exercise_load.specs.exercise_report.Largest.{largest_bound, largest_delay}

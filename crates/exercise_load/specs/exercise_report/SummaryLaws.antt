@@ -1,17 +1,17 @@
 -- Laws of the summary.
 use Rattle.std.specs.Prelude.{◌≡◌, ◌⊎◌, ℕ, List, Contains, Some, IsTrue}
-use Rattle.upp_limits.specs.rational.specs.Rational.{ℚ, ◌≤ℚ◌}
-use Rattle.upp_limits.specs.rational.specs.Extended.{Ext, ◌≤ₑ◌}
-use Rattle.upp_limits.specs.rational.specs.declared.Extended.TheVariants.{Fin}
-use Rattle.upp_limits.specs.min_plus.specs.Functions.{zero_q}
+use Rattle.rational.specs.Rational.{ℚ, ◌≤ℚ◌}
+use Rattle.rational.specs.Extended.{Ext, ◌≤ₑ◌}
+use Rattle.rational.specs.declared.Extended.TheVariants.{Fin}
+use Rattle.min_plus.specs.Functions.{zero_q}
 use Rattle.net_model.specs.Accepted.{IsAccepted}
 use Rattle.net_model.specs.Networks.{Net}
 use Rattle.net_model.specs.Orders.{IsOrder}
-use Rattle.report_text.specs.net_cells.specs.declared.cell.Kind.TheVariants.{Bound}
-use Rattle.report_text.specs.net_cells.specs.Cells.{cell_of}
-use Rattle.report_text.specs.net_cells.specs.Equations.{MeetsEquations}
-use Rattle.report_text.specs.net_cells.specs.Meanings.{number, CellTable}
-use Rattle.report_text.specs.net_cells.specs.Numbered.{is_live}
+use Rattle.net_cells.specs.declared.cell.Kind.TheVariants.{Bound}
+use Rattle.net_cells.specs.Cells.{cell_of}
+use Rattle.net_cells.specs.Equations.{MeetsEquations}
+use Rattle.net_cells.specs.Meanings.{number, CellTable}
+use Rattle.net_cells.specs.Numbered.{is_live}
 use Rattle.report_text.specs.RunReport.{Found}
 use Rattle.exercise_load.specs.exercise_report.Largest.{largest_bound, largest_delay}
 use Rattle.exercise_load.specs.exercise_report.Summary.{summary_of}

@@ -1,16 +1,16 @@
 //! The largest of bounds and of delays.
 
 ghost use Rattle.std.specs.Prelude.{◌≡◌};
-ghost use Rattle.upp_limits.specs.rational.specs.Extended.{max_ext};
+ghost use Rattle.rational.specs.Extended.{max_ext};
 ghost use Rattle.std.specs.List.{fold};
 ghost use Rattle.exercise_load.specs.exercise_report.Largest as spec;
 
+use fraction128::{Ext, Frac, greater, greater_value};
+use net_cells::cell_table::Table;
+use net_cells::{Cell, Kind, live_flow};
 use net_model::Network;
+use rational::Extended;
 use report_text::ShownValue;
-use report_text::net_cells::cell_table::Table;
-use report_text::net_cells::{Cell, Kind, live_flow};
-use upp_limits::fraction128::{Ext, Frac, greater, greater_value};
-use upp_limits::rational::Extended;
 
 // The greater of a value and the number of a cell, where the table has one.
 fn with_number<V: ShownValue, T: Table<V>>(most: Ext, table: &T, flow: u32) -> Ext

@@ -6,13 +6,13 @@ ghost use Rattle.report_text.specs.RunReport.{found_of};
 ghost use Rattle.exercise_load.specs.exercise_report.Summary as spec;
 
 use crate::exercise_report::largest::{largest_bound, largest_delay};
+use fraction128::Ext;
+use net_cells::cell_table::Table;
 use net_model::Network;
-use report_text::net_cells::cell_table::Table;
 use report_text::{
     RunFound, ShownValue, live_count, push_breach_line, push_decimal, push_number, push_text,
 };
 use std::alloc::{AllocError, Global};
-use upp_limits::fraction128::Ext;
 
 #[tactic(auto, unfolding(crate::specs::exercise_report::Summary::title_line))]
 fn push_title(into: &mut Vec<u8>, seed: u64) -> Result<(), AllocError>

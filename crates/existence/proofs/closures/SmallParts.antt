@@ -4,17 +4,17 @@ use native.Mathlib.Nat.{mul_comm}
 use Rattle.std.proofs.Common.{arith, inl, inr, refl}
 use Rattle.std.proofs.Math.Nat.{le-mul_of_pos_right}
 use Rattle.std.proofs.lemmas.Bool.{cases_lt}
-use Rattle.upp_limits.specs.rational.specs.Extended.{Ext}
-use Rattle.upp_limits.specs.rational.specs.declared.Extended.TheVariants.{Fin, Inf}
-use Rattle.upp_limits.specs.rational.specs.Fractions.{abs-mul}
-use Rattle.upp_limits.specs.rational.specs.Gcd.{gcd}
-use Rattle.upp_limits.specs.rational.specs.Rational.{ℚ, den, ◌*ℚ◌}
-use Rattle.upp_limits.specs.rational.specs.Ratio.{IsSmall, SumFits}
-use Rattle.upp_limits.specs.upp_curve.specs.declared.affine_segment.line.Line.{Line}
-use Rattle.upp_limits.specs.upp_curve.specs.declared.affine_segment.line.Piece.{Piece}
-use Rattle.upp_limits.specs.rational.proofs.Multiples.{share_pos}
-use Rattle.upp_limits.specs.upp_curve.specs.affine_segment.Reading.{read}
-use Rattle.upp_limits.specs.upp_curve.specs.Readable.{SumFitsAt, PeriodFits}
+use Rattle.rational.specs.Extended.{Ext}
+use Rattle.rational.specs.declared.Extended.TheVariants.{Fin, Inf}
+use Rattle.rational.specs.Fractions.{abs-mul}
+use Rattle.rational.specs.Gcd.{gcd}
+use Rattle.rational.specs.Rational.{ℚ, den, ◌*ℚ◌}
+use Rattle.rational.specs.Ratio.{IsSmall, SumFits}
+use Rattle.upp_curve.specs.declared.affine_segment.line.Line.{Line}
+use Rattle.upp_curve.specs.declared.affine_segment.line.Piece.{Piece}
+use Rattle.rational.proofs.Multiples.{share_pos}
+use Rattle.upp_curve.specs.affine_segment.Reading.{read}
+use Rattle.upp_curve.specs.Readable.{SumFitsAt, PeriodFits}
 use Rattle.subadd_closure.specs.PieceFits.{SlopeFitsAt, SlopesRead}
 
 -- ---- whether

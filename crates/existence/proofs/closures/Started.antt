@@ -1,21 +1,21 @@
 -- The last convolution of a closure's fold, with the value at 0 set to another, has an answer that is not want of memory.
 use Rattle.std.specs.Prelude.{◌≢◌, List, Result, Ok, Err}
 use Rattle.std.proofs.Common.{◌≡◌, inl, inr, refl}
-use Rattle.upp_limits.specs.rational.specs.Rational.{ℚ, ◌+ℚ◌, ◌-ℚ◌, ◌≤ℚ◌}
-use Rattle.upp_limits.specs.rational.specs.declared.Extended.TheVariants.{Fin, Inf}
-use Rattle.upp_limits.specs.upp_curve.specs.declared.affine_segment.line.Piece.{Piece}
-use Rattle.upp_limits.specs.upp_curve.specs.affine_segment.Reading.{read}
-use Rattle.upp_limits.specs.upp_curve.specs.Curve.{SpecCurve, value_at}
-use Rattle.upp_limits.specs.upp_curve.specs.Curves.{IsCurve}
-use Rattle.upp_limits.specs.upp_curve.specs.Unrolled.{unroll}
-use Rattle.upp_limits.specs.min_plus.specs.Functions.{zero_q, IsNonnegative}
+use Rattle.rational.specs.Rational.{ℚ, ◌+ℚ◌, ◌-ℚ◌, ◌≤ℚ◌}
+use Rattle.rational.specs.declared.Extended.TheVariants.{Fin, Inf}
+use Rattle.upp_curve.specs.declared.affine_segment.line.Piece.{Piece}
+use Rattle.upp_curve.specs.affine_segment.Reading.{read}
+use Rattle.upp_curve.specs.Curve.{SpecCurve, value_at}
+use Rattle.upp_curve.specs.Curves.{IsCurve}
+use Rattle.upp_curve.specs.Unrolled.{unroll}
+use Rattle.min_plus.specs.Functions.{zero_q, IsNonnegative}
 use Rattle.upp_limits.specs.declared.op_kind.OpFault.{OpFault}
 use Rattle.upp_limits.specs.declared.op_kind.OpFault.TheVariants.{NoMemory}
 use Rattle.upp_limits.specs.declared.op_kind.OpKind.TheVariants.{Convolve}
 use Rattle.upp_normal.proofs.NormaliseGrids.{ext_same_or}
-use Rattle.plain_operators.specs.curve_call.specs.Calls.{IsApplied, Applies}
+use Rattle.curve_call.specs.Calls.{IsApplied, Applies}
 use Rattle.outcomes.specs.Calls.{Then, goes_on, stops}
-use Rattle.plain_operators.specs.curve_call.specs.declared.frame.Frame.{Frame}
+use Rattle.curve_call.specs.declared.frame.Frame.{Frame}
 use Rattle.curve_conv.proofs.ConvolveAnswers.{windows}
 use Rattle.element_envelope.proofs.FoundEnvelopes.{convolution_of}
 use Rattle.subadd_closure.specs.Starting.{first_at, started_at}

@@ -9,13 +9,13 @@ use Rattle.upp_limits.specs.Gauges.{IsKnownAtOnce, IsTooWide, IsTooMany, gauge_a
 use Rattle.upp_limits.specs.Outcome.{IsWithin}
 use Rattle.upp_limits.specs.Sized.{grid_of}
 use Rattle.upp_limits.specs.Windows.{IsLeastPeriods, window_at}
-use Rattle.upp_limits.specs.upp_curve.specs.Curve.{SpecCurve}
-use Rattle.upp_limits.specs.upp_curve.specs.Curves.{IsCurve}
-use Rattle.plain_operators.specs.curve_call.specs.declared.frame.Frame.{Frame}
-use Rattle.plain_operators.specs.curve_call.specs.Answers.{IsMadeBy}
-use Rattle.plain_operators.specs.curve_call.specs.CallWindows.{SecondIsCurve, start_of, period_in}
-use Rattle.plain_operators.specs.curve_call.specs.Frames.{IsFrame, sizes_at}
-use Rattle.plain_operators.specs.curve_call.proofs.Limited.{wide_at_least, many_at_least, within_at_least}
+use Rattle.upp_curve.specs.Curve.{SpecCurve}
+use Rattle.upp_curve.specs.Curves.{IsCurve}
+use Rattle.curve_call.specs.declared.frame.Frame.{Frame}
+use Rattle.curve_call.specs.Answers.{IsMadeBy}
+use Rattle.curve_call.specs.CallWindows.{SecondIsCurve, start_of, period_in}
+use Rattle.curve_call.specs.Frames.{IsFrame, sizes_at}
+use Rattle.curve_call.proofs.Limited.{wide_at_least, many_at_least, within_at_least}
 use Rattle.existence.specs.curves.Answered.{HasAnswer, IsDecided, IsMadeWithin}
 
 -- ---- the three answers

@@ -1,14 +1,14 @@
 -- From which number of periods on the convolution of two curves is the part in which the slower one repeats: the least, or that there is none.
 use Rattle.std.specs.Prelude.{ℕ, Option, Some, None, MatchOption}
 use Rattle.std.proofs.Common.{sym, inl, inr}
-use Rattle.upp_limits.specs.rational.specs.Rational.{ℚ, ◌-ℚ◌}
-use Rattle.upp_limits.specs.upp_curve.specs.Curve.{SpecCurve, value_at}
-use Rattle.upp_limits.specs.upp_curve.specs.Steady.{steady, rate, rise_over}
-use Rattle.plain_operators.specs.curve_call.proofs.TailMoves.{rates_compared, not_same}
-use Rattle.plain_operators.specs.curve_call.specs.declared.gaps.Gap.{Gap}
-use Rattle.plain_operators.specs.curve_call.specs.declared.gaps.Gap.TheVariants.{NoTime, Never, Is}
-use Rattle.plain_operators.specs.curve_call.specs.Gaps.{InWindow, IsGap}
-use Rattle.plain_operators.specs.curve_call.proofs.BoundedNumber.{least_found}
+use Rattle.rational.specs.Rational.{ℚ, ◌-ℚ◌}
+use Rattle.upp_curve.specs.Curve.{SpecCurve, value_at}
+use Rattle.upp_curve.specs.Steady.{steady, rate, rise_over}
+use Rattle.curve_call.proofs.TailMoves.{rates_compared, not_same}
+use Rattle.curve_call.specs.declared.gaps.Gap.{Gap}
+use Rattle.curve_call.specs.declared.gaps.Gap.TheVariants.{NoTime, Never, Is}
+use Rattle.curve_call.specs.Gaps.{InWindow, IsGap}
+use Rattle.curve_call.proofs.BoundedNumber.{least_found}
 use Rattle.curve_conv.specs.Late.{IsLateAfter, IsLateNumber, IsLateCall, IsSlowerAfter, IsSlowerNumber, IsPartsCall}
 use Rattle.curve_conv.proofs.FoundGaps.{call_gap}
 use Rattle.curve_conv.proofs.LateNumbers.{Values, late_of, soon_of, some_lead, number_none, number_endless, number_gap}

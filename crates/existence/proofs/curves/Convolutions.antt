@@ -2,24 +2,24 @@
 use Rattle.std.specs.Prelude.{◌≡◌, ℕ, ◌<◌, ◌≤◌, ◌^◌, pos, Option, Some, None, MatchOption, Ok, Err}
 use Rattle.std.proofs.Common.{refl, inl, inr}
 use Rattle.std.proofs.lemmas.Bool.{cases_lt}
-use Rattle.upp_limits.specs.rational.specs.Rational.{ℚ, ◌-ℚ◌, ◌≤ℚ◌, int}
-use Rattle.upp_limits.specs.rational.specs.Extended.{◌<ₑ◌}
-use Rattle.upp_limits.specs.min_plus.specs.Convolution.{IsConvolution}
-use Rattle.upp_limits.specs.upp_curve.specs.Curve.{SpecCurve, value_at}
-use Rattle.upp_limits.specs.upp_curve.specs.Curves.{IsCurve}
-use Rattle.upp_limits.specs.upp_curve.specs.Steady.{rate, rise_over}
-use Rattle.upp_limits.specs.upp_curve.specs.Unrolled.{unroll}
+use Rattle.rational.specs.Rational.{ℚ, ◌-ℚ◌, ◌≤ℚ◌, int}
+use Rattle.rational.specs.Extended.{◌<ₑ◌}
+use Rattle.min_plus.specs.Convolution.{IsConvolution}
+use Rattle.upp_curve.specs.Curve.{SpecCurve, value_at}
+use Rattle.upp_curve.specs.Curves.{IsCurve}
+use Rattle.upp_curve.specs.Steady.{rate, rise_over}
+use Rattle.upp_curve.specs.Unrolled.{unroll}
 use Rattle.upp_limits.specs.declared.op_kind.OpKind.TheVariants.{Convolve}
 use Rattle.upp_limits.specs.declared.op_kind.OpFault.TheVariants.{TooMany, TooWide}
 use Rattle.upp_limits.specs.Gauges.{gauge_at, tally_at}
 use Rattle.upp_limits.specs.Outcome.{IsWithin}
 use Rattle.upp_limits.specs.Sized.{grid_of}
 use Rattle.upp_limits.specs.Windows.{window_at}
-use Rattle.plain_operators.specs.curve_call.specs.declared.frame.Frame.{Frame}
-use Rattle.plain_operators.specs.curve_call.specs.declared.windows.CallWindow.{CallWindow}
-use Rattle.plain_operators.specs.curve_call.specs.CallWindows.{start_of, period_in}
-use Rattle.plain_operators.specs.curve_call.specs.FirstWindows.{IsFirstWindow}
-use Rattle.plain_operators.specs.curve_call.specs.Frames.{IsFrame, sizes_at}
+use Rattle.curve_call.specs.declared.frame.Frame.{Frame}
+use Rattle.curve_call.specs.declared.windows.CallWindow.{CallWindow}
+use Rattle.curve_call.specs.CallWindows.{start_of, period_in}
+use Rattle.curve_call.specs.FirstWindows.{IsFirstWindow}
+use Rattle.curve_call.specs.Frames.{IsFrame, sizes_at}
 use Rattle.plain_operators.specs.pointwise.Lattice.{RisesBy}
 use Rattle.plain_operators.proofs.pointwise.LatticeAnswers.{slower_or_not}
 use Rattle.existence.specs.curves.Answered.{HasAnswer}

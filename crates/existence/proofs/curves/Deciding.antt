@@ -1,15 +1,15 @@
 -- Whether values, lines and pieces are one, so that a proof may go by it.
 use Rattle.std.specs.Prelude.{◌≡◌, List, [], ◌∷◌, ◌⊎◌, Option}
 use Rattle.std.proofs.Common.{sym, ap, ap₂, refl, inl, inr}
-use Rattle.upp_limits.specs.rational.specs.Rational.{ℚ, ◌+ℚ◌}
-use Rattle.upp_limits.specs.rational.specs.Extended.{Ext, ◌+ₑ◌}
-use Rattle.upp_limits.specs.rational.specs.declared.Extended.TheVariants.{Fin}
-use Rattle.upp_limits.specs.rational.proofs.Laws.{le_or_lt, lt_irrefl, lt_le_trans}
-use Rattle.upp_limits.specs.upp_curve.specs.declared.affine_segment.line.Line.{Line}
-use Rattle.upp_limits.specs.upp_curve.specs.declared.affine_segment.line.Piece.{Piece}
-use Rattle.upp_limits.specs.upp_curve.specs.affine_segment.Reading.{piece_value}
-use Rattle.upp_limits.specs.upp_curve.proofs.affine_segment.PieceOrder.{heads_same, tails_same, nil_not_cons}
-use Rattle.upp_limits.specs.upp_curve.specs.Unrolled.{line_later}
+use Rattle.rational.specs.Rational.{ℚ, ◌+ℚ◌}
+use Rattle.rational.specs.Extended.{Ext, ◌+ₑ◌}
+use Rattle.rational.specs.declared.Extended.TheVariants.{Fin}
+use Rattle.rational.proofs.Laws.{le_or_lt, lt_irrefl, lt_le_trans}
+use Rattle.upp_curve.specs.declared.affine_segment.line.Line.{Line}
+use Rattle.upp_curve.specs.declared.affine_segment.line.Piece.{Piece}
+use Rattle.upp_curve.specs.affine_segment.Reading.{piece_value}
+use Rattle.upp_curve.proofs.affine_segment.PieceOrder.{heads_same, tails_same, nil_not_cons}
+use Rattle.upp_curve.specs.Unrolled.{line_later}
 use Rattle.upp_normal.specs.Normalising.{RepeatsIn}
 use Rattle.upp_normal.proofs.NormaliseGrids.{q_same_or, ext_same_or, line_same_or}
 

@@ -1,22 +1,22 @@
 -- A deconvolution has an answer: infinity where the first is the faster, else the curve of its window's pieces, unless the call is over a limit.
 use Rattle.std.specs.Prelude.{List, map, Ok}
 use Rattle.std.proofs.Common.{refl, sym, ap, subst, inl, inr}
-use Rattle.upp_limits.specs.rational.specs.Rational.{ℚ}
-use Rattle.upp_limits.specs.rational.specs.Extended.{◌<ₑ◌}
-use Rattle.upp_limits.specs.upp_curve.specs.declared.affine_segment.line.Piece.{Piece}
-use Rattle.upp_limits.specs.upp_curve.specs.affine_segment.Reading.{read}
-use Rattle.upp_limits.specs.min_plus.specs.Functions.{IsFinite}
-use Rattle.upp_limits.specs.min_plus.specs.Convolution.{IsDeconvolution}
-use Rattle.upp_limits.specs.upp_curve.specs.Curve.{SpecCurve, value_at}
-use Rattle.upp_limits.specs.upp_curve.specs.Curves.{IsCurve}
-use Rattle.upp_limits.specs.upp_curve.specs.Steady.{steady, rate, rise_over}
-use Rattle.upp_limits.specs.upp_curve.specs.Unrolled.{unroll}
+use Rattle.rational.specs.Rational.{ℚ}
+use Rattle.rational.specs.Extended.{◌<ₑ◌}
+use Rattle.upp_curve.specs.declared.affine_segment.line.Piece.{Piece}
+use Rattle.upp_curve.specs.affine_segment.Reading.{read}
+use Rattle.min_plus.specs.Functions.{IsFinite}
+use Rattle.min_plus.specs.Convolution.{IsDeconvolution}
+use Rattle.upp_curve.specs.Curve.{SpecCurve, value_at}
+use Rattle.upp_curve.specs.Curves.{IsCurve}
+use Rattle.upp_curve.specs.Steady.{steady, rate, rise_over}
+use Rattle.upp_curve.specs.Unrolled.{unroll}
 use Rattle.upp_limits.specs.declared.op_kind.OpKind.TheVariants.{Deconvolve}
-use Rattle.plain_operators.specs.curve_call.proofs.Existing.{sum_of}
-use Rattle.plain_operators.specs.curve_call.specs.declared.frame.Frame.{Frame}
-use Rattle.plain_operators.specs.curve_call.specs.Answers.{IsMadeBy}
-use Rattle.plain_operators.specs.curve_call.specs.Frames.{IsFrame, sizes_at}
-use Rattle.plain_operators.specs.curve_call.proofs.Limited.{deconvolve_least}
+use Rattle.curve_call.proofs.Existing.{sum_of}
+use Rattle.curve_call.specs.declared.frame.Frame.{Frame}
+use Rattle.curve_call.specs.Answers.{IsMadeBy}
+use Rattle.curve_call.specs.Frames.{IsFrame, sizes_at}
+use Rattle.curve_call.proofs.Limited.{deconvolve_least}
 use Rattle.existence.proofs.curves.Infima.{front_of}
 use Rattle.existence.proofs.curves.Moves.{left_of}
 use Rattle.plain_operators.proofs.pointwise.LatticeAnswers.{slower_or_not}

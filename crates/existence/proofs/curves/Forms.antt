@@ -1,27 +1,27 @@
 -- The normal form of a curve in any form, and that it is a curve where the numbers of the given one have room.
 use Rattle.std.specs.Prelude.{◌≡◌, ℕ, ◌-◌, ◌<◌, ◌^◌, pos, List, [], ◌∷◌, ◌++◌, length, Option, None, Some}
 use Rattle.std.proofs.Common.{sym, ap, ◌∙◌, refl, subst, inl, inr, get_or}
-use Rattle.upp_limits.specs.rational.specs.Rational.{ℚ, ◌+ℚ◌, ◌≤ℚ◌, int}
-use Rattle.upp_limits.specs.rational.specs.Extended.{Ext}
-use Rattle.upp_limits.specs.rational.proofs.Laws.{le_or_lt}
-use Rattle.upp_limits.specs.upp_curve.specs.declared.affine_segment.line.Line.{Line}
-use Rattle.upp_limits.specs.upp_curve.specs.declared.affine_segment.line.Piece.{Piece}
-use Rattle.upp_limits.specs.upp_curve.specs.affine_segment.Pieces.{StartsAtZero}
-use Rattle.upp_limits.specs.upp_curve.specs.affine_segment.Reading.{read}
-use Rattle.upp_limits.specs.upp_curve.proofs.affine_segment.PieceOrder.{zero_some}
-use Rattle.upp_limits.specs.min_plus.specs.Functions.{zero_q}
-use Rattle.upp_limits.specs.upp_curve.specs.declared.curve.Tail.{Tail}
-use Rattle.upp_limits.specs.upp_curve.specs.declared.curve.Tail.TheVariants.{Periodic, Affine, Infinite}
-use Rattle.upp_limits.specs.upp_curve.specs.Curve.{SpecCurve, repeated, value_at, HasSameValues}
-use Rattle.upp_limits.specs.upp_curve.specs.Curves.{IsCurve}
-use Rattle.upp_limits.specs.upp_curve.specs.Kinds.{flat}
-use Rattle.upp_limits.specs.upp_curve.specs.Normal.{IsRaw, IsNormal, NoMerge, FitsPeriod}
-use Rattle.upp_limits.specs.upp_curve.specs.Readable.{EachFits}
-use Rattle.upp_limits.specs.upp_curve.specs.Unrolled.{upto}
-use Rattle.upp_limits.specs.upp_curve.proofs.ByTail.{value_of}
-use Rattle.upp_limits.specs.upp_curve.proofs.CurveShapes.{curve}
-use Rattle.upp_limits.specs.upp_curve.proofs.OneForm.{affine, infinite}
-use Rattle.upp_limits.specs.upp_curve.proofs.Repeats.{repeated_rule}
+use Rattle.rational.specs.Rational.{ℚ, ◌+ℚ◌, ◌≤ℚ◌, int}
+use Rattle.rational.specs.Extended.{Ext}
+use Rattle.rational.proofs.Laws.{le_or_lt}
+use Rattle.upp_curve.specs.declared.affine_segment.line.Line.{Line}
+use Rattle.upp_curve.specs.declared.affine_segment.line.Piece.{Piece}
+use Rattle.upp_curve.specs.affine_segment.Pieces.{StartsAtZero}
+use Rattle.upp_curve.specs.affine_segment.Reading.{read}
+use Rattle.upp_curve.proofs.affine_segment.PieceOrder.{zero_some}
+use Rattle.min_plus.specs.Functions.{zero_q}
+use Rattle.upp_curve.specs.declared.curve.Tail.{Tail}
+use Rattle.upp_curve.specs.declared.curve.Tail.TheVariants.{Periodic, Affine, Infinite}
+use Rattle.upp_curve.specs.Curve.{SpecCurve, repeated, value_at, HasSameValues}
+use Rattle.upp_curve.specs.Curves.{IsCurve}
+use Rattle.upp_curve.specs.Kinds.{flat}
+use Rattle.upp_curve.specs.Normal.{IsRaw, IsNormal, NoMerge, FitsPeriod}
+use Rattle.upp_curve.specs.Readable.{EachFits}
+use Rattle.upp_curve.specs.Unrolled.{upto}
+use Rattle.upp_curve.proofs.ByTail.{value_of}
+use Rattle.upp_curve.proofs.CurveShapes.{curve}
+use Rattle.upp_curve.proofs.OneForm.{affine, infinite}
+use Rattle.upp_curve.proofs.Repeats.{repeated_rule}
 use Rattle.upp_limits.specs.Limits.{own_end, own_sizes, own_gauge}
 use Rattle.upp_limits.specs.Sized.{grid_of}
 use Rattle.upp_limits.specs.declared.own_window.OwnNumbers.{OwnNumbers}

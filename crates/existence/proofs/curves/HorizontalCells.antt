@@ -1,19 +1,19 @@
 -- How two finite curves that rise go on from a time each, and how long the second lies behind the first on these stretches.
 use Rattle.std.specs.Prelude.{◌≡◌, pos, None}
 use Rattle.std.proofs.Common.{sym, refl, subst, inl, inr}
-use Rattle.upp_limits.specs.rational.specs.Rational.{ℚ, ◌+ℚ◌, ◌-ℚ◌, ◌*ℚ◌, ◌/ℚ◌, ◌≤ℚ◌, ◌<ℚ◌, int}
-use Rattle.upp_limits.specs.rational.specs.MinMax.{min_q}
-use Rattle.upp_limits.specs.rational.proofs.Laws.{le_or_lt, le_of_lt, le_lt_trans, lt_le_trans, div_mul, not_zero}
-use Rattle.upp_limits.specs.upp_curve.specs.affine_segment.Reading.{read, line_in, next_in}
-use Rattle.upp_limits.specs.upp_curve.specs.affine_segment.Values.{line_at}
-use Rattle.upp_limits.specs.min_plus.specs.Functions.{IsRising}
-use Rattle.upp_limits.specs.upp_curve.specs.declared.curve.Tail.{Tail}
-use Rattle.upp_limits.specs.upp_curve.specs.declared.curve.Tail.TheVariants.{Periodic, Affine, Infinite}
-use Rattle.upp_limits.specs.upp_curve.specs.Curve.{SpecCurve, value_at}
+use Rattle.rational.specs.Rational.{ℚ, ◌+ℚ◌, ◌-ℚ◌, ◌*ℚ◌, ◌/ℚ◌, ◌≤ℚ◌, ◌<ℚ◌, int}
+use Rattle.rational.specs.MinMax.{min_q}
+use Rattle.rational.proofs.Laws.{le_or_lt, le_of_lt, le_lt_trans, lt_le_trans, div_mul, not_zero}
+use Rattle.upp_curve.specs.affine_segment.Reading.{read, line_in, next_in}
+use Rattle.upp_curve.specs.affine_segment.Values.{line_at}
+use Rattle.min_plus.specs.Functions.{IsRising}
+use Rattle.upp_curve.specs.declared.curve.Tail.{Tail}
+use Rattle.upp_curve.specs.declared.curve.Tail.TheVariants.{Periodic, Affine, Infinite}
+use Rattle.upp_curve.specs.Curve.{SpecCurve, value_at}
 use Rattle.upp_limits.specs.Limits.{Sizes}
 use Rattle.upp_normal.specs.Ahead.{IsOverBy, IsTimeIn}
-use Rattle.plain_operators.specs.curve_call.specs.GapSteps.{earlier_of}
-use Rattle.plain_operators.specs.curve_call.proofs.FoundCurves.{curve_goes}
+use Rattle.curve_call.specs.GapSteps.{earlier_of}
+use Rattle.curve_call.proofs.FoundCurves.{curve_goes}
 use Rattle.existence.proofs.curves.Scans.{line_of}
 use Rattle.curve_deviation.specs.declared.cells.Cell.{Cell}
 use Rattle.curve_deviation.specs.declared.parts.Part.{Part}

@@ -1,11 +1,11 @@
 -- The longest lag of one curve behind another up to a time, one stretch of the two after the other.
 use Rattle.std.specs.Prelude.{ℕ, zero, suc, ◌<◌, ◌≤◌, pos}
 use Rattle.std.proofs.Common.{arith, refl, inl, inr}
-use Rattle.upp_limits.specs.rational.specs.Rational.{ℚ, ◌<ℚ◌, int}
-use Rattle.upp_limits.specs.rational.specs.MinMax.{max_q}
-use Rattle.upp_limits.specs.rational.proofs.Laws.{le_or_lt, le_lt_trans, lt_le_trans, lt_irrefl}
-use Rattle.upp_limits.specs.upp_curve.specs.affine_segment.Values.{line_at}
-use Rattle.upp_limits.specs.upp_curve.specs.Curve.{SpecCurve, value_at}
+use Rattle.rational.specs.Rational.{ℚ, ◌<ℚ◌, int}
+use Rattle.rational.specs.MinMax.{max_q}
+use Rattle.rational.proofs.Laws.{le_or_lt, le_lt_trans, lt_le_trans, lt_irrefl}
+use Rattle.upp_curve.specs.affine_segment.Values.{line_at}
+use Rattle.upp_curve.specs.Curve.{SpecCurve, value_at}
 use Rattle.upp_limits.specs.Limits.{Sizes}
 use Rattle.curve_deviation.specs.Lags.{IsLongestLag}
 use Rattle.curve_deviation.specs.Stages.{AreFinite}

@@ -2,22 +2,22 @@
 use Rattle.std.specs.Prelude.{◌≢◌, ◌^◌, ◌⊎◌, Result, Ok, Err, Option, None, Some}
 use Rattle.std.proofs.Common.{arith, refl, inl, inr}
 use Rattle.std.proofs.lemmas.Bool.{cases_lt}
-use Rattle.upp_limits.specs.rational.specs.Rational.{ℚ}
-use Rattle.upp_limits.specs.rational.specs.Extended.{Ext, ◌<ₑ◌}
-use Rattle.upp_limits.specs.rational.specs.declared.Extended.TheVariants.{Fin, Inf}
-use Rattle.upp_limits.specs.rational.proofs.Laws.{le_or_lt, lt_irrefl, lt_le_trans}
-use Rattle.upp_limits.specs.min_plus.specs.Deviations.{IsHorizontalDeviation}
-use Rattle.upp_limits.specs.min_plus.specs.Functions.{IsFinite, IsRising}
-use Rattle.upp_limits.specs.upp_curve.specs.Curve.{SpecCurve, value_at}
-use Rattle.upp_limits.specs.upp_curve.specs.Curves.{IsCurve}
-use Rattle.upp_limits.specs.upp_curve.specs.Steady.{rate}
+use Rattle.rational.specs.Rational.{ℚ}
+use Rattle.rational.specs.Extended.{Ext, ◌<ₑ◌}
+use Rattle.rational.specs.declared.Extended.TheVariants.{Fin, Inf}
+use Rattle.rational.proofs.Laws.{le_or_lt, lt_irrefl, lt_le_trans}
+use Rattle.min_plus.specs.Deviations.{IsHorizontalDeviation}
+use Rattle.min_plus.specs.Functions.{IsFinite, IsRising}
+use Rattle.upp_curve.specs.Curve.{SpecCurve, value_at}
+use Rattle.upp_curve.specs.Curves.{IsCurve}
+use Rattle.upp_curve.specs.Steady.{rate}
 use Rattle.upp_limits.specs.declared.op_kind.OpKind.TheVariants.{Horizontal}
 use Rattle.upp_limits.specs.declared.op_kind.OpFault.{OpFault}
 use Rattle.upp_limits.specs.declared.op_kind.OpFault.TheVariants.{TooMany, TooWide, NoMemory}
 use Rattle.upp_limits.specs.Gauges.{EndsAbove, IsKnownAtOnce, gauge_at}
 use Rattle.upp_limits.specs.Levels.{level_of, IsLevelAbove}
 use Rattle.upp_limits.proofs.LevelCurves.{levels_above}
-use Rattle.plain_operators.specs.curve_call.proofs.TailMoves.{rates_compared, not_both, not_same}
+use Rattle.curve_call.proofs.TailMoves.{rates_compared, not_both, not_same}
 use Rattle.existence.proofs.curves.Answered.{limited}
 use Rattle.existence.specs.curves.Verticals.{Measures}
 use Rattle.curve_deviation.specs.Stages.{AreFinite, AreFound, settled}

@@ -2,29 +2,29 @@
 use Rattle.std.specs.Prelude.{◌≡◌, ◌⊎◌, ℕ, ◌<◌, ◌^◌, pos, List, Some, None}
 use Rattle.std.proofs.Common.{refl, inl, inr}
 use Rattle.std.proofs.lemmas.Bool.{cases_lt}
-use Rattle.upp_limits.specs.rational.specs.Rational.{ℚ, ◌-ℚ◌, ◌≤ℚ◌, int}
-use Rattle.upp_limits.specs.rational.specs.Extended.{◌<ₑ◌}
-use Rattle.upp_limits.specs.upp_curve.specs.declared.affine_segment.line.Piece.{Piece}
-use Rattle.upp_limits.specs.upp_curve.specs.Curve.{SpecCurve, value_at}
-use Rattle.upp_limits.specs.upp_curve.specs.Curves.{IsCurve}
-use Rattle.upp_limits.specs.upp_curve.specs.Steady.{rate, rise_over}
-use Rattle.upp_limits.specs.upp_curve.specs.Unrolled.{unroll}
+use Rattle.rational.specs.Rational.{ℚ, ◌-ℚ◌, ◌≤ℚ◌, int}
+use Rattle.rational.specs.Extended.{◌<ₑ◌}
+use Rattle.upp_curve.specs.declared.affine_segment.line.Piece.{Piece}
+use Rattle.upp_curve.specs.Curve.{SpecCurve, value_at}
+use Rattle.upp_curve.specs.Curves.{IsCurve}
+use Rattle.upp_curve.specs.Steady.{rate, rise_over}
+use Rattle.upp_curve.specs.Unrolled.{unroll}
 use Rattle.upp_limits.specs.declared.op_kind.OpKind.TheVariants.{Min, Max, PosDiff}
 use Rattle.upp_limits.specs.declared.op_kind.OpFault.TheVariants.{TooWide}
 use Rattle.upp_limits.specs.Gauges.{gauge_at}
 use Rattle.upp_limits.specs.Periods.{both_steady, common_period}
 use Rattle.upp_limits.specs.Windows.{window_at, IsLeast}
-use Rattle.upp_limits.specs.min_plus.specs.Functions.{IsFinite}
-use Rattle.plain_operators.specs.curve_call.specs.Operands.{HaveSizes, IsMadeOf}
-use Rattle.plain_operators.specs.curve_call.specs.Existing.{HaveWindows}
-use Rattle.plain_operators.specs.curve_call.proofs.Existing.{made_windows}
-use Rattle.plain_operators.specs.curve_call.specs.declared.frame.Frame.{Frame}
-use Rattle.plain_operators.specs.curve_call.specs.declared.windows.CallWindow.{CallWindow}
-use Rattle.plain_operators.specs.curve_call.specs.Answers.{IsMadeBy}
-use Rattle.plain_operators.specs.curve_call.specs.CallWindows.{SecondIsCurve, start_of, period_in}
-use Rattle.plain_operators.specs.curve_call.specs.FirstWindows.{IsFirstWindow}
-use Rattle.plain_operators.specs.curve_call.specs.Frames.{IsFrame}
-use Rattle.plain_operators.specs.curve_call.specs.Compared.{IsEnough}
+use Rattle.min_plus.specs.Functions.{IsFinite}
+use Rattle.curve_call.specs.Operands.{HaveSizes, IsMadeOf}
+use Rattle.curve_call.specs.Existing.{HaveWindows}
+use Rattle.curve_call.proofs.Existing.{made_windows}
+use Rattle.curve_call.specs.declared.frame.Frame.{Frame}
+use Rattle.curve_call.specs.declared.windows.CallWindow.{CallWindow}
+use Rattle.curve_call.specs.Answers.{IsMadeBy}
+use Rattle.curve_call.specs.CallWindows.{SecondIsCurve, start_of, period_in}
+use Rattle.curve_call.specs.FirstWindows.{IsFirstWindow}
+use Rattle.curve_call.specs.Frames.{IsFrame}
+use Rattle.curve_call.specs.Compared.{IsEnough}
 use Rattle.existence.specs.curves.Answered.{HasAnswer}
 use Rattle.existence.proofs.curves.Answered.{at_least, too_wide}
 use Rattle.existence.proofs.curves.Windows.{answer_curve}

@@ -1,21 +1,21 @@
 -- From which number of periods on the slower of two curves is nowhere above the faster.
 use Rattle.std.specs.Prelude.{ℕ, Option, Some, None, MatchOption}
 use Rattle.std.proofs.Common.{inl, inr, sym}
-use Rattle.upp_limits.specs.rational.specs.Rational.{ℚ, ◌+ℚ◌, ◌-ℚ◌}
-use Rattle.upp_limits.specs.rational.specs.Extended.{◌<ₑ◌}
-use Rattle.upp_limits.specs.upp_curve.specs.Curve.{SpecCurve, value_at}
-use Rattle.upp_limits.specs.upp_curve.specs.Steady.{rate, rise_over}
+use Rattle.rational.specs.Rational.{ℚ, ◌+ℚ◌, ◌-ℚ◌}
+use Rattle.rational.specs.Extended.{◌<ₑ◌}
+use Rattle.upp_curve.specs.Curve.{SpecCurve, value_at}
+use Rattle.upp_curve.specs.Steady.{rate, rise_over}
 use Rattle.upp_limits.specs.Limits.{Sizes}
 use Rattle.upp_limits.specs.Windows.{IsLeast}
-use Rattle.plain_operators.specs.curve_call.proofs.TailMoves.{rates_compared, not_same}
-use Rattle.plain_operators.specs.curve_call.specs.Compared.{AreCompared, IsEnough}
-use Rattle.plain_operators.specs.curve_call.specs.declared.gaps.Gap.{Gap}
-use Rattle.plain_operators.specs.curve_call.specs.declared.gaps.Gap.TheVariants.{NoTime, Never, Is}
-use Rattle.plain_operators.specs.curve_call.specs.Gaps.{InWindow, IsGap, IsLargest}
-use Rattle.plain_operators.specs.curve_call.proofs.EitherOrder.{other_way, of_first, of_second, of_equal}
-use Rattle.plain_operators.specs.curve_call.proofs.LeastNumber.{IsBelowAfter, compared_window, largest_finite, lead_is, least_none, least_endless, least_gap}
-use Rattle.plain_operators.specs.curve_call.proofs.BoundedNumber.{least_found}
-use Rattle.plain_operators.specs.curve_call.proofs.GapThere.{gap_there}
+use Rattle.curve_call.proofs.TailMoves.{rates_compared, not_same}
+use Rattle.curve_call.specs.Compared.{AreCompared, IsEnough}
+use Rattle.curve_call.specs.declared.gaps.Gap.{Gap}
+use Rattle.curve_call.specs.declared.gaps.Gap.TheVariants.{NoTime, Never, Is}
+use Rattle.curve_call.specs.Gaps.{InWindow, IsGap, IsLargest}
+use Rattle.curve_call.proofs.EitherOrder.{other_way, of_first, of_second, of_equal}
+use Rattle.curve_call.proofs.LeastNumber.{IsBelowAfter, compared_window, largest_finite, lead_is, least_none, least_endless, least_gap}
+use Rattle.curve_call.proofs.BoundedNumber.{least_found}
+use Rattle.curve_call.proofs.GapThere.{gap_there}
 
 -- some number is the least with P, or none has it
 abbrev pub IsFound : (ℕ → Type 0) → Type 0

@@ -1,16 +1,16 @@
 -- The least rank of a periodic curve, one piece at a time.
 use Rattle.std.specs.Prelude.{◌≡◌, ℕ, zero, suc, ◌-◌, List, length}
 use Rattle.std.proofs.Common.{arith, refl, subst, inl, inr, get_or}
-use Rattle.upp_limits.specs.rational.specs.Rational.{ℚ, ◌+ℚ◌}
-use Rattle.upp_limits.specs.rational.specs.Extended.{Ext}
-use Rattle.upp_limits.specs.upp_curve.specs.declared.affine_segment.line.Piece.{Piece}
-use Rattle.upp_limits.specs.upp_curve.specs.affine_segment.Reading.{read}
-use Rattle.upp_limits.specs.upp_curve.specs.Curve.{repeated}
-use Rattle.upp_limits.specs.upp_curve.specs.Kinds.{flat}
-use Rattle.upp_limits.specs.upp_curve.specs.Unrolled.{upto}
+use Rattle.rational.specs.Rational.{ℚ, ◌+ℚ◌}
+use Rattle.rational.specs.Extended.{Ext}
+use Rattle.upp_curve.specs.declared.affine_segment.line.Piece.{Piece}
+use Rattle.upp_curve.specs.affine_segment.Reading.{read}
+use Rattle.upp_curve.specs.Curve.{repeated}
+use Rattle.upp_curve.specs.Kinds.{flat}
+use Rattle.upp_curve.specs.Unrolled.{upto}
 use Rattle.upp_normal.specs.Normalising.{IsCycle, IsLowest, cut_last}
 use Rattle.upp_normal.proofs.NormaliseRank.{LowersOn, lowers_begins, lowers_more, lowers_to_zero, lowers_no_more, lowest_is}
-use Rattle.upp_limits.specs.min_plus.specs.Functions.{zero_q}
+use Rattle.min_plus.specs.Functions.{zero_q}
 use Rattle.existence.proofs.curves.Deciding.{repeats_or}
 
 -- the pieces and the rank

@@ -1,24 +1,24 @@
 -- The normal form of a curve whose period begins and ends at a break; it is readable where the curve's numbers have room.
 use Rattle.std.specs.Prelude.{◌≡◌, ℕ, ◌≤◌, pos, List, length, Option}
 use Rattle.std.proofs.Common.{arith, sym, ap, ◌∙◌, refl, subst}
-use Rattle.upp_limits.specs.rational.specs.Rational.{ℚ, ◌+ℚ◌, ◌≤ℚ◌, ◌<ℚ◌, int}
-use Rattle.upp_limits.specs.rational.specs.Grid.{Whole}
-use Rattle.upp_limits.specs.rational.specs.Extended.{Ext, ◌+ₑ◌}
-use Rattle.upp_limits.specs.rational.specs.declared.Extended.TheVariants.{Fin}
-use Rattle.upp_limits.specs.rational.proofs.Laws.{le_of_lt, le_trans}
-use Rattle.upp_limits.specs.rational.proofs.Linear.{with4}
-use Rattle.upp_limits.specs.upp_curve.specs.declared.affine_segment.line.Line.{Line}
-use Rattle.upp_limits.specs.upp_curve.specs.declared.affine_segment.line.Piece.{Piece}
-use Rattle.upp_limits.specs.upp_curve.specs.affine_segment.Reading.{read}
-use Rattle.upp_limits.specs.upp_curve.specs.affine_segment.Values.{line_value}
-use Rattle.upp_limits.specs.upp_curve.proofs.affine_segment.PieceOrder.{each_map}
-use Rattle.upp_limits.specs.upp_curve.specs.Curve.{SpecCurve, value_at}
-use Rattle.upp_limits.specs.upp_curve.specs.Steady.{Repeats}
-use Rattle.upp_limits.specs.upp_curve.specs.Readable.{IsReadable}
-use Rattle.upp_limits.specs.upp_curve.specs.Unrolled.{upto}
-use Rattle.upp_limits.specs.upp_curve.proofs.Normal.{transfer, periodic}
-use Rattle.upp_limits.specs.upp_curve.proofs.Repeats.{repeated_rule}
-use Rattle.upp_limits.specs.upp_curve.proofs.Rules.{rule_extends}
+use Rattle.rational.specs.Rational.{ℚ, ◌+ℚ◌, ◌≤ℚ◌, ◌<ℚ◌, int}
+use Rattle.rational.specs.Grid.{Whole}
+use Rattle.rational.specs.Extended.{Ext, ◌+ₑ◌}
+use Rattle.rational.specs.declared.Extended.TheVariants.{Fin}
+use Rattle.rational.proofs.Laws.{le_of_lt, le_trans}
+use Rattle.rational.proofs.Linear.{with4}
+use Rattle.upp_curve.specs.declared.affine_segment.line.Line.{Line}
+use Rattle.upp_curve.specs.declared.affine_segment.line.Piece.{Piece}
+use Rattle.upp_curve.specs.affine_segment.Reading.{read}
+use Rattle.upp_curve.specs.affine_segment.Values.{line_value}
+use Rattle.upp_curve.proofs.affine_segment.PieceOrder.{each_map}
+use Rattle.upp_curve.specs.Curve.{SpecCurve, value_at}
+use Rattle.upp_curve.specs.Steady.{Repeats}
+use Rattle.upp_curve.specs.Readable.{IsReadable}
+use Rattle.upp_curve.specs.Unrolled.{upto}
+use Rattle.upp_curve.proofs.Normal.{transfer, periodic}
+use Rattle.upp_curve.proofs.Repeats.{repeated_rule}
+use Rattle.upp_curve.proofs.Rules.{rule_extends}
 use Rattle.upp_normal.specs.Normalising.{Turned, IsFormOf, IsOneLine, OnGrids, OnGridsUnlessLine}
 use Rattle.upp_normal.specs.Room.{Room, many, PieceHasRoom, CycleHasRoom}
 use Rattle.upp_normal.proofs.NormaliseCuts.{each_front}

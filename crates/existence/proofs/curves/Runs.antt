@@ -2,23 +2,23 @@
 use Rattle.std.specs.Prelude.{ℕ, ◌<◌, ◌^◌}
 use Rattle.std.proofs.Common.{refl, inl, inr}
 use Rattle.std.proofs.lemmas.Bool.{cases_lt}
-use Rattle.upp_limits.specs.rational.specs.Rational.{ℚ, ◌+ℚ◌, ◌-ℚ◌, ◌<ℚ◌}
-use Rattle.upp_limits.specs.rational.proofs.Laws.{le_or_lt, le_refl, le_of_lt}
-use Rattle.upp_limits.specs.min_plus.specs.Functions.{zero_q, IsFinite, IsNonnegative}
-use Rattle.upp_limits.specs.upp_curve.specs.Curve.{SpecCurve, value_at}
-use Rattle.upp_limits.specs.upp_curve.specs.Curves.{IsCurve}
-use Rattle.upp_limits.specs.upp_curve.specs.Steady.{steady, rise_over}
-use Rattle.upp_limits.specs.upp_curve.specs.Unrolled.{unroll}
+use Rattle.rational.specs.Rational.{ℚ, ◌+ℚ◌, ◌-ℚ◌, ◌<ℚ◌}
+use Rattle.rational.proofs.Laws.{le_or_lt, le_refl, le_of_lt}
+use Rattle.min_plus.specs.Functions.{zero_q, IsFinite, IsNonnegative}
+use Rattle.upp_curve.specs.Curve.{SpecCurve, value_at}
+use Rattle.upp_curve.specs.Curves.{IsCurve}
+use Rattle.upp_curve.specs.Steady.{steady, rise_over}
+use Rattle.upp_curve.specs.Unrolled.{unroll}
 use Rattle.upp_limits.specs.declared.op_kind.OpKind.TheVariants.{RunSup}
 use Rattle.upp_limits.specs.Gauges.{gauge_at}
 use Rattle.upp_limits.specs.Periods.{own_period}
 use Rattle.upp_limits.specs.Windows.{window_at}
-use Rattle.plain_operators.specs.curve_call.specs.declared.frame.Frame.{Frame}
-use Rattle.plain_operators.specs.curve_call.specs.declared.windows.CallWindow.{CallWindow}
-use Rattle.plain_operators.specs.curve_call.specs.Answers.{IsMadeBy}
-use Rattle.plain_operators.specs.curve_call.specs.Frames.{IsFrame, sizes_at}
-use Rattle.plain_operators.specs.curve_call.proofs.FirstGate.{first_gate}
-use Rattle.plain_operators.specs.curve_call.proofs.Limited.{run_sup_least}
+use Rattle.curve_call.specs.declared.frame.Frame.{Frame}
+use Rattle.curve_call.specs.declared.windows.CallWindow.{CallWindow}
+use Rattle.curve_call.specs.Answers.{IsMadeBy}
+use Rattle.curve_call.specs.Frames.{IsFrame, sizes_at}
+use Rattle.curve_call.proofs.FirstGate.{first_gate}
+use Rattle.curve_call.proofs.Limited.{run_sup_least}
 use Rattle.existence.specs.curves.Answered.{HasAnswer}
 use Rattle.existence.proofs.curves.Answered.{at_least, too_wide}
 use Rattle.existence.proofs.curves.Windows.{answer_curve}

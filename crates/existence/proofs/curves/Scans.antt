@@ -3,22 +3,22 @@ use Rattle.std.specs.Prelude.{◌≡◌, ℕ, zero, suc, ◌+◌, ◌-◌, ◌<�
 use Rattle.std.proofs.Common.{arith, sym, refl, subst, inl, inr, ◌∙◌}
 use Rattle.std.proofs.lemmas.Bool.{cases_lt}
 use Rattle.std.proofs.lemmas.Option.{slice_get_cases}
-use Rattle.upp_limits.specs.rational.specs.Rational.{ℚ, ◌-ℚ◌, ◌/ℚ◌, ◌≤ℚ◌, ◌<ℚ◌, int}
-use Rattle.upp_limits.specs.rational.specs.MinMax.{max_q, min_q}
-use Rattle.upp_limits.specs.rational.specs.Extended.{◌≤ₑ◌}
-use Rattle.upp_limits.specs.rational.specs.declared.Extended.TheVariants.{Fin}
-use Rattle.upp_limits.specs.rational.specs.Gauge.{size_up}
-use Rattle.upp_limits.specs.rational.proofs.Laws.{le_or_lt, lt_irrefl}
-use Rattle.upp_limits.specs.upp_curve.specs.declared.affine_segment.line.Line.{Line}
-use Rattle.upp_limits.specs.upp_curve.specs.declared.affine_segment.line.Piece.{Piece}
-use Rattle.upp_limits.specs.upp_curve.specs.affine_segment.Reading.{read}
-use Rattle.upp_limits.specs.upp_curve.specs.affine_segment.Values.{line_at}
-use Rattle.upp_limits.specs.upp_curve.proofs.affine_segment.LineValues.{level_value}
-use Rattle.upp_limits.specs.upp_curve.proofs.affine_segment.Meeting.{lines_meet}
-use Rattle.upp_limits.specs.upp_curve.proofs.affine_segment.PieceOrder.{zero_some}
-use Rattle.upp_limits.specs.min_plus.specs.Functions.{zero_q}
-use Rattle.upp_limits.specs.upp_curve.specs.Shapes.{IsLine}
-use Rattle.upp_limits.specs.upp_curve.proofs.Finite.{level_of}
+use Rattle.rational.specs.Rational.{ℚ, ◌-ℚ◌, ◌/ℚ◌, ◌≤ℚ◌, ◌<ℚ◌, int}
+use Rattle.rational.specs.MinMax.{max_q, min_q}
+use Rattle.rational.specs.Extended.{◌≤ₑ◌}
+use Rattle.rational.specs.declared.Extended.TheVariants.{Fin}
+use Rattle.rational.specs.Gauge.{size_up}
+use Rattle.rational.proofs.Laws.{le_or_lt, lt_irrefl}
+use Rattle.upp_curve.specs.declared.affine_segment.line.Line.{Line}
+use Rattle.upp_curve.specs.declared.affine_segment.line.Piece.{Piece}
+use Rattle.upp_curve.specs.affine_segment.Reading.{read}
+use Rattle.upp_curve.specs.affine_segment.Values.{line_at}
+use Rattle.upp_curve.proofs.affine_segment.LineValues.{level_value}
+use Rattle.upp_curve.proofs.affine_segment.Meeting.{lines_meet}
+use Rattle.upp_curve.proofs.affine_segment.PieceOrder.{zero_some}
+use Rattle.min_plus.specs.Functions.{zero_q}
+use Rattle.upp_curve.specs.Shapes.{IsLine}
+use Rattle.upp_curve.proofs.Finite.{level_of}
 use Rattle.plain_operators.specs.declared.running.bend.Bend.{Bend}
 use Rattle.plain_operators.specs.running.Bends.{bent}
 use Rattle.plain_operators.specs.running.Made.{IsMeeting, IsSupremumScan}

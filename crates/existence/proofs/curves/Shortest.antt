@@ -4,16 +4,16 @@ use Rattle.std.proofs.Common.{arith, sym, ap, refl, subst, inl, inr, take}
 use Rattle.std.proofs.lemmas.Bool.{cases_lt}
 use Prim.Native.Nat.{◌∣◌}
 use native.Mathlib.Nat.{mul-div_cancel', le_of_dvd, dvd_of_mod-eq-zero, mod-eq-zero_of_dvd, mul-le-mul_left}
-use Rattle.upp_limits.specs.rational.specs.Rational.{ℚ, ◌/ℚ◌, int}
-use Rattle.upp_limits.specs.rational.specs.Extended.{Ext}
-use Rattle.upp_limits.specs.rational.proofs.Laws.{le_of_lt}
-use Rattle.upp_limits.specs.upp_curve.specs.declared.affine_segment.line.Piece.{Piece}
-use Rattle.upp_limits.specs.upp_curve.specs.affine_segment.Reading.{read}
-use Rattle.upp_limits.specs.upp_curve.specs.Curve.{repeated}
-use Rattle.upp_limits.specs.upp_curve.specs.Steady.{Repeats}
-use Rattle.upp_limits.specs.upp_curve.specs.Unrolled.{upto, from}
-use Rattle.upp_limits.specs.upp_curve.proofs.Normal.{transfer}
-use Rattle.upp_limits.specs.upp_curve.proofs.Repeats.{repeated_rule}
+use Rattle.rational.specs.Rational.{ℚ, ◌/ℚ◌, int}
+use Rattle.rational.specs.Extended.{Ext}
+use Rattle.rational.proofs.Laws.{le_of_lt}
+use Rattle.upp_curve.specs.declared.affine_segment.line.Piece.{Piece}
+use Rattle.upp_curve.specs.affine_segment.Reading.{read}
+use Rattle.upp_curve.specs.Curve.{repeated}
+use Rattle.upp_curve.specs.Steady.{Repeats}
+use Rattle.upp_curve.specs.Unrolled.{upto, from}
+use Rattle.upp_curve.proofs.Normal.{transfer}
+use Rattle.upp_curve.proofs.Repeats.{repeated_rule}
 use Rattle.upp_normal.specs.Normalising.{IsCycle, EndsInBreak, Turned, GoesOn, IsFront}
 use Rattle.upp_normal.proofs.NormaliseCuts.{front_self, front_take}
 use Rattle.upp_normal.proofs.NormaliseDivided.{cut_of, divides_count, goes_on_if, cut_turned}

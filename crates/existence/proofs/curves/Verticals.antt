@@ -1,35 +1,35 @@
 -- Two curves have a vertical deviation, or their call is over a limit.
 use Rattle.std.specs.Prelude.{◌≡◌, ◌≢◌, ◌⊎◌, pos, true, false, List, [], ◌∷◌, Result, Ok, Err, Option, None, Some}
 use Rattle.std.proofs.Common.{refl, sym, inl, inr, subst, true≢false}
-use Rattle.upp_limits.specs.rational.specs.Rational.{◌+ℚ◌, int}
-use Rattle.upp_limits.specs.rational.specs.Extended.{Ext, ◌<ₑ◌}
-use Rattle.upp_limits.specs.rational.specs.declared.Extended.TheVariants.{Fin, Inf}
-use Rattle.upp_limits.specs.upp_curve.specs.declared.affine_segment.line.Line.{Line}
-use Rattle.upp_limits.specs.upp_curve.specs.declared.affine_segment.line.Piece.{Piece}
-use Rattle.upp_limits.specs.upp_curve.specs.affine_segment.Pieces.{Each}
-use Rattle.upp_limits.specs.min_plus.specs.Deviations.{IsVerticalDeviation}
-use Rattle.upp_limits.specs.min_plus.specs.Functions.{IsFinite}
-use Rattle.upp_limits.specs.upp_curve.specs.declared.curve.Tail.{Tail}
-use Rattle.upp_limits.specs.upp_curve.specs.declared.curve.Tail.TheVariants.{Periodic, Affine, Infinite}
-use Rattle.upp_limits.specs.upp_curve.specs.Curve.{SpecCurve, value_at}
-use Rattle.upp_limits.specs.upp_curve.specs.Curves.{IsCurve}
-use Rattle.upp_limits.specs.upp_curve.specs.Shapes.{IsNumber, IsLine, IsFinitePiece}
-use Rattle.upp_limits.specs.upp_curve.specs.Steady.{rate}
-use Rattle.upp_limits.specs.upp_curve.proofs.CurveShapes.{finite_answer, not_finite}
-use Rattle.upp_limits.specs.upp_curve.proofs.RisingCurves.{GoesOn}
+use Rattle.rational.specs.Rational.{◌+ℚ◌, int}
+use Rattle.rational.specs.Extended.{Ext, ◌<ₑ◌}
+use Rattle.rational.specs.declared.Extended.TheVariants.{Fin, Inf}
+use Rattle.upp_curve.specs.declared.affine_segment.line.Line.{Line}
+use Rattle.upp_curve.specs.declared.affine_segment.line.Piece.{Piece}
+use Rattle.upp_curve.specs.affine_segment.Pieces.{Each}
+use Rattle.min_plus.specs.Deviations.{IsVerticalDeviation}
+use Rattle.min_plus.specs.Functions.{IsFinite}
+use Rattle.upp_curve.specs.declared.curve.Tail.{Tail}
+use Rattle.upp_curve.specs.declared.curve.Tail.TheVariants.{Periodic, Affine, Infinite}
+use Rattle.upp_curve.specs.Curve.{SpecCurve, value_at}
+use Rattle.upp_curve.specs.Curves.{IsCurve}
+use Rattle.upp_curve.specs.Shapes.{IsNumber, IsLine, IsFinitePiece}
+use Rattle.upp_curve.specs.Steady.{rate}
+use Rattle.upp_curve.proofs.CurveShapes.{finite_answer, not_finite}
+use Rattle.upp_curve.proofs.RisingCurves.{GoesOn}
 use Rattle.upp_limits.specs.declared.op_kind.OpKind.TheVariants.{Vertical}
 use Rattle.upp_limits.specs.declared.op_kind.OpFault.{OpFault}
 use Rattle.upp_limits.specs.declared.op_kind.OpFault.TheVariants.{TooMany, TooWide, NoMemory}
 use Rattle.upp_limits.specs.Outcome.{IsWithin}
-use Rattle.plain_operators.specs.curve_call.specs.declared.frame.Frame.{Frame}
-use Rattle.plain_operators.specs.curve_call.specs.Frames.{IsFrame, sizes_at}
-use Rattle.plain_operators.specs.curve_call.proofs.Limited.{vertical_least}
-use Rattle.plain_operators.specs.curve_call.proofs.TailMoves.{rates_compared, not_both, not_same}
-use Rattle.plain_operators.specs.curve_call.specs.declared.gaps.Gap.{Gap}
-use Rattle.plain_operators.specs.curve_call.specs.declared.gaps.Gap.TheVariants.{NoTime, Never, Is}
-use Rattle.plain_operators.specs.curve_call.specs.Gaps.{InWindow, IsGap}
+use Rattle.curve_call.specs.declared.frame.Frame.{Frame}
+use Rattle.curve_call.specs.Frames.{IsFrame, sizes_at}
+use Rattle.curve_call.proofs.Limited.{vertical_least}
+use Rattle.curve_call.proofs.TailMoves.{rates_compared, not_both, not_same}
+use Rattle.curve_call.specs.declared.gaps.Gap.{Gap}
+use Rattle.curve_call.specs.declared.gaps.Gap.TheVariants.{NoTime, Never, Is}
+use Rattle.curve_call.specs.Gaps.{InWindow, IsGap}
 use Rattle.existence.proofs.curves.Answered.{limited}
-use Rattle.plain_operators.specs.curve_call.proofs.GapThere.{gap_there}
+use Rattle.curve_call.proofs.GapThere.{gap_there}
 use Rattle.existence.specs.curves.Verticals.{Measures}
 use Rattle.curve_deviation.proofs.AtOnce.{not_finite_deviation}
 use Rattle.curve_deviation.proofs.VerticalCall.{frame_compared, known_within, faster_at_once, not_known}

@@ -1,14 +1,14 @@
 -- The curve of an answer, from its pieces in the call's window.
 use Rattle.std.specs.Prelude.{ℕ, List}
-use Rattle.upp_limits.specs.rational.specs.Rational.{ℚ}
-use Rattle.upp_limits.specs.upp_curve.specs.declared.affine_segment.line.Piece.{Piece}
-use Rattle.upp_limits.specs.upp_curve.specs.affine_segment.Reading.{read}
-use Rattle.upp_limits.specs.upp_curve.specs.declared.curve.Tail.TheVariants.{Periodic}
-use Rattle.upp_limits.specs.upp_curve.specs.Curve.{SpecCurve, repeated, value_at, HasSameValues}
-use Rattle.upp_limits.specs.upp_curve.specs.Curves.{IsCurve}
+use Rattle.rational.specs.Rational.{ℚ}
+use Rattle.upp_curve.specs.declared.affine_segment.line.Piece.{Piece}
+use Rattle.upp_curve.specs.affine_segment.Reading.{read}
+use Rattle.upp_curve.specs.declared.curve.Tail.TheVariants.{Periodic}
+use Rattle.upp_curve.specs.Curve.{SpecCurve, repeated, value_at, HasSameValues}
+use Rattle.upp_curve.specs.Curves.{IsCurve}
 use Rattle.upp_normal.specs.Normalising.{HasValues}
-use Rattle.plain_operators.specs.curve_call.specs.Answering.{IsAnswerWindow}
-use Rattle.plain_operators.specs.curve_call.proofs.Answering.{answer_room_is, answer_grids, periodic_grids}
+use Rattle.curve_call.specs.Answering.{IsAnswerWindow}
+use Rattle.curve_call.proofs.Answering.{answer_room_is, answer_grids, periodic_grids}
 use Rattle.existence.proofs.curves.Forms.{curve_with_room}
 
 seen : (ps : List Piece) (from period rise : ℚ) (c : SpecCurve) → HasSameValues c record { pieces = ps; tail = Periodic from period rise } → HasValues c (repeated (read ps) from period rise)

@@ -8,15 +8,15 @@ use Rattle.std.proofs.lemmas.List.{length_push}
 use Rattle.std.proofs.lemmas.List.Elements.{All-nil, All-push}
 use Rattle.std.proofs.lemmas.List.Quantifiers.{all_pairs_push}
 use Rattle.std.proofs.lemmas.List.Sums.{AllPass-from_list_all}
-use Rattle.upp_limits.specs.rational.specs.Rational.{ℚ, int, ◌≤ℚ◌, ◌<ℚ◌}
-use Rattle.upp_limits.specs.rational.specs.Ratio.{IsSmall}
-use Rattle.upp_limits.specs.rational.proofs.Laws.{le_of_not_lt, le_refl}
-use Rattle.upp_limits.specs.min_plus.specs.Functions.{zero_q}
-use Rattle.upp_limits.specs.fraction128.specs.declared.fault.FracText.{FracText}
-use Rattle.upp_limits.specs.fraction128.specs.Text.{parse_of}
+use Rattle.rational.specs.Rational.{ℚ, int, ◌≤ℚ◌, ◌<ℚ◌}
+use Rattle.rational.specs.Ratio.{IsSmall}
+use Rattle.rational.proofs.Laws.{le_of_not_lt, le_refl}
+use Rattle.min_plus.specs.Functions.{zero_q}
+use Rattle.fraction128.specs.declared.fault.FracText.{FracText}
+use Rattle.fraction128.specs.Text.{parse_of}
 use Rattle.curve_library.specs.declared.texts.PieceText.{PieceText}
 use Rattle.curve_library.specs.declared.texts.UseAs.TheVariants as uses
-use Rattle.net_model.specs.run_laws.specs.Servers.{Fifo, Priority, Drr, queue_count}
+use Rattle.run_laws.specs.Servers.{Fifo, Priority, Drr, queue_count}
 use Rattle.net_model.specs.Accepted.{IsVersion, IsLength, IsQueueNumber, HasFewQueues}
 use Rattle.net_model.specs.Names.{IsName, is_name, is_name_byte}
 use Rattle.net_model.specs.declared.fault.NetKind.{NetKind}

@@ -7,8 +7,8 @@ use Rattle.net_model.specs.declared.edit.Edit.{Edit}
 use Rattle.net_model.specs.Networks.{Net}
 use Rattle.net_model.specs.Orders.{IsOrder}
 use Rattle.net_model.proofs.net_graph.Returns.{order_or_cycle}
-use Rattle.report_text.specs.net_cells.specs.declared.cell.Cell.{Cell}
-use Rattle.report_text.specs.net_cells.specs.Work.{work}
+use Rattle.net_cells.specs.declared.cell.Cell.{Cell}
+use Rattle.net_cells.specs.Work.{work}
 use Rattle.net_edits.specs.declared.fault.EditFault.{EditFault}
 use Rattle.net_edits.specs.declared.fault.EditFault.TheVariants.{UnknownName, NameTaken, BadValue, LimitReached, Cycle, TooMany, TooWide, NothingToUndo, NoMemory}
 use Rattle.net_edits.specs.Refusals.{unknown_name, name_taken, bad_value, no_number_left}
@@ -25,7 +25,7 @@ use Rattle.commands.specs.edit.Answered.{IsAnswered, Taken, Undone, Refused, Are
 use Rattle.commands.specs.edit.EditCounts.{IsWorkOf, IsTakenWork}
 use Rattle.commands.proofs.edit.Exclusive.{gives_not_over, gives_not_refused, undo_gives_none, nothing_pushed}
 use Rattle.commands.proofs.edit.SameEdits.{answered_alike}
-use Rattle.commands.specs.command_replies.proofs.FirstFaults.{says}
+use Rattle.command_replies.proofs.FirstFaults.{says}
 use Rattle.existence.specs.edits.Laws.{HasWork, EditsHaveWork, ListsHaveWork}
 
 -- ---- one edit

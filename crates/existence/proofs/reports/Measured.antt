@@ -6,7 +6,7 @@ use Rattle.std.proofs.lemmas.Bool.{cases_lt}
 use Rattle.std.proofs.lemmas.List.Elements.{All-filter}
 use Rattle.std.proofs.lemmas.List.Kept.{AllPairs-filter}
 use Rattle.std.proofs.lemmas.List.Sorted.{IsPermutation-refl, IsPermutation-cons, IsPermutation-middle, IsPermutation-trans}
-use Rattle.upp_limits.specs.rational.specs.Rational.{◌≤ℚ◌}
+use Rattle.rational.specs.Rational.{◌≤ℚ◌}
 use Rattle.net_model.specs.declared.trace.TracePacket.{TracePacket}
 use Rattle.net_model.specs.Traces.{SpecTrace, IsTracePacket}
 use Rattle.measure_curve.specs.Grids.{IsNarrow, width_of}
@@ -19,7 +19,7 @@ use Rattle.measure_curve.proofs.Rising.{tell_rises}
 use Rattle.measure_curve.proofs.Stairs.{stairs_curve}
 use Rattle.measure_curve.proofs.StepLevels.{are_steps, lengthen}
 use Rattle.measure_curve.proofs.Widths.{stand}
-use Rattle.upp_limits.specs.upp_curve.specs.Curve.{SpecCurve}
+use Rattle.upp_curve.specs.Curve.{SpecCurve}
 use Rattle.commands.specs.measure.OnMeasures.{IsMeasured}
 
 -- ---- in the order of a number

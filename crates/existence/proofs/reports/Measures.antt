@@ -2,14 +2,14 @@
 use Rattle.std.proofs.Common.{ℕ, ◌^◌, List, length, Result, Ok, Err, refl, inl, inr}
 use Rattle.std.specs.Prelude.{codes}
 use Rattle.std.proofs.lemmas.Bool.{cases_lt}
-use Rattle.upp_limits.specs.rational.specs.Rational.{ℚ, ◌≤ℚ◌}
-use Rattle.upp_limits.specs.rational.specs.Extended.{Ext}
-use Rattle.upp_limits.specs.rational.specs.declared.Extended.TheVariants.{Fin, Inf}
-use Rattle.upp_limits.specs.min_plus.specs.Deviations.{IsVerticalDeviation}
-use Rattle.upp_limits.specs.min_plus.specs.Functions.{zero_q}
-use Rattle.upp_limits.specs.upp_curve.specs.Curve.{SpecCurve, value_at}
-use Rattle.upp_limits.specs.upp_curve.specs.Kinds.{bucket}
-use Rattle.upp_limits.specs.upp_curve.proofs.ReadableKinds.{zero_small, bucket_curve}
+use Rattle.rational.specs.Rational.{ℚ, ◌≤ℚ◌}
+use Rattle.rational.specs.Extended.{Ext}
+use Rattle.rational.specs.declared.Extended.TheVariants.{Fin, Inf}
+use Rattle.min_plus.specs.Deviations.{IsVerticalDeviation}
+use Rattle.min_plus.specs.Functions.{zero_q}
+use Rattle.upp_curve.specs.Curve.{SpecCurve, value_at}
+use Rattle.upp_curve.specs.Kinds.{bucket}
+use Rattle.upp_curve.proofs.ReadableKinds.{zero_small, bucket_curve}
 use Rattle.upp_limits.specs.declared.op_kind.OpFault.{OpFault}
 use Rattle.upp_limits.specs.declared.op_kind.OpFault.TheVariants as faults
 use Rattle.upp_limits.specs.declared.op_kind.OpKind.TheVariants.{Vertical}
@@ -23,7 +23,7 @@ use Rattle.measure_curve.specs.Grids.{width_of}
 use Rattle.measure_curve.specs.Windows.{of_flow}
 use Rattle.measure_curve.proofs.Bursts.{line_finite, not_infinite, least_burst}
 use Rattle.measure_curve.proofs.Kept.{bounded}
-use Rattle.commands.specs.command_replies.specs.Replies.{Reply, over, table_fault_reply}
+use Rattle.command_replies.specs.Replies.{Reply, over, table_fault_reply}
 use Rattle.outcomes.specs.Stages.{stops, goes_on}
 use Rattle.commands.specs.measure.OnMeasures.{IsMeasured, measure_report, unknown_flow, IsReplyOnPackets, IsReplyOnTrace, IsReplyOnNet, IsMeasureReply}
 use Rattle.commands.proofs.measure.Answering.{reported, steep, past}

@@ -5,8 +5,8 @@ use Rattle.std.proofs.lemmas.Bool.{cases_lt}
 use Rattle.std.proofs.lemmas.List.Elements.{All-contains}
 use Rattle.std.proofs.lemmas.List.{get_or_default, get_or_past}
 use Rattle.std.proofs.lemmas.Option.{slice_get_within, get_or_from_slice_get}
-use Rattle.upp_limits.specs.upp_curve.specs.Curve.{SpecCurve}
-use Rattle.upp_limits.specs.upp_curve.specs.Curves.{IsCurve}
+use Rattle.upp_curve.specs.Curve.{SpecCurve}
+use Rattle.upp_curve.specs.Curves.{IsCurve}
 use Rattle.net_model.specs.Networks.{Net, NetServer, NetFlow}
 use Rattle.net_draft.specs.Drafts.{draft_of}
 use Rattle.net_draft.specs.Faults.{Fault, Read}
@@ -16,21 +16,21 @@ use Rattle.net_text.specs.Built.{IsServerOf, IsLiveFlowOf, IsBuilt}
 use Rattle.net_text.specs.Firsts.{PlacedCurve, FirstCurveOver, curves_of}
 use Rattle.net_text.specs.FoldLimits.{OverFold}
 use Rattle.net_text.proofs.Zips.{zip_all}
-use Rattle.report_text.specs.net_cells.specs.Numbered.{service_of, arrival_of, flow_at}
-use Rattle.report_text.specs.net_cells.proofs.Tables.{answers_meet}
+use Rattle.net_cells.specs.Numbered.{service_of, arrival_of, flow_at}
+use Rattle.net_cells.proofs.Tables.{answers_meet}
 use Rattle.net_bounds.proofs.Kept.{table_bounds_every_run}
 use Rattle.net_model.specs.Orders.{IsOrder}
 use Rattle.net_model.proofs.net_graph.Existing.{order_or_round}
-use Rattle.report_text.specs.net_cells.specs.declared.cell.Cell.{Cell}
-use Rattle.report_text.specs.net_cells.specs.FirstOver.{FirstOver}
+use Rattle.net_cells.specs.declared.cell.Cell.{Cell}
+use Rattle.net_cells.specs.FirstOver.{FirstOver}
 use Rattle.report_text.specs.CellWords.{server_name, cell_words}
 use Rattle.report_text.specs.declared.json_report.form.Form.{Form}
 use Rattle.upp_limits.specs.declared.op_kind.OpFault.{OpFault}
 use Rattle.upp_limits.specs.declared.op_kind.OpFault.TheVariants.{TooMany, TooWide, NoMemory}
 use Rattle.upp_limits.specs.declared.own_limits.OverLimit.{OverLimit}
 use Rattle.upp_limits.specs.declared.own_limits.OverLimit.TheVariants as limits
-use Rattle.commands.specs.command_replies.specs.Replies.{Reply, breaks_rule, goes_round, curve_over, cell_over}
-use Rattle.commands.specs.command_replies.specs.OnFiles.{IsNetOf, IsNoNetwork, IsOver}
+use Rattle.command_replies.specs.Replies.{Reply, breaks_rule, goes_round, curve_over, cell_over}
+use Rattle.command_replies.specs.OnFiles.{IsNetOf, IsNoNetwork, IsOver}
 use Rattle.outcomes.specs.Stages.{stops, goes_on}
 use Rattle.commands.specs.analyse.OnFiles.{report, IsReplyOn, IsReplyOnNet}
 use Rattle.run_watch.specs.simulated_sizes.Laws.{AreCurves}

@@ -2,20 +2,20 @@
 use Rattle.std.proofs.Common.{◌≡◌, ◌≢◌, ◌⊎◌, ℕ, ◌+◌, ◌≤◌, List, [], ◌∷◌, ◌++◌, Option, Some, None, Result, Ok, Err, IfOk, Bool, true, false, cond, refl, sym, subst, arith, inl, inr}
 use Rattle.std.specs.Prelude.{IfErr, option_map}
 use Rattle.std.specs.Str.{bytes_eq}
-use Rattle.upp_limits.specs.rational.specs.Rational.{ℚ}
-use Rattle.upp_limits.specs.rational.specs.Extended.{Ext}
-use Rattle.upp_limits.specs.rational.specs.declared.Extended.TheVariants.{Fin}
-use Rattle.upp_limits.specs.rational.specs.Ratio.{IsSmall}
-use Rattle.upp_limits.specs.rational.proofs.Laws.{le_of_not_lt}
-use Rattle.upp_limits.specs.rational.proofs.ExtendedOrder.{le_or_lt_ext}
-use Rattle.upp_limits.specs.min_plus.specs.Deviations.{IsVerticalDeviation}
-use Rattle.upp_limits.specs.min_plus.specs.Functions.{zero_q, IsFinite, IsNonnegative}
-use Rattle.upp_limits.specs.upp_curve.specs.Curve.{SpecCurve, value_at}
-use Rattle.upp_limits.specs.upp_curve.specs.Curves.{IsCurve}
-use Rattle.upp_limits.specs.upp_curve.specs.Kinds.{bucket, rate_latency, stair, gate}
-use Rattle.upp_limits.specs.upp_curve.specs.Normal.{IsNormal}
-use Rattle.upp_limits.specs.upp_curve.proofs.KindsAre.{kinds_are_normal}
-use Rattle.upp_limits.specs.upp_curve.proofs.ReadableKinds.{zero_small, bucket_curve}
+use Rattle.rational.specs.Rational.{ℚ}
+use Rattle.rational.specs.Extended.{Ext}
+use Rattle.rational.specs.declared.Extended.TheVariants.{Fin}
+use Rattle.rational.specs.Ratio.{IsSmall}
+use Rattle.rational.proofs.Laws.{le_of_not_lt}
+use Rattle.rational.proofs.ExtendedOrder.{le_or_lt_ext}
+use Rattle.min_plus.specs.Deviations.{IsVerticalDeviation}
+use Rattle.min_plus.specs.Functions.{zero_q, IsFinite, IsNonnegative}
+use Rattle.upp_curve.specs.Curve.{SpecCurve, value_at}
+use Rattle.upp_curve.specs.Curves.{IsCurve}
+use Rattle.upp_curve.specs.Kinds.{bucket, rate_latency, stair, gate}
+use Rattle.upp_curve.specs.Normal.{IsNormal}
+use Rattle.upp_curve.proofs.KindsAre.{kinds_are_normal}
+use Rattle.upp_curve.proofs.ReadableKinds.{zero_small, bucket_curve}
 use Rattle.upp_limits.specs.declared.op_kind.OpKind.{OpKind}
 use Rattle.upp_limits.specs.declared.op_kind.OpKind.TheVariants as calls
 use Rattle.upp_limits.specs.declared.op_kind.OpFault.{OpFault}
@@ -23,7 +23,7 @@ use Rattle.upp_limits.specs.declared.op_kind.OpFault.TheVariants as faults
 use Rattle.upp_limits.specs.declared.own_limits.OverLimit.{OverLimit}
 use Rattle.upp_limits.specs.declared.own_limits.OverLimit.TheVariants as limits
 use Rattle.upp_limits.specs.OwnLimits.{IsOver}
-use Rattle.plain_operators.specs.curve_call.specs.Calls.{Applies}
+use Rattle.curve_call.specs.Calls.{Applies}
 use Rattle.curve_library.specs.Causes.{OneNegative}
 use Rattle.subadd_closure.specs.Folds.{CloseAnswer}
 use Rattle.subadd_closure.specs.FoldWork.{fold_work}

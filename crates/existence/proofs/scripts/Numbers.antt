@@ -3,12 +3,12 @@ use Rattle.std.proofs.Common.{◌≡◌, ◌≢◌, ℕ, suc, zero, ◌<◌, ◌
 use Rattle.std.specs.Prelude.{ℤ, pos, MatchBool, nat_abs, nat_lt, not, ◌==◌, ◌&&◌, ◌||◌, if◌then◌else◌, option_map}
 use Rattle.std.specs.Str.Parse.{digits_value, starts_with_minus}
 use Rattle.std.proofs.lemmas.Bool.{ltb-false, eqb-false}
-use Rattle.upp_limits.specs.rational.specs.Rational.{ℚ, over}
-use Rattle.upp_limits.specs.rational.specs.Ratio.{IsSmall}
-use Rattle.upp_limits.specs.rational.proofs.Parts.{small_ratio}
-use Rattle.upp_limits.specs.fraction128.specs.declared.fault.FracText.{FracText}
-use Rattle.upp_limits.specs.fraction128.specs.declared.fault.FracText.TheVariants.{Form, Past, ZeroDen}
-use Rattle.upp_limits.specs.fraction128.specs.Text.{largest, is_numeral, signed_value, number_from, parse_of, top_text, bottom_text}
+use Rattle.rational.specs.Rational.{ℚ, over}
+use Rattle.rational.specs.Ratio.{IsSmall}
+use Rattle.rational.proofs.Parts.{small_ratio}
+use Rattle.fraction128.specs.declared.fault.FracText.{FracText}
+use Rattle.fraction128.specs.declared.fault.FracText.TheVariants.{Form, Past, ZeroDen}
+use Rattle.fraction128.specs.Text.{largest, is_numeral, signed_value, number_from, parse_of, top_text, bottom_text}
 use Rattle.input_texts.specs.curve_script.Grammar.{Expression, Named, Nought, OfPair, OfTriple, OnCurve, OnNumber, OnTwo}
 use Rattle.input_texts.specs.curve_script.Grammar.{Statement, Lets, ValueAt, AsksOne, AsksTwo}
 use Rattle.input_texts.specs.curve_script.Grammar.{number_in, number_of, both, numbers_read, numbers_read_in}

@@ -7,8 +7,8 @@ use Rattle.input_texts.specs.declared.curve_script.fault.LangKind.TheVariants.{N
 use Rattle.input_texts.specs.curve_script.Scripts.{Numbered, lines_of}
 use Rattle.curve_lang.specs.Found.{Told, ScriptTells}
 use Rattle.curve_lang.proofs.ScriptMeant.{answers_are_meant}
-use Rattle.commands.specs.command_replies.specs.Faults.{script_fault_reply, script_reply_of_kind}
-use Rattle.commands.specs.command_replies.specs.Replies.{Reply}
+use Rattle.command_replies.specs.Faults.{script_fault_reply, script_reply_of_kind}
+use Rattle.command_replies.specs.Replies.{Reply}
 use Rattle.outcomes.specs.Stages.{stops, goes_on}
 use Rattle.commands.specs.curve.OnScripts.{IsByRule, IsReplyOnLines, answered}
 use Rattle.commands.proofs.curve.Lines.{first_by_rule}

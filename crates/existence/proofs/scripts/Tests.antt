@@ -3,21 +3,21 @@
 use Rattle.std.proofs.Common.{◌≡◌, ◌⊎◌, ℕ, ◌≤◌, ◌^◌, pos, List, [], ◌∷◌, Option, Some, None, refl, sym, ap, ap₂, subst, arith, inl, inr, ◌∙◌}
 use Rattle.std.specs.Prelude.{nat_abs}
 use Rattle.std.proofs.lemmas.Bool.{cases_lt}
-use Rattle.upp_limits.specs.rational.specs.Rational.{ℚ, int, ◌≤ℚ◌, ◌<ℚ◌}
-use Rattle.upp_limits.specs.rational.specs.Extended.{◌≤ₑ◌}
-use Rattle.upp_limits.specs.rational.proofs.Laws.{le_or_lt, not_le_of_lt}
-use Rattle.upp_limits.specs.min_plus.specs.Functions.{zero_q, IsRising}
-use Rattle.upp_limits.specs.upp_curve.specs.declared.affine_segment.line.Line.{Line}
-use Rattle.upp_limits.specs.upp_curve.specs.declared.affine_segment.line.Piece.{Piece}
-use Rattle.upp_limits.specs.upp_curve.specs.declared.curve.Tail.{Tail}
-use Rattle.upp_limits.specs.upp_curve.specs.declared.curve.Tail.TheVariants.{Periodic, Affine, Infinite}
-use Rattle.upp_limits.specs.upp_curve.specs.affine_segment.Values.{line_value}
-use Rattle.upp_limits.specs.upp_curve.specs.Curve.{SpecCurve, value_at, HasSameValues}
-use Rattle.upp_limits.specs.upp_curve.specs.Curves.{IsCurve}
-use Rattle.upp_limits.specs.upp_curve.specs.Normal.{IsNormal}
-use Rattle.upp_limits.specs.upp_curve.specs.Shapes.{LineRises, EndsBelow, end_before, PiecesRise}
-use Rattle.upp_limits.specs.upp_curve.proofs.OneForm.{normal_unique}
-use Rattle.upp_limits.specs.upp_curve.proofs.RisingCurves.{period_end, rises_by_tail, pieces_by_tail}
+use Rattle.rational.specs.Rational.{ℚ, int, ◌≤ℚ◌, ◌<ℚ◌}
+use Rattle.rational.specs.Extended.{◌≤ₑ◌}
+use Rattle.rational.proofs.Laws.{le_or_lt, not_le_of_lt}
+use Rattle.min_plus.specs.Functions.{zero_q, IsRising}
+use Rattle.upp_curve.specs.declared.affine_segment.line.Line.{Line}
+use Rattle.upp_curve.specs.declared.affine_segment.line.Piece.{Piece}
+use Rattle.upp_curve.specs.declared.curve.Tail.{Tail}
+use Rattle.upp_curve.specs.declared.curve.Tail.TheVariants.{Periodic, Affine, Infinite}
+use Rattle.upp_curve.specs.affine_segment.Values.{line_value}
+use Rattle.upp_curve.specs.Curve.{SpecCurve, value_at, HasSameValues}
+use Rattle.upp_curve.specs.Curves.{IsCurve}
+use Rattle.upp_curve.specs.Normal.{IsNormal}
+use Rattle.upp_curve.specs.Shapes.{LineRises, EndsBelow, end_before, PiecesRise}
+use Rattle.upp_curve.proofs.OneForm.{normal_unique}
+use Rattle.upp_curve.proofs.RisingCurves.{period_end, rises_by_tail, pieces_by_tail}
 use Rattle.upp_limits.specs.declared.own_limits.OverLimit.{OverLimit}
 use Rattle.upp_limits.specs.declared.own_limits.OverLimit.TheVariants.{TooMany, TooWide}
 use Rattle.upp_limits.specs.Limits.{own_gauge, own_tally}

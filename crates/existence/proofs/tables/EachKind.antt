@@ -3,41 +3,41 @@ use Rattle.std.proofs.Common.{◌≡◌, ℕ, zero, suc, ◌<◌, ◌≤◌, ◌
 use Rattle.std.specs.Prelude.{Some, ◌==◌}
 use Rattle.std.specs.List.{range_with_len}
 use Rattle.std.proofs.lemmas.Bool.{ltb-true, and_parts}
-use Rattle.upp_limits.specs.rational.specs.Extended.{Ext}
-use Rattle.upp_limits.specs.rational.specs.declared.Extended.TheVariants.{Fin, Inf}
-use Rattle.upp_limits.specs.min_plus.specs.Functions.{IsNonneg}
-use Rattle.upp_limits.specs.min_plus.specs.Deviations.{IsHorizontalDeviation}
+use Rattle.rational.specs.Extended.{Ext}
+use Rattle.rational.specs.declared.Extended.TheVariants.{Fin, Inf}
+use Rattle.min_plus.specs.Functions.{IsNonneg}
+use Rattle.min_plus.specs.Deviations.{IsHorizontalDeviation}
 use Rattle.upp_limits.specs.declared.op_kind.OpKind.TheVariants.{Min, Shift, FifoLeft, Convolve, Deconvolve}
-use Rattle.upp_limits.specs.upp_curve.specs.Curve.{SpecCurve, value_at}
-use Rattle.upp_limits.specs.upp_curve.specs.Curves.{IsCurve}
-use Rattle.net_model.specs.run_laws.proofs.Members.{Has, has_map}
-use Rattle.plain_operators.specs.curve_call.specs.Answers.{IsMadeBy}
-use Rattle.plain_operators.specs.curve_call.specs.Calls.{Applies, AppliesTo}
+use Rattle.upp_curve.specs.Curve.{SpecCurve, value_at}
+use Rattle.upp_curve.specs.Curves.{IsCurve}
+use Rattle.run_laws.proofs.Members.{Has, has_map}
+use Rattle.curve_call.specs.Answers.{IsMadeBy}
+use Rattle.curve_call.specs.Calls.{Applies, AppliesTo}
 use Rattle.residuals.specs.calls.PriorityCalls.{MakesPriority}
 use Rattle.residuals.specs.left.Left.{Left, all, above, share, EachBefore}
 use Rattle.net_model.specs.Networks.{Net}
 use Rattle.net_model.specs.Accepted.{IsAccepted}
 use Rattle.net_bounds.proofs.Cells.{curve_map as sort_map}
-use Rattle.report_text.specs.net_cells.specs.declared.cell.Cell.{Cell}
-use Rattle.report_text.specs.net_cells.specs.declared.cell.Kind.{Kind}
-use Rattle.report_text.specs.net_cells.specs.declared.cell.Kind.TheVariants.{In, Cross, Total, Higher, QueueService, Theta, Residual, QueueDelay, QueueBacklog, HopDelay, ShiftOut, DeconvOut, Out, PathService, Tfa, Sfa, Bound}
-use Rattle.report_text.specs.net_cells.specs.Numbered.{hops, server_of_hop, queue_of_hop, queues, discipline, service, packet, is_live}
-use Rattle.report_text.specs.net_cells.specs.declared.visit.Visit.{Visit}
-use Rattle.report_text.specs.net_cells.specs.Visits.{visits_in, others, longest}
-use Rattle.report_text.specs.net_cells.specs.QueueParts.{part_numbers, by_parts}
-use Rattle.report_text.specs.net_cells.specs.Cells.{cell_of, scope_of, is_in_scope}
-use Rattle.report_text.specs.net_cells.specs.Left.{left_of}
-use Rattle.report_text.specs.net_cells.specs.Order.{at_visit}
-use Rattle.report_text.specs.net_cells.specs.Meanings.{Meaning, CellTable, curve}
-use Rattle.report_text.specs.net_cells.specs.TableValues.{HasCurve, HasNumber}
-use Rattle.report_text.specs.net_cells.specs.Formulas.{Formula, leaves, value_of, smaller, horizontal}
-use Rattle.report_text.specs.net_cells.specs.CellFormulas.{formula_of, value, less, service_at, sum_of_cells, total, left_formula, packets_to, served_to, hop_delay_cells}
-use Rattle.report_text.specs.net_cells.specs.Means.{HaveNumbers}
-use Rattle.report_text.specs.net_cells.specs.Answers.{AnswersFrom}
-use Rattle.report_text.specs.net_cells.proofs.Lists.{map_has}
-use Rattle.report_text.specs.net_cells.proofs.LeavesOf.{parts_leaves}
-use Rattle.report_text.specs.net_cells.proofs.LeftOf.{before_is}
-use Rattle.report_text.specs.net_cells.proofs.Precedes.{some_hop}
+use Rattle.net_cells.specs.declared.cell.Cell.{Cell}
+use Rattle.net_cells.specs.declared.cell.Kind.{Kind}
+use Rattle.net_cells.specs.declared.cell.Kind.TheVariants.{In, Cross, Total, Higher, QueueService, Theta, Residual, QueueDelay, QueueBacklog, HopDelay, ShiftOut, DeconvOut, Out, PathService, Tfa, Sfa, Bound}
+use Rattle.net_cells.specs.Numbered.{hops, server_of_hop, queue_of_hop, queues, discipline, service, packet, is_live}
+use Rattle.net_cells.specs.declared.visit.Visit.{Visit}
+use Rattle.net_cells.specs.Visits.{visits_in, others, longest}
+use Rattle.net_cells.specs.QueueParts.{part_numbers, by_parts}
+use Rattle.net_cells.specs.Cells.{cell_of, scope_of, is_in_scope}
+use Rattle.net_cells.specs.Left.{left_of}
+use Rattle.net_cells.specs.Order.{at_visit}
+use Rattle.net_cells.specs.Meanings.{Meaning, CellTable, curve}
+use Rattle.net_cells.specs.TableValues.{HasCurve, HasNumber}
+use Rattle.net_cells.specs.Formulas.{Formula, leaves, value_of, smaller, horizontal}
+use Rattle.net_cells.specs.CellFormulas.{formula_of, value, less, service_at, sum_of_cells, total, left_formula, packets_to, served_to, hop_delay_cells}
+use Rattle.net_cells.specs.Means.{HaveNumbers}
+use Rattle.net_cells.specs.Answers.{AnswersFrom}
+use Rattle.net_cells.proofs.Lists.{map_has}
+use Rattle.net_cells.proofs.LeavesOf.{parts_leaves}
+use Rattle.net_cells.proofs.LeftOf.{before_is}
+use Rattle.net_cells.proofs.Precedes.{some_hop}
 use Rattle.cell_eval.specs.Shapes.{Rises, Serving, Grows}
 use Rattle.cell_eval.proofs.Meeting.{Meets, curve_map, curve_holds, has_curve, number_from, sum_leaf, served_leaf}
 use Rattle.cell_eval.proofs.Shapes.{in_rises, cross_rises, total_rises, higher_rises, queue_served, hop_served, residual_grows, path_grows, queue_delay_ahead, hop_delay_ahead, IsServerAt, server_there, service_grows}

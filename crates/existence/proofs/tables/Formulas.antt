@@ -1,22 +1,22 @@
 -- A formula has an answer, where each of its calls has one.
 use Rattle.std.specs.Prelude.{◌≡◌, List, [], ◌∷◌, ◌++◌}
 use Rattle.std.proofs.Common.{refl, sym, subst}
-use Rattle.upp_limits.specs.rational.specs.Extended.{Ext, min_ext}
-use Rattle.upp_limits.specs.min_plus.specs.Deviations.{IsHorizontalDeviation, IsVerticalDeviation}
-use Rattle.upp_limits.specs.upp_curve.specs.Curve.{SpecCurve}
-use Rattle.upp_limits.specs.upp_curve.specs.Kinds.{bucket}
+use Rattle.rational.specs.Extended.{Ext, min_ext}
+use Rattle.min_plus.specs.Deviations.{IsHorizontalDeviation, IsVerticalDeviation}
+use Rattle.upp_curve.specs.Curve.{SpecCurve}
+use Rattle.upp_curve.specs.Kinds.{bucket}
 use Rattle.upp_limits.specs.declared.op_kind.OpKind.TheVariants.{Min, Shift, FifoLeft, Horizontal, Vertical}
-use Rattle.net_model.specs.run_laws.specs.Cards.{whole}
-use Rattle.plain_operators.specs.curve_call.specs.Again.{IsAgain}
-use Rattle.plain_operators.specs.curve_call.specs.Calls.{Applies, AppliesTo}
+use Rattle.run_laws.specs.Cards.{whole}
+use Rattle.curve_call.specs.Again.{IsAgain}
+use Rattle.curve_call.specs.Calls.{Applies, AppliesTo}
 use Rattle.residuals.specs.calls.PriorityCalls.{MakesPriority}
 use Rattle.residuals.specs.calls.DrrCalls.{MakesDrr}
-use Rattle.report_text.specs.net_cells.specs.Answers.{Answer, AnswersFrom, CutsBy, Deviates, IsOnly, MakesCurve, MakesNumber, ThenCurves, ThenNumber}
-use Rattle.report_text.specs.net_cells.specs.Formulas.{Formula, value_of, given, empty_sum, made, made_of, moved, cut, part, no_part, leftover, priority, deficit, horizontal, vertical, smaller, along, delayed}
-use Rattle.report_text.specs.net_cells.specs.Meanings.{curve, number, CellTable}
-use Rattle.report_text.specs.net_cells.specs.Means.{with_links}
-use Rattle.report_text.specs.net_cells.specs.NumberSums.{Sums}
-use Rattle.report_text.specs.net_cells.specs.Numbered.{zero_curve}
+use Rattle.net_cells.specs.Answers.{Answer, AnswersFrom, CutsBy, Deviates, IsOnly, MakesCurve, MakesNumber, ThenCurves, ThenNumber}
+use Rattle.net_cells.specs.Formulas.{Formula, value_of, given, empty_sum, made, made_of, moved, cut, part, no_part, leftover, priority, deficit, horizontal, vertical, smaller, along, delayed}
+use Rattle.net_cells.specs.Meanings.{curve, number, CellTable}
+use Rattle.net_cells.specs.Means.{with_links}
+use Rattle.net_cells.specs.NumberSums.{Sums}
+use Rattle.net_cells.specs.Numbered.{zero_curve}
 use Rattle.existence.specs.tables.Found.{HasAnswerOf}
 use Rattle.existence.specs.tables.Formulas.{GivesCurve, GivesNumber, CallsAreFound, FormulasHaveAnswers}
 use Rattle.existence.proofs.tables.Numbers.{number_sum}

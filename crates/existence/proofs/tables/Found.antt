@@ -1,30 +1,30 @@
 -- Parts of formulas whose calls have answers, and of which sort their values are.
 use Rattle.std.specs.Prelude.{◌≡◌, ℕ, Some, Result, Ok, Err, []}
 use Rattle.std.proofs.Common.{sym, ◌∙◌, subst}
-use Rattle.upp_limits.specs.rational.specs.Rational.{ℚ}
-use Rattle.upp_limits.specs.rational.specs.Extended.{Ext}
-use Rattle.upp_limits.specs.min_plus.specs.Deviations.{IsHorizontalDeviation, IsVerticalDeviation}
-use Rattle.upp_limits.specs.min_plus.specs.Functions.{IsFinite, IsRising}
+use Rattle.rational.specs.Rational.{ℚ}
+use Rattle.rational.specs.Extended.{Ext}
+use Rattle.min_plus.specs.Deviations.{IsHorizontalDeviation, IsVerticalDeviation}
+use Rattle.min_plus.specs.Functions.{IsFinite, IsRising}
 use Rattle.upp_limits.specs.declared.op_kind.OpKind.{OpKind}
 use Rattle.upp_limits.specs.declared.op_kind.OpKind.TheVariants.{PosMinus, Horizontal, Vertical}
 use Rattle.upp_limits.specs.declared.op_kind.OpFault.{OpFault}
 use Rattle.upp_limits.specs.declared.op_kind.OpFault.TheVariants.{NoMemory}
-use Rattle.upp_limits.specs.upp_curve.specs.Curve.{SpecCurve, value_at}
-use Rattle.upp_limits.specs.upp_curve.specs.Curves.{IsCurve}
-use Rattle.net_model.specs.run_laws.specs.Cards.{whole}
-use Rattle.plain_operators.specs.curve_call.specs.Answers.{IsMadeBy}
-use Rattle.plain_operators.specs.curve_call.specs.Calls.{Applies, AppliesTo}
+use Rattle.upp_curve.specs.Curve.{SpecCurve, value_at}
+use Rattle.upp_curve.specs.Curves.{IsCurve}
+use Rattle.run_laws.specs.Cards.{whole}
+use Rattle.curve_call.specs.Answers.{IsMadeBy}
+use Rattle.curve_call.specs.Calls.{Applies, AppliesTo}
 use Rattle.residuals.proofs.calls.PriorityCalls.{above_finite}
 use Rattle.net_bounds.proofs.Cells.{curve_map}
 use Rattle.net_bounds.proofs.FormulaParts.{number_map}
-use Rattle.report_text.specs.net_cells.specs.declared.cell.Cell.{Cell}
-use Rattle.report_text.specs.net_cells.specs.Meanings.{Meaning, curve, number, CellTable, IsCurveIn, IsNumberIn}
-use Rattle.report_text.specs.net_cells.specs.TableValues.{HasCurve, HasNumber}
-use Rattle.report_text.specs.net_cells.specs.Formulas.{Formula, value_of, made, horizontal, vertical}
-use Rattle.report_text.specs.net_cells.specs.CellFormulas.{less}
-use Rattle.report_text.specs.net_cells.specs.Means.{Means}
-use Rattle.report_text.specs.net_cells.specs.Answers.{AnswersFrom, Deviates}
-use Rattle.report_text.specs.net_cells.proofs.AnswersMean.{answers_mean}
+use Rattle.net_cells.specs.declared.cell.Cell.{Cell}
+use Rattle.net_cells.specs.Meanings.{Meaning, curve, number, CellTable, IsCurveIn, IsNumberIn}
+use Rattle.net_cells.specs.TableValues.{HasCurve, HasNumber}
+use Rattle.net_cells.specs.Formulas.{Formula, value_of, made, horizontal, vertical}
+use Rattle.net_cells.specs.CellFormulas.{less}
+use Rattle.net_cells.specs.Means.{Means}
+use Rattle.net_cells.specs.Answers.{AnswersFrom, Deviates}
+use Rattle.net_cells.proofs.AnswersMean.{answers_mean}
 use Rattle.existence.specs.curves.Answered.{HasAnswer}
 use Rattle.existence.specs.curves.Verticals.{Measures}
 use Rattle.existence.proofs.curves.Verticals.{vertical_answered}

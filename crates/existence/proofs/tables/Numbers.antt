@@ -2,10 +2,10 @@
 use Rattle.std.specs.Prelude.{◌≡◌, ◌≢◌, ◌^◌, Result, Ok, Err}
 use Rattle.std.proofs.Common.{refl, inl, inr}
 use Rattle.std.proofs.lemmas.Bool.{cases_lt}
-use Rattle.upp_limits.specs.rational.specs.Extended.{Ext}
+use Rattle.rational.specs.Extended.{Ext}
 use Rattle.upp_limits.specs.declared.op_kind.OpFault.{OpFault}
 use Rattle.upp_limits.specs.declared.op_kind.OpFault.TheVariants.{TooMany, TooWide, NoMemory}
-use Rattle.report_text.specs.net_cells.specs.NumberSums.{sum_gauge, sum_tally, sum_of_numbers}
+use Rattle.net_cells.specs.NumberSums.{sum_gauge, sum_tally, sum_of_numbers}
 use Rattle.existence.specs.tables.Found.{NumberSumsExist}
 
 many_found : (r : Result Ext OpFault) → r ≡ Err TooMany → r ≢ Err NoMemory

@@ -1,13 +1,13 @@
 -- Sums of curves have answers.
 use Rattle.std.specs.Prelude.{List, [], ◌∷◌}
 use Rattle.std.proofs.Common.{refl}
-use Rattle.upp_limits.specs.upp_curve.specs.Curve.{SpecCurve}
-use Rattle.upp_limits.specs.upp_curve.specs.Curves.{IsCurve}
+use Rattle.upp_curve.specs.Curve.{SpecCurve}
+use Rattle.upp_curve.specs.Curves.{IsCurve}
 use Rattle.upp_limits.specs.declared.op_kind.OpKind.TheVariants.{Sum}
-use Rattle.plain_operators.specs.curve_call.specs.Calls.{Applies}
-use Rattle.report_text.specs.net_cells.specs.Answers.{MakesCurve, SumsOnto, SumsOf}
-use Rattle.report_text.specs.net_cells.specs.Meanings.{curve}
-use Rattle.report_text.specs.net_cells.specs.Numbered.{zero_curve}
+use Rattle.curve_call.specs.Calls.{Applies}
+use Rattle.net_cells.specs.Answers.{MakesCurve, SumsOnto, SumsOf}
+use Rattle.net_cells.specs.Meanings.{curve}
+use Rattle.net_cells.specs.Numbered.{zero_curve}
 use Rattle.existence.specs.curves.Answered.{HasAnswer}
 use Rattle.existence.specs.tables.Found.{HasAnswerOf}
 use Rattle.existence.specs.tables.Formulas.{EachIsCurve, CurveSumsExist}

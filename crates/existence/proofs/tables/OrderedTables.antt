@@ -7,21 +7,21 @@ use Rattle.upp_limits.specs.declared.op_kind.OpFault.TheVariants.{NoMemory}
 use Rattle.net_model.specs.Networks.{Net}
 use Rattle.net_model.specs.Accepted.{IsAccepted}
 use Rattle.net_model.specs.Orders.{IsOrder}
-use Rattle.net_model.specs.run_laws.proofs.Members.{Has, has_either, contains_has, has_contains}
-use Rattle.report_text.specs.net_cells.specs.declared.cell.Cell.{Cell}
-use Rattle.report_text.specs.net_cells.specs.declared.cell.Kind.{Kind}
-use Rattle.report_text.specs.net_cells.specs.Cells.{cell_of}
-use Rattle.report_text.specs.net_cells.specs.Order.{evaluation_order}
-use Rattle.report_text.specs.net_cells.specs.CellFormulas.{formula}
-use Rattle.report_text.specs.net_cells.specs.Meanings.{Meaning, CellTable}
-use Rattle.report_text.specs.net_cells.specs.Answers.{Answer, Answers}
-use Rattle.report_text.specs.net_cells.specs.FirstOver.{IsAnswered, AnswersAll}
-use Rattle.report_text.specs.net_cells.proofs.Lists.{Apart, apart_middle}
-use Rattle.report_text.specs.net_cells.proofs.Members.{apart_cells}
-use Rattle.report_text.specs.net_cells.proofs.Places.{rank, rank_one}
-use Rattle.report_text.specs.net_cells.proofs.Precedes.{leaf_in_front}
-use Rattle.report_text.specs.net_cells.proofs.SameLeaves.{answers_same}
-use Rattle.report_text.specs.net_cells.proofs.Tables.{closed_front}
+use Rattle.run_laws.proofs.Members.{Has, has_either, contains_has, has_contains}
+use Rattle.net_cells.specs.declared.cell.Cell.{Cell}
+use Rattle.net_cells.specs.declared.cell.Kind.{Kind}
+use Rattle.net_cells.specs.Cells.{cell_of}
+use Rattle.net_cells.specs.Order.{evaluation_order}
+use Rattle.net_cells.specs.CellFormulas.{formula}
+use Rattle.net_cells.specs.Meanings.{Meaning, CellTable}
+use Rattle.net_cells.specs.Answers.{Answer, Answers}
+use Rattle.net_cells.specs.FirstOver.{IsAnswered, AnswersAll}
+use Rattle.net_cells.proofs.Lists.{Apart, apart_middle}
+use Rattle.net_cells.proofs.Members.{apart_cells}
+use Rattle.net_cells.proofs.Places.{rank, rank_one}
+use Rattle.net_cells.proofs.Precedes.{leaf_in_front}
+use Rattle.net_cells.proofs.SameLeaves.{answers_same}
+use Rattle.net_cells.proofs.Tables.{closed_front}
 use Rattle.existence.specs.tables.Tables.{TableOrLimit, FormulasAreFound, TablesExist}
 
 -- ---- cells that are the same

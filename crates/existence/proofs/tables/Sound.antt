@@ -3,38 +3,38 @@ use Rattle.std.proofs.Common.{◌≡◌, ℕ, zero, suc, ◌-◌, List, [], ◌�
 use Rattle.std.specs.Prelude.{IsTrue, is_some, Option, Some, None, slice_get, ◌==◌}
 use Rattle.std.specs.List.{range_with_len}
 use Rattle.std.proofs.lemmas.Option.{slice_get_within}
-use Rattle.upp_limits.specs.rational.specs.Extended.{Ext}
-use Rattle.upp_limits.specs.min_plus.specs.Functions.{zero_q}
-use Rattle.upp_limits.specs.min_plus.specs.Deviations.{IsHorizontalDeviation, IsVerticalDeviation}
+use Rattle.rational.specs.Extended.{Ext}
+use Rattle.min_plus.specs.Functions.{zero_q}
+use Rattle.min_plus.specs.Deviations.{IsHorizontalDeviation, IsVerticalDeviation}
 use Rattle.upp_limits.specs.declared.op_kind.OpKind.TheVariants.{Sum, Min, Shift, FifoLeft}
-use Rattle.upp_limits.specs.upp_curve.specs.Curve.{SpecCurve, value_at}
-use Rattle.upp_limits.specs.upp_curve.specs.Curves.{IsCurve}
-use Rattle.upp_limits.specs.upp_curve.specs.Kinds.{bucket}
-use Rattle.upp_limits.specs.upp_curve.proofs.ReadableKinds.{bucket_curve, zero_small}
-use Rattle.net_model.specs.run_laws.specs.Cards.{whole}
-use Rattle.net_model.specs.run_laws.proofs.Members.{Has, has_left, has_right, has_either, has_contains}
-use Rattle.plain_operators.specs.curve_call.specs.Answers.{IsMadeBy}
+use Rattle.upp_curve.specs.Curve.{SpecCurve, value_at}
+use Rattle.upp_curve.specs.Curves.{IsCurve}
+use Rattle.upp_curve.specs.Kinds.{bucket}
+use Rattle.upp_curve.proofs.ReadableKinds.{bucket_curve, zero_small}
+use Rattle.run_laws.specs.Cards.{whole}
+use Rattle.run_laws.proofs.Members.{Has, has_left, has_right, has_either, has_contains}
+use Rattle.curve_call.specs.Answers.{IsMadeBy}
 use Rattle.residuals.specs.left.Left as left
 use Rattle.net_model.specs.Networks.{Net, NetServer, NetFlow}
 use Rattle.net_model.specs.Accepted.{IsAccepted}
 use Rattle.net_model.specs.Orders.{IsOrder}
-use Rattle.report_text.specs.net_cells.specs.declared.cell.Cell.{Cell}
-use Rattle.report_text.specs.net_cells.specs.declared.cell.Kind.{Kind}
-use Rattle.report_text.specs.net_cells.specs.declared.cell.Kind.TheVariants.{In, Cross, Total, Higher, QueueService, Theta, Residual, QueueDelay, QueueBacklog, HopDelay, ShiftOut, DeconvOut, Out, PathService, Tfa, Sfa, Bound}
-use Rattle.report_text.specs.net_cells.specs.Numbered.{zero_curve, flow_at, arrival, arrival_of, service, service_of, hops, server_of_hop, queue_of_hop, discipline}
-use Rattle.report_text.specs.net_cells.specs.declared.visit.Visit.{Visit}
-use Rattle.report_text.specs.net_cells.specs.Visits.{visits_in, others}
-use Rattle.report_text.specs.net_cells.specs.QueueParts.{in_part, part_numbers}
-use Rattle.report_text.specs.net_cells.specs.Cells.{cell_of}
-use Rattle.report_text.specs.net_cells.specs.Left.{left_of}
-use Rattle.report_text.specs.net_cells.specs.Order.{evaluation_order, at_visit}
-use Rattle.report_text.specs.net_cells.specs.Meanings.{Meaning, curve, number, CellTable, IsCurveIn, IsNumberIn}
-use Rattle.report_text.specs.net_cells.specs.Formulas.{Formula, leaves, value_of, given, empty_sum, made, made_of, moved, cut, part, no_part, leftover, priority, deficit, horizontal, vertical, smaller, along, delayed}
-use Rattle.report_text.specs.net_cells.specs.CellFormulas.{formula, formula_of, sum_from, sum_of_cells, part_sum, with_part, parts_sum, total, left_formula, served_to}
-use Rattle.report_text.specs.net_cells.specs.Means.{MeansFrom, IsSumOnto, IsSumOf, IsPriorityCurve, IsDrrCurve}
-use Rattle.report_text.specs.net_cells.specs.FirstOver.{IsAnswered, AnswersAll}
-use Rattle.report_text.specs.net_cells.proofs.AnswersMean.{answers_mean}
-use Rattle.report_text.specs.net_cells.proofs.Precedes.{leaf_in_front}
+use Rattle.net_cells.specs.declared.cell.Cell.{Cell}
+use Rattle.net_cells.specs.declared.cell.Kind.{Kind}
+use Rattle.net_cells.specs.declared.cell.Kind.TheVariants.{In, Cross, Total, Higher, QueueService, Theta, Residual, QueueDelay, QueueBacklog, HopDelay, ShiftOut, DeconvOut, Out, PathService, Tfa, Sfa, Bound}
+use Rattle.net_cells.specs.Numbered.{zero_curve, flow_at, arrival, arrival_of, service, service_of, hops, server_of_hop, queue_of_hop, discipline}
+use Rattle.net_cells.specs.declared.visit.Visit.{Visit}
+use Rattle.net_cells.specs.Visits.{visits_in, others}
+use Rattle.net_cells.specs.QueueParts.{in_part, part_numbers}
+use Rattle.net_cells.specs.Cells.{cell_of}
+use Rattle.net_cells.specs.Left.{left_of}
+use Rattle.net_cells.specs.Order.{evaluation_order, at_visit}
+use Rattle.net_cells.specs.Meanings.{Meaning, curve, number, CellTable, IsCurveIn, IsNumberIn}
+use Rattle.net_cells.specs.Formulas.{Formula, leaves, value_of, given, empty_sum, made, made_of, moved, cut, part, no_part, leftover, priority, deficit, horizontal, vertical, smaller, along, delayed}
+use Rattle.net_cells.specs.CellFormulas.{formula, formula_of, sum_from, sum_of_cells, part_sum, with_part, parts_sum, total, left_formula, served_to}
+use Rattle.net_cells.specs.Means.{MeansFrom, IsSumOnto, IsSumOf, IsPriorityCurve, IsDrrCurve}
+use Rattle.net_cells.specs.FirstOver.{IsAnswered, AnswersAll}
+use Rattle.net_cells.proofs.AnswersMean.{answers_mean}
+use Rattle.net_cells.proofs.Precedes.{leaf_in_front}
 use Rattle.existence.specs.tables.Formulas.{EachIsCurve}
 use Rattle.run_watch.specs.simulated_sizes.Laws.{AreCurves}
 

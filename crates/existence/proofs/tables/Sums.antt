@@ -1,37 +1,37 @@
 -- Sums of cells that are curves: their calls have answers.
 use Rattle.std.proofs.Common.{◌≡◌, ℕ, zero, suc, ◌<◌, ◌≤◌, ◌^◌, List, [], ◌∷◌, ◌++◌, map, pos, refl, sym, subst, arith, inl, inr}
 use Rattle.std.specs.Prelude.{Option, Some, None}
-use Rattle.upp_limits.specs.rational.specs.Rational.{int, ◌≤ℚ◌}
-use Rattle.upp_limits.specs.rational.specs.Ratio.{IsSmall}
-use Rattle.upp_limits.specs.rational.proofs.Sizes.{largest_part, small_on_grid}
-use Rattle.upp_limits.specs.rational.proofs.Grid.{whole_int, within_nonneg}
-use Rattle.upp_limits.specs.rational.proofs.Integers.{nat_le, nat_nonneg}
-use Rattle.upp_limits.specs.rational.proofs.Laws.{mul_one, le_refl}
+use Rattle.rational.specs.Rational.{int, ◌≤ℚ◌}
+use Rattle.rational.specs.Ratio.{IsSmall}
+use Rattle.rational.proofs.Sizes.{largest_part, small_on_grid}
+use Rattle.rational.proofs.Grid.{whole_int, within_nonneg}
+use Rattle.rational.proofs.Integers.{nat_le, nat_nonneg}
+use Rattle.rational.proofs.Laws.{mul_one, le_refl}
 use Rattle.upp_limits.specs.declared.op_kind.OpKind.TheVariants.{Sum, Min}
-use Rattle.upp_limits.specs.upp_curve.specs.Curve.{SpecCurve}
-use Rattle.upp_limits.specs.upp_curve.specs.Curves.{IsCurve}
-use Rattle.upp_limits.specs.upp_curve.specs.Kinds.{bucket}
-use Rattle.upp_limits.specs.upp_curve.proofs.ReadableKinds.{bucket_curve}
-use Rattle.net_model.specs.run_laws.specs.Cards.{whole}
-use Rattle.net_model.specs.run_laws.proofs.Members.{Has, has_left, has_right}
-use Rattle.plain_operators.specs.curve_call.specs.Answers.{IsMadeBy}
-use Rattle.plain_operators.specs.curve_call.specs.Calls.{Applies}
+use Rattle.upp_curve.specs.Curve.{SpecCurve}
+use Rattle.upp_curve.specs.Curves.{IsCurve}
+use Rattle.upp_curve.specs.Kinds.{bucket}
+use Rattle.upp_curve.proofs.ReadableKinds.{bucket_curve}
+use Rattle.run_laws.specs.Cards.{whole}
+use Rattle.run_laws.proofs.Members.{Has, has_left, has_right}
+use Rattle.curve_call.specs.Answers.{IsMadeBy}
+use Rattle.curve_call.specs.Calls.{Applies}
 use Rattle.net_model.specs.Networks.{Net, NetFlow}
 use Rattle.net_model.specs.Accepted.{IsAccepted}
 use Rattle.net_bounds.proofs.Cells.{curve_map}
-use Rattle.report_text.specs.net_cells.specs.declared.cell.Cell.{Cell}
-use Rattle.report_text.specs.net_cells.specs.declared.cell.Kind.TheVariants.{In}
-use Rattle.report_text.specs.net_cells.specs.Numbered.{flow_at, packet, packet_of, rate}
-use Rattle.report_text.specs.net_cells.specs.declared.visit.Visit.{Visit}
-use Rattle.report_text.specs.net_cells.specs.Visits.{longest_of}
-use Rattle.report_text.specs.net_cells.specs.QueueParts.{in_part, by_parts}
-use Rattle.report_text.specs.net_cells.specs.Order.{at_visit}
-use Rattle.report_text.specs.net_cells.specs.Meanings.{CellTable, IsCurveIn}
-use Rattle.report_text.specs.net_cells.specs.TableValues.{HasCurve}
-use Rattle.report_text.specs.net_cells.specs.Formulas.{Formula, value_of, made}
-use Rattle.report_text.specs.net_cells.specs.CellFormulas.{sum_from, sum_of_cells, part_sum, with_part, parts_sum}
-use Rattle.report_text.specs.net_cells.proofs.Lists.{map_has}
-use Rattle.report_text.specs.net_cells.proofs.Stored.{flow_kept}
+use Rattle.net_cells.specs.declared.cell.Cell.{Cell}
+use Rattle.net_cells.specs.declared.cell.Kind.TheVariants.{In}
+use Rattle.net_cells.specs.Numbered.{flow_at, packet, packet_of, rate}
+use Rattle.net_cells.specs.declared.visit.Visit.{Visit}
+use Rattle.net_cells.specs.Visits.{longest_of}
+use Rattle.net_cells.specs.QueueParts.{in_part, by_parts}
+use Rattle.net_cells.specs.Order.{at_visit}
+use Rattle.net_cells.specs.Meanings.{CellTable, IsCurveIn}
+use Rattle.net_cells.specs.TableValues.{HasCurve}
+use Rattle.net_cells.specs.Formulas.{Formula, value_of, made}
+use Rattle.net_cells.specs.CellFormulas.{sum_from, sum_of_cells, part_sum, with_part, parts_sum}
+use Rattle.net_cells.proofs.Lists.{map_has}
+use Rattle.net_cells.proofs.Stored.{flow_kept}
 use Rattle.existence.proofs.curves.Sums.{sum_answered}
 use Rattle.existence.proofs.curves.Lattices.{lower_answered}
 use Rattle.existence.specs.tables.Found.{HasAnswerOf}

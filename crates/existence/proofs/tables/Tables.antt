@@ -1,13 +1,13 @@
 -- Networks have tables: each call that their cells make has an answer.
 use Rattle.std.specs.Prelude.{ℕ, List}
 use Rattle.std.proofs.Common.{inl, inr}
-use Rattle.net_model.specs.run_laws.proofs.Members.{Has, has_contains}
+use Rattle.run_laws.proofs.Members.{Has, has_contains}
 use Rattle.net_model.specs.Networks.{Net}
 use Rattle.net_model.specs.Accepted.{IsAccepted}
 use Rattle.net_model.specs.Orders.{IsOrder}
-use Rattle.report_text.specs.net_cells.proofs.Precedes.{in_front, leaf_in_front}
-use Rattle.report_text.specs.net_cells.proofs.Tables.{answered_meets, answers_meet, closed_front}
-use Rattle.report_text.specs.net_cells.specs.CellFormulas.{formula}
+use Rattle.net_cells.proofs.Precedes.{in_front, leaf_in_front}
+use Rattle.net_cells.proofs.Tables.{answered_meets, answers_meet, closed_front}
+use Rattle.net_cells.specs.CellFormulas.{formula}
 use Rattle.existence.specs.tables.Tables.{FormulasAreFound}
 use Rattle.existence.proofs.tables.Formulas.{formulas}
 use Rattle.existence.proofs.tables.OrderedTables.{tables}

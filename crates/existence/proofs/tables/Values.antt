@@ -1,12 +1,12 @@
 -- Calls on the values of formulas have answers.
 use Rattle.std.specs.Prelude.{◌≡◌, ◌≢◌, Result, Ok, Err}
 use Rattle.std.proofs.Common.{refl}
-use Rattle.upp_limits.specs.rational.specs.Extended.{Ext}
-use Rattle.upp_limits.specs.upp_curve.specs.Curve.{SpecCurve}
+use Rattle.rational.specs.Extended.{Ext}
+use Rattle.upp_curve.specs.Curve.{SpecCurve}
 use Rattle.upp_limits.specs.declared.op_kind.OpFault.{OpFault}
 use Rattle.upp_limits.specs.declared.op_kind.OpFault.TheVariants.{NoMemory}
-use Rattle.report_text.specs.net_cells.specs.Answers.{Answer, MakesCurve, MakesNumber, OnCurve, OnNumber, ThenCurve, ThenNumber, ThenCurves, ThenNumbers}
-use Rattle.report_text.specs.net_cells.specs.Meanings.{Meaning, curve, number, IsCurveIn, IsNumberIn}
+use Rattle.net_cells.specs.Answers.{Answer, MakesCurve, MakesNumber, OnCurve, OnNumber, ThenCurve, ThenNumber, ThenCurves, ThenNumbers}
+use Rattle.net_cells.specs.Meanings.{Meaning, curve, number, IsCurveIn, IsNumberIn}
 use Rattle.existence.specs.tables.Found.{HasAnswerOf}
 use Rattle.existence.specs.tables.Formulas.{GivesCurve, GivesNumber}
 use Rattle.existence.proofs.tables.InTurn.{in_turn}

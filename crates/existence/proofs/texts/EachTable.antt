@@ -6,8 +6,8 @@ use Rattle.std.proofs.lemmas.Bool.{cases_lt}
 use Rattle.std.proofs.lemmas.List.{length_push, map_push}
 use Rattle.std.proofs.lemmas.Option.{slice_get_within}
 use Rattle.std.proofs.lemmas.Slice.Eq.{bytes_eq-Decides}
-use Rattle.upp_limits.specs.rational.specs.Rational.{ℚ, ◌≤ℚ◌}
-use Rattle.upp_limits.specs.rational.proofs.Laws.{le_or_lt}
+use Rattle.rational.specs.Rational.{ℚ, ◌≤ℚ◌}
+use Rattle.rational.proofs.Laws.{le_or_lt}
 use Rattle.net_model.specs.declared.trace.TracePacket.{TracePacket}
 use Rattle.net_model.specs.declared.trace.Stall.{Stall}
 use Rattle.net_model.specs.Networks.{Net, NetServer, NetFlow}
@@ -24,7 +24,7 @@ use Rattle.input_texts.specs.table_text.EditLists.{most_edits, AreEditsOf, IsEdi
 use Rattle.input_texts.specs.table_text.TraceRows.{TraceRow, packet_row, stall_row, trace_row, Names, IsUnknown, Gives}
 use Rattle.input_texts.specs.table_text.Traces.{most_rows, packets_in, stalls_in, IsTraceOf, IsEarlier, IsWrong, IsFirstFault}
 use Rattle.input_texts.specs.table_text.Kept.{Follows}
-use Rattle.commands.specs.command_replies.specs.Replies.{table_fault_reply}
+use Rattle.command_replies.specs.Replies.{table_fault_reply}
 use Rattle.existence.specs.texts.Laws.{EditsAreRead, ListStagesEnd, TracesAreRead, TraceStagesEnd}
 use Rattle.existence.proofs.texts.KeptTraces.{traces_stand}
 use Rattle.existence.proofs.texts.Pushed.{packets_more, stalls_more, give_more, ordered_more}

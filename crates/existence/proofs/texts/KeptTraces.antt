@@ -4,10 +4,10 @@ use Rattle.std.specs.Prelude.{Option, All, ok_or, option_and_then, nat_le, ◌==
 use Rattle.std.proofs.lemmas.Bool.{cases_Bool, leb-true}
 use Rattle.std.proofs.lemmas.List.Elements.{All-cons, All-nil}
 use Rattle.std.proofs.lemmas.Option.{slice_get_within}
-use Rattle.upp_limits.specs.rational.specs.Rational.{ℚ, lt_q, ◌≤ℚ◌, ◌<ℚ◌}
-use Rattle.upp_limits.specs.rational.proofs.Over.{lt_q_out, lt_q_in}
-use Rattle.upp_limits.specs.rational.proofs.Laws.{le_of_not_lt}
-use Rattle.upp_limits.specs.min_plus.specs.Functions.{zero_q}
+use Rattle.rational.specs.Rational.{ℚ, lt_q, ◌≤ℚ◌, ◌<ℚ◌}
+use Rattle.rational.proofs.Over.{lt_q_out, lt_q_in}
+use Rattle.rational.proofs.Laws.{le_of_not_lt}
+use Rattle.min_plus.specs.Functions.{zero_q}
 use Rattle.net_model.specs.declared.trace.TracePacket.{TracePacket}
 use Rattle.net_model.specs.declared.trace.Stall.{Stall}
 use Rattle.net_model.specs.Accepted.{IsLength}

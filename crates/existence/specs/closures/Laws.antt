@@ -1,7 +1,7 @@
 -- The fold that makes the closure of a curve has an answer that is not want of memory. Own choice.
-use Rattle.upp_limits.specs.upp_curve.specs.Curve.{SpecCurve, value_at}
-use Rattle.upp_limits.specs.upp_curve.specs.Curves.{IsCurve}
-use Rattle.upp_limits.specs.min_plus.specs.Functions.{IsFinite, IsNonnegative}
+use Rattle.upp_curve.specs.Curve.{SpecCurve, value_at}
+use Rattle.upp_curve.specs.Curves.{IsCurve}
+use Rattle.min_plus.specs.Functions.{IsFinite, IsNonnegative}
 use Rattle.subadd_closure.specs.Folds.{CloseAnswer}
 use Rattle.existence.specs.tables.Found.{HasAnswerOf}
 

@@ -1,15 +1,15 @@
 -- What holds of calls on curves. Own choice.
 use Rattle.std.specs.Prelude.{ℕ, List}
-use Rattle.upp_limits.specs.rational.specs.Rational.{ℚ}
-use Rattle.upp_limits.specs.upp_curve.specs.declared.affine_segment.line.Piece.{Piece}
-use Rattle.upp_limits.specs.upp_curve.specs.affine_segment.Reading.{read}
-use Rattle.upp_limits.specs.upp_curve.specs.Curve.{SpecCurve, repeated}
-use Rattle.upp_limits.specs.upp_curve.specs.Curves.{IsCurve}
+use Rattle.rational.specs.Rational.{ℚ}
+use Rattle.upp_curve.specs.declared.affine_segment.line.Piece.{Piece}
+use Rattle.upp_curve.specs.affine_segment.Reading.{read}
+use Rattle.upp_curve.specs.Curve.{SpecCurve, repeated}
+use Rattle.upp_curve.specs.Curves.{IsCurve}
 use Rattle.upp_limits.specs.declared.op_kind.OpKind.{OpKind}
 use Rattle.upp_limits.specs.Gauges.{IsKnownAtOnce}
 use Rattle.upp_normal.specs.Normalising.{HasValues}
-use Rattle.plain_operators.specs.curve_call.specs.Answering.{IsAnswerWindow}
-use Rattle.plain_operators.specs.curve_call.specs.CallWindows.{SecondIsCurve}
+use Rattle.curve_call.specs.Answering.{IsAnswerWindow}
+use Rattle.curve_call.specs.CallWindows.{SecondIsCurve}
 use Rattle.existence.specs.curves.Answered.{HasAnswer, IsDecided, IsMadeWithin}
 
 abbrev pub AnswerWindowsHaveCurves : Type 0

@@ -1,8 +1,8 @@
 -- A deconvolution has an answer that is not want of memory. Own choice.
-use Rattle.upp_limits.specs.upp_curve.specs.Curve.{SpecCurve, value_at}
-use Rattle.upp_limits.specs.upp_curve.specs.Curves.{IsCurve}
+use Rattle.upp_curve.specs.Curve.{SpecCurve, value_at}
+use Rattle.upp_curve.specs.Curves.{IsCurve}
 use Rattle.upp_limits.specs.declared.op_kind.OpKind.TheVariants.{Deconvolve}
-use Rattle.upp_limits.specs.min_plus.specs.Functions.{IsFinite}
+use Rattle.min_plus.specs.Functions.{IsFinite}
 use Rattle.existence.specs.curves.Answered.{HasAnswer}
 
 abbrev pub DeconvolutionsExist : Type 0

@@ -1,9 +1,9 @@
 -- There is a curve with the values of one that is given in any form. (Own choice; the normal form itself is that of
 -- upp_curve.)
 use Rattle.std.specs.Prelude.{ℕ, ◌<◌, ◌^◌}
-use Rattle.upp_limits.specs.upp_curve.specs.Curve.{SpecCurve, value_at, HasSameValues}
-use Rattle.upp_limits.specs.upp_curve.specs.Curves.{IsCurve}
-use Rattle.upp_limits.specs.upp_curve.specs.Normal.{IsRaw, IsNormal}
+use Rattle.upp_curve.specs.Curve.{SpecCurve, value_at, HasSameValues}
+use Rattle.upp_curve.specs.Curves.{IsCurve}
+use Rattle.upp_curve.specs.Normal.{IsRaw, IsNormal}
 use Rattle.upp_limits.specs.Limits.{own_gauge}
 use Rattle.upp_normal.specs.Normalising.{TailOnGrids}
 use Rattle.upp_normal.specs.Room.{TailHasRoom}

@@ -1,12 +1,12 @@
 -- From which number of periods on the slower of two curves is nowhere above the faster. Own choice.
 use Rattle.std.specs.Prelude.{ℕ, Option, MatchOption}
-use Rattle.upp_limits.specs.rational.specs.Rational.{ℚ}
-use Rattle.upp_limits.specs.upp_curve.specs.Curve.{SpecCurve, value_at}
-use Rattle.upp_limits.specs.upp_curve.specs.Steady.{rate}
+use Rattle.rational.specs.Rational.{ℚ}
+use Rattle.upp_curve.specs.Curve.{SpecCurve, value_at}
+use Rattle.upp_curve.specs.Steady.{rate}
 use Rattle.upp_limits.specs.Limits.{Sizes}
 use Rattle.upp_limits.specs.Periods.{periods_after}
 use Rattle.upp_limits.specs.Windows.{IsSlowerBelow, IsLeast}
-use Rattle.plain_operators.specs.curve_call.specs.Compared.{AreCompared}
+use Rattle.curve_call.specs.Compared.{AreCompared}
 
 -- some number is the least that is enough, or none is
 abbrev pub LeastPeriodsExist : Type 0

@@ -1,10 +1,10 @@
 -- What first in, first out leaves of a service has an answer that is not want of memory: the operands and the wait are
 -- those that `fifo_left` takes. Own choice.
-use Rattle.upp_limits.specs.rational.specs.Extended.{Ext}
-use Rattle.upp_limits.specs.min_plus.specs.Deviations.{IsHorizontalDeviation}
-use Rattle.upp_limits.specs.min_plus.specs.Functions.{IsFinite, IsRising, IsNonnegative}
-use Rattle.upp_limits.specs.upp_curve.specs.Curve.{SpecCurve, value_at}
-use Rattle.upp_limits.specs.upp_curve.specs.Curves.{IsCurve}
+use Rattle.rational.specs.Extended.{Ext}
+use Rattle.min_plus.specs.Deviations.{IsHorizontalDeviation}
+use Rattle.min_plus.specs.Functions.{IsFinite, IsRising, IsNonnegative}
+use Rattle.upp_curve.specs.Curve.{SpecCurve, value_at}
+use Rattle.upp_curve.specs.Curves.{IsCurve}
 use Rattle.upp_limits.specs.declared.op_kind.OpKind.TheVariants.{FifoLeft}
 use Rattle.existence.specs.curves.Answered.{HasAnswer}
 

@@ -1,10 +1,10 @@
 -- Each call has an answer that is not want of memory. Own choice.
-use Rattle.upp_limits.specs.rational.specs.Rational.{ℚ}
-use Rattle.upp_limits.specs.rational.specs.Extended.{Ext}
-use Rattle.upp_limits.specs.upp_curve.specs.Curve.{SpecCurve, value_at}
-use Rattle.upp_limits.specs.upp_curve.specs.Curves.{IsCurve}
+use Rattle.rational.specs.Rational.{ℚ}
+use Rattle.rational.specs.Extended.{Ext}
+use Rattle.upp_curve.specs.Curve.{SpecCurve, value_at}
+use Rattle.upp_curve.specs.Curves.{IsCurve}
 use Rattle.upp_limits.specs.declared.op_kind.OpKind.TheVariants.{Sum, Min, Max, PosDiff, PosMinus, Scale, Shift}
-use Rattle.upp_limits.specs.min_plus.specs.Functions.{IsFinite}
+use Rattle.min_plus.specs.Functions.{IsFinite}
 use Rattle.existence.specs.curves.Answered.{HasAnswer}
 use Rattle.plain_operators.specs.pointwise.Shifting.{IsAhead}
 

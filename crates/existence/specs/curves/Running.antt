@@ -1,7 +1,7 @@
 -- A running supremum and a running infimum have answers that are not want of memory. Own choice.
-use Rattle.upp_limits.specs.min_plus.specs.Functions.{IsFinite, IsNonnegative}
-use Rattle.upp_limits.specs.upp_curve.specs.Curve.{SpecCurve, value_at}
-use Rattle.upp_limits.specs.upp_curve.specs.Curves.{IsCurve}
+use Rattle.min_plus.specs.Functions.{IsFinite, IsNonnegative}
+use Rattle.upp_curve.specs.Curve.{SpecCurve, value_at}
+use Rattle.upp_curve.specs.Curves.{IsCurve}
 use Rattle.upp_limits.specs.declared.op_kind.OpKind.TheVariants.{RunSup, RunInf}
 use Rattle.existence.specs.curves.Answered.{HasAnswer}
 

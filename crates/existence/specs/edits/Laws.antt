@@ -4,10 +4,10 @@ use Rattle.net_model.specs.declared.edit.Edit.{Edit}
 use Rattle.net_model.specs.Networks.{Net}
 use Rattle.net_text.specs.Reading.{IsNetworkOf}
 use Rattle.net_text.specs.FoldLimits.{OverFold}
-use Rattle.report_text.specs.net_cells.specs.Meanings.{CellTable}
+use Rattle.net_cells.specs.Meanings.{CellTable}
 use Rattle.report_text.specs.declared.json_report.form.Form.{Form}
 use Rattle.input_texts.specs.table_text.EditRows.{edit_view}
-use Rattle.commands.specs.command_replies.specs.Replies.{Reply}
+use Rattle.command_replies.specs.Replies.{Reply}
 use Rattle.commands.specs.edit_report.Said.{EditSaid}
 use Rattle.commands.specs.edit.NetHistories.{NetHistory, begun}
 use Rattle.commands.specs.edit.Answered.{AreAnswered}

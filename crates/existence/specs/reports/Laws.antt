@@ -1,15 +1,15 @@
 -- There is a reply on each file; it is a report where the file gives a network that has an order and no cell over a limit,
 -- and every run keeps it. Own choice.
 use Rattle.std.specs.Prelude.{◌⊎◌, ℕ, List}
-use Rattle.upp_limits.specs.rational.specs.Rational.{ℚ, ◌≤ℚ◌}
-use Rattle.upp_limits.specs.min_plus.specs.Functions.{zero_q}
+use Rattle.rational.specs.Rational.{ℚ, ◌≤ℚ◌}
+use Rattle.min_plus.specs.Functions.{zero_q}
 use Rattle.net_model.specs.Networks.{Net}
 use Rattle.net_model.specs.Orders.{IsOrder}
-use Rattle.report_text.specs.net_cells.specs.Meanings.{CellTable}
+use Rattle.net_cells.specs.Meanings.{CellTable}
 use Rattle.report_text.specs.declared.json_report.form.Form.{Form}
-use Rattle.commands.specs.command_replies.specs.Replies.{Reply}
-use Rattle.commands.specs.command_replies.specs.OnFiles.{IsNetOf, IsNoNetwork}
-use Rattle.commands.specs.command_replies.specs.Guarantee.{Guarantees}
+use Rattle.command_replies.specs.Replies.{Reply}
+use Rattle.command_replies.specs.OnFiles.{IsNetOf, IsNoNetwork}
+use Rattle.command_replies.specs.Guarantee.{Guarantees}
 use Rattle.commands.specs.analyse.OnFiles.{IsReplyOn, IsReportOf}
 use Rattle.commands.specs.measure.OnMeasures.{IsMeasureReply}
 use Rattle.existence.specs.tables.Networks.{NoneIsOver}

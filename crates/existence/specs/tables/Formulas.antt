@@ -1,19 +1,19 @@
 -- A formula has an answer that is not want of memory, where each of its calls has one. Own choice.
 use Rattle.std.specs.Prelude.{◌≡◌, List, [], ◌∷◌, ◌++◌, Some, Ok}
-use Rattle.upp_limits.specs.rational.specs.Extended.{Ext}
-use Rattle.upp_limits.specs.min_plus.specs.Deviations.{IsHorizontalDeviation, IsVerticalDeviation}
-use Rattle.upp_limits.specs.upp_curve.specs.Curve.{SpecCurve}
-use Rattle.upp_limits.specs.upp_curve.specs.Curves.{IsCurve}
-use Rattle.upp_limits.specs.upp_curve.specs.Kinds.{bucket}
+use Rattle.rational.specs.Extended.{Ext}
+use Rattle.min_plus.specs.Deviations.{IsHorizontalDeviation, IsVerticalDeviation}
+use Rattle.upp_curve.specs.Curve.{SpecCurve}
+use Rattle.upp_curve.specs.Curves.{IsCurve}
+use Rattle.upp_curve.specs.Kinds.{bucket}
 use Rattle.upp_limits.specs.declared.op_kind.OpKind.TheVariants.{Sum, Min, Shift, FifoLeft, Horizontal, Vertical}
-use Rattle.net_model.specs.run_laws.specs.Cards.{whole}
-use Rattle.plain_operators.specs.curve_call.specs.Calls.{Applies, AppliesTo}
+use Rattle.run_laws.specs.Cards.{whole}
+use Rattle.curve_call.specs.Calls.{Applies, AppliesTo}
 use Rattle.residuals.specs.calls.PriorityCalls.{MakesPriority}
 use Rattle.residuals.specs.calls.DrrCalls.{MakesDrr}
-use Rattle.report_text.specs.net_cells.specs.Answers.{Answer, Answers, AnswersFrom, Deviates, SumsOf}
-use Rattle.report_text.specs.net_cells.specs.Formulas.{Formula, value_of, given, empty_sum, made, made_of, moved, cut, part, no_part, leftover, priority, deficit, horizontal, vertical, smaller, along, delayed}
-use Rattle.report_text.specs.net_cells.specs.Meanings.{Meaning, CellTable, IsCurveIn, IsNumberIn}
-use Rattle.report_text.specs.net_cells.specs.Means.{HaveNumbers}
+use Rattle.net_cells.specs.Answers.{Answer, Answers, AnswersFrom, Deviates, SumsOf}
+use Rattle.net_cells.specs.Formulas.{Formula, value_of, given, empty_sum, made, made_of, moved, cut, part, no_part, leftover, priority, deficit, horizontal, vertical, smaller, along, delayed}
+use Rattle.net_cells.specs.Meanings.{Meaning, CellTable, IsCurveIn, IsNumberIn}
+use Rattle.net_cells.specs.Means.{HaveNumbers}
 use Rattle.existence.specs.curves.Answered.{HasAnswer}
 use Rattle.existence.specs.tables.Found.{HasAnswerOf}
 

@@ -1,17 +1,17 @@
 -- Calls that are made one after the other have an answer that is not want of memory. Own choice.
 use Rattle.std.specs.Prelude.{◌≢◌, ℕ, List, Result, Err}
-use Rattle.upp_limits.specs.rational.specs.Rational.{ℚ}
-use Rattle.upp_limits.specs.rational.specs.Extended.{Ext}
-use Rattle.upp_limits.specs.min_plus.specs.Functions.{IsFinite, IsNonnegative}
-use Rattle.upp_limits.specs.upp_curve.specs.Curve.{SpecCurve, value_at}
-use Rattle.upp_limits.specs.upp_curve.specs.Curves.{IsCurve}
+use Rattle.rational.specs.Rational.{ℚ}
+use Rattle.rational.specs.Extended.{Ext}
+use Rattle.min_plus.specs.Functions.{IsFinite, IsNonnegative}
+use Rattle.upp_curve.specs.Curve.{SpecCurve, value_at}
+use Rattle.upp_curve.specs.Curves.{IsCurve}
 use Rattle.upp_limits.specs.declared.op_kind.OpFault.{OpFault}
 use Rattle.upp_limits.specs.declared.op_kind.OpFault.TheVariants.{NoMemory}
 use Rattle.upp_limits.specs.declared.op_kind.OpKind.TheVariants.{PosDiff, PosMinus, Scale, RunSup}
 use Rattle.residuals.specs.calls.PriorityCalls.{MakesPriority}
 use Rattle.residuals.specs.calls.DrrCalls.{MakesDrr}
 use Rattle.existence.specs.curves.Answered.{HasAnswer}
-use Rattle.report_text.specs.net_cells.specs.NumberSums.{Sums}
+use Rattle.net_cells.specs.NumberSums.{Sums}
 
 pub record HasAnswerOf {A : Type 0} (P : Result A OpFault → Type 0) : Type 0 where
   pub answer : Result A OpFault

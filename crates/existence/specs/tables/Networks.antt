@@ -4,10 +4,10 @@ use Rattle.upp_limits.specs.declared.op_kind.OpFault.{OpFault}
 use Rattle.net_model.specs.Networks.{Net}
 use Rattle.net_model.specs.Accepted.{IsAccepted}
 use Rattle.net_model.specs.Orders.{IsOrder}
-use Rattle.report_text.specs.net_cells.specs.declared.cell.Cell.{Cell}
-use Rattle.report_text.specs.net_cells.specs.Meanings.{CellTable}
-use Rattle.report_text.specs.net_cells.specs.Equations.{MeetsEquations}
-use Rattle.report_text.specs.net_cells.specs.FirstOver.{FirstOver}
+use Rattle.net_cells.specs.declared.cell.Cell.{Cell}
+use Rattle.net_cells.specs.Meanings.{CellTable}
+use Rattle.net_cells.specs.Equations.{MeetsEquations}
+use Rattle.net_cells.specs.FirstOver.{FirstOver}
 use Rattle.existence.specs.tables.Tables.{TableOrLimit}
 use Rattle.run_watch.specs.simulated_sizes.Laws.{AreCurves}
 

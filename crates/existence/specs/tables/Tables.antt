@@ -4,12 +4,12 @@ use Rattle.upp_limits.specs.declared.op_kind.OpFault.{OpFault}
 use Rattle.net_model.specs.Networks.{Net}
 use Rattle.net_model.specs.Accepted.{IsAccepted}
 use Rattle.net_model.specs.Orders.{IsOrder}
-use Rattle.report_text.specs.net_cells.specs.declared.cell.Cell.{Cell}
-use Rattle.report_text.specs.net_cells.specs.Order.{evaluation_order}
-use Rattle.report_text.specs.net_cells.specs.CellFormulas.{formula}
-use Rattle.report_text.specs.net_cells.specs.Meanings.{CellTable}
-use Rattle.report_text.specs.net_cells.specs.Answers.{Answers}
-use Rattle.report_text.specs.net_cells.specs.FirstOver.{AnswersAll, FirstOver}
+use Rattle.net_cells.specs.declared.cell.Cell.{Cell}
+use Rattle.net_cells.specs.Order.{evaluation_order}
+use Rattle.net_cells.specs.CellFormulas.{formula}
+use Rattle.net_cells.specs.Meanings.{CellTable}
+use Rattle.net_cells.specs.Answers.{Answers}
+use Rattle.net_cells.specs.FirstOver.{AnswersAll, FirstOver}
 use Rattle.existence.specs.tables.Found.{HasAnswerOf}
 
 abbrev pub TableOrLimit : Net → List ℕ → Type 0

@@ -4,7 +4,7 @@ use Rattle.std.specs.Prelude.{◌⊎◌, ℕ, List}
 use Rattle.net_model.specs.Networks.{Net}
 use Rattle.net_model.specs.Traces.{SpecTrace, IsTrace}
 use Rattle.net_model.specs.stated_runs.FromTraces as stated
-use Rattle.net_model.specs.run_laws.specs.Runs.{SpecRun}
+use Rattle.run_laws.specs.Runs.{SpecRun}
 use Rattle.input_texts.specs.declared.table_text.fault.TableKind.{TableKind}
 use Rattle.input_texts.specs.table_text.Rows.{Row, rows_of}
 use Rattle.input_texts.specs.table_text.Traces.{IsTraceOf, IsFirstFault}
@@ -16,8 +16,8 @@ use Rattle.input_texts.specs.curve_script.Scripts.{Numbered, IsScript}
 use Rattle.run_check.specs.declared.run_table.fault.RunKind.{RunKind}
 use Rattle.run_check.specs.run_table.Runs as runs
 use Rattle.run_check.specs.run_table.Runs.{IsRunOf}
-use Rattle.commands.specs.command_replies.specs.Replies.{Reply}
-use Rattle.commands.specs.command_replies.specs.OnFiles.{IsBadTraceOf}
+use Rattle.command_replies.specs.Replies.{Reply}
+use Rattle.command_replies.specs.OnFiles.{IsBadTraceOf}
 use Rattle.commands.specs.check.OnRuns.{IsBadRunOf}
 use Rattle.commands.specs.edit.OnEdits.{IsBadListOf, AsksFor}
 use Rattle.commands.specs.simulate.OnTraces.{GivesTrace}

@@ -1,13 +1,13 @@
 //! The laws. Each is the contract of a function that does nothing.
 
 ghost use Rattle.net_model.specs.Orders.{IsOrder};
-ghost use Rattle.report_text.specs.net_cells.specs.Meanings.{CellTable};
-ghost use Rattle.report_text.specs.net_cells.specs.Equations.{MeetsEquations};
+ghost use Rattle.net_cells.specs.Meanings.{CellTable};
+ghost use Rattle.net_cells.specs.Equations.{MeetsEquations};
 ghost use Rattle.existence.specs.tables.Tables.{TableOrLimit};
 ghost use Rattle.existence.specs.tables.Networks.{NoneIsOver};
 ghost use Rattle.existence.specs.reports.Laws.{FilesHaveReports, FilesHaveReplies, FirstStagesEnd, MeasuresHaveReplies};
 
-use commands::command_replies::run_findings::keeps_curves;
+use command_replies::run_findings::keeps_curves;
 use net_model::Network;
 
 /// A network whose servers have an order has a table whose cells are all answered, or a cell that is the first over a

@@ -2,29 +2,29 @@
 use Rattle.std.specs.Prelude.{◌≡◌, ◌↔◌, pos, true, IsTrue, List, [], ◌∷◌}
 use Rattle.std.specs.List.{AllByRecursion}
 use Rattle.std.proofs.Common.{arith, refl, sym, subst, ap, ◌∙◌, inl, inr}
-use Rattle.upp_limits.specs.rational.specs.Rational.{ℚ, int, ◌+ℚ◌, ◌-ℚ◌, ◌*ℚ◌, ◌≤ℚ◌, ◌<ℚ◌, neg_ℚ}
-use Rattle.upp_limits.specs.rational.specs.Ratio.{SumFits}
-use Rattle.upp_limits.specs.rational.specs.Grid.{Whole}
-use Rattle.upp_limits.specs.rational.specs.Extended.{Ext, ◌+ₑ◌}
-use Rattle.upp_limits.specs.rational.specs.declared.Extended.TheVariants.{Fin, Inf}
-use Rattle.upp_limits.specs.rational.proofs.Laws.{le_refl, le_of_lt, le_or_lt, le_trans}
-use Rattle.upp_limits.specs.rational.proofs.Grid.{whole_sub}
-use Rattle.upp_limits.specs.rational.proofs.Linear.{with2, with3}
-use Rattle.upp_limits.specs.upp_curve.specs.declared.affine_segment.line.Piece.{Piece}
-use Rattle.upp_limits.specs.upp_curve.specs.affine_segment.Pieces.{Each, StartsAtZero}
-use Rattle.upp_limits.specs.upp_curve.specs.affine_segment.Reading.{piece_in, read}
-use Rattle.upp_limits.specs.upp_curve.specs.affine_segment.Fits.{ReadFits}
-use Rattle.upp_limits.specs.upp_curve.proofs.affine_segment.PieceOrder.{each_map}
-use Rattle.upp_limits.specs.upp_curve.specs.declared.curve.Tail.{Tail}
-use Rattle.upp_limits.specs.upp_curve.specs.declared.curve.Tail.TheVariants.{Periodic, Affine, Infinite}
-use Rattle.upp_limits.specs.upp_curve.specs.Curve.{SpecCurve, value_at}
-use Rattle.upp_limits.specs.upp_curve.specs.Curves.{IsCurve}
-use Rattle.upp_limits.specs.upp_curve.specs.Normal.{IsNormal}
-use Rattle.upp_limits.specs.upp_curve.specs.Readable.{SumFitsAt, TailReadable}
-use Rattle.upp_limits.specs.upp_curve.specs.Steady.{rank_of}
-use Rattle.upp_limits.specs.upp_curve.proofs.OneForm.{infinite_value}
-use Rattle.upp_limits.specs.upp_curve.proofs.Repeats.{repeated_first, repeated_next}
-use Rattle.upp_limits.specs.upp_curve.proofs.SteadyTimes.{curve_rank}
+use Rattle.rational.specs.Rational.{ℚ, int, ◌+ℚ◌, ◌-ℚ◌, ◌*ℚ◌, ◌≤ℚ◌, ◌<ℚ◌, neg_ℚ}
+use Rattle.rational.specs.Ratio.{SumFits}
+use Rattle.rational.specs.Grid.{Whole}
+use Rattle.rational.specs.Extended.{Ext, ◌+ₑ◌}
+use Rattle.rational.specs.declared.Extended.TheVariants.{Fin, Inf}
+use Rattle.rational.proofs.Laws.{le_refl, le_of_lt, le_or_lt, le_trans}
+use Rattle.rational.proofs.Grid.{whole_sub}
+use Rattle.rational.proofs.Linear.{with2, with3}
+use Rattle.upp_curve.specs.declared.affine_segment.line.Piece.{Piece}
+use Rattle.upp_curve.specs.affine_segment.Pieces.{Each, StartsAtZero}
+use Rattle.upp_curve.specs.affine_segment.Reading.{piece_in, read}
+use Rattle.upp_curve.specs.affine_segment.Fits.{ReadFits}
+use Rattle.upp_curve.proofs.affine_segment.PieceOrder.{each_map}
+use Rattle.upp_curve.specs.declared.curve.Tail.{Tail}
+use Rattle.upp_curve.specs.declared.curve.Tail.TheVariants.{Periodic, Affine, Infinite}
+use Rattle.upp_curve.specs.Curve.{SpecCurve, value_at}
+use Rattle.upp_curve.specs.Curves.{IsCurve}
+use Rattle.upp_curve.specs.Normal.{IsNormal}
+use Rattle.upp_curve.specs.Readable.{SumFitsAt, TailReadable}
+use Rattle.upp_curve.specs.Steady.{rank_of}
+use Rattle.upp_curve.proofs.OneForm.{infinite_value}
+use Rattle.upp_curve.proofs.Repeats.{repeated_first, repeated_next}
+use Rattle.upp_curve.proofs.SteadyTimes.{curve_rank}
 use Rattle.upp_limits.specs.Limits.{Sizes, curve_numbers, stored_period, stored_rise}
 use Rattle.upp_limits.specs.Sized.{IsValue, Stands}
 use Rattle.upp_limits.specs.Spans.{once_below, piece_read, span_below, spans, spans_below}

@@ -5,10 +5,10 @@ use Rattle.std.proofs.Common.{arith, refl, sym, subst, ap, ◌∙◌, inl, inr}
 use Rattle.std.proofs.Math.ListN.{set}
 use Rattle.std.proofs.lemmas.List.{get_or_read, get_or-set_same, get_or-set_other}
 use Rattle.std.proofs.lemmas.Bool.{cases_lt}
-use Rattle.upp_limits.specs.rational.specs.Rational.{ℚ, int, ◌≤ℚ◌}
-use Rattle.upp_limits.specs.rational.specs.MinMax.{min_q}
-use Rattle.upp_limits.specs.rational.proofs.Laws.{le_refl, le_trans}
-use Rattle.upp_limits.specs.rational.proofs.MinMax.{min_q_le_left, min_q_le_right}
+use Rattle.rational.specs.Rational.{ℚ, int, ◌≤ℚ◌}
+use Rattle.rational.specs.MinMax.{min_q}
+use Rattle.rational.proofs.Laws.{le_refl, le_trans}
+use Rattle.rational.proofs.MinMax.{min_q_le_left, min_q_le_right}
 use Rattle.flow_watch.specs.step_lines.Lows.{above, node, Covers}
 
 -- ---- one leaf lowered

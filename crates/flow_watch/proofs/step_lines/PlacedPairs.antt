@@ -4,16 +4,16 @@ use Rattle.std.specs.List.{slice_index_or}
 use Rattle.std.proofs.Common.{arith, refl, sym, subst, ap, ◌∙◌, inl, inr, add-one}
 use Rattle.std.proofs.lemmas.Bool.{cases_lt}
 use Rattle.std.proofs.lemmas.List.{get_or_read, get_or_push, get_or_append_left, length_push}
-use Rattle.upp_limits.specs.rational.specs.Rational.{ℚ, int, ◌+ℚ◌, ◌-ℚ◌, ◌*ℚ◌, ◌/ℚ◌, ◌≤ℚ◌, ◌<ℚ◌}
-use Rattle.upp_limits.specs.rational.specs.MinMax.{min_q}
-use Rattle.upp_limits.specs.rational.specs.Whole.{whole_part}
-use Rattle.upp_limits.specs.rational.proofs.Integers.{nat_nonneg, nat_next}
-use Rattle.upp_limits.specs.rational.proofs.Laws.{add_mul, div_mul, le_of_lt, le_of_mul, le_or_lt, le_trans, mul_le_mul_right, mul_sub, not_zero, zero_mul}
-use Rattle.upp_limits.specs.rational.proofs.Linear.{with_atoms}
-use Rattle.upp_limits.specs.rational.proofs.MinMax.{min_q_le_left, min_q_le_right}
-use Rattle.upp_limits.specs.rational.proofs.Whole.{whole_gt, whole_le as whole_part_le}
-use Rattle.net_model.specs.run_laws.specs.Cards.{whole}
-use Rattle.net_model.specs.run_laws.proofs.Sizes.{whole_le, whole_sum}
+use Rattle.rational.specs.Rational.{ℚ, int, ◌+ℚ◌, ◌-ℚ◌, ◌*ℚ◌, ◌/ℚ◌, ◌≤ℚ◌, ◌<ℚ◌}
+use Rattle.rational.specs.MinMax.{min_q}
+use Rattle.rational.specs.Whole.{whole_part}
+use Rattle.rational.proofs.Integers.{nat_nonneg, nat_next}
+use Rattle.rational.proofs.Laws.{add_mul, div_mul, le_of_lt, le_of_mul, le_or_lt, le_trans, mul_le_mul_right, mul_sub, not_zero, zero_mul}
+use Rattle.rational.proofs.Linear.{with_atoms}
+use Rattle.rational.proofs.MinMax.{min_q_le_left, min_q_le_right}
+use Rattle.rational.proofs.Whole.{whole_gt, whole_le as whole_part_le}
+use Rattle.run_laws.specs.Cards.{whole}
+use Rattle.run_laws.proofs.Sizes.{whole_le, whole_sum}
 use Rattle.flow_watch.specs.declared.watch_laws.entering.Entering.{Entering}
 use Rattle.flow_watch.specs.watch_laws.Entries.{entering, bits_to, bits_between}
 use Rattle.flow_watch.specs.declared.step_lines.places.Placed.{Placed}

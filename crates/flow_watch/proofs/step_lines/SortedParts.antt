@@ -6,12 +6,12 @@ use Rattle.std.specs.declared.cmp.Ordering.{Ordering}
 use Rattle.std.specs.declared.cmp.Ordering.TheVariants.{Less, Equal, Greater}
 use Rattle.std.proofs.Common.{arith, inl, inr, sym, subst, ◌∙◌, add-one, true≢false}
 use Rattle.std.proofs.lemmas.Bool.{cases_lt}
-use Rattle.upp_limits.specs.rational.specs.Rational.{ℚ, ◌≤ℚ◌, ◌<ℚ◌}
-use Rattle.upp_limits.specs.rational.specs.Ratio.{cmp_q}
-use Rattle.upp_limits.specs.rational.proofs.Comparison.{cmp_ranks}
-use Rattle.upp_limits.specs.rational.proofs.Laws.{le_refl, le_trans, le_of_lt, le_lt_trans}
-use Rattle.upp_limits.specs.rational.proofs.Over.{lt_q_in, lt_q_out}
-use Rattle.net_model.specs.run_laws.specs.Counts.{before}
+use Rattle.rational.specs.Rational.{ℚ, ◌≤ℚ◌, ◌<ℚ◌}
+use Rattle.rational.specs.Ratio.{cmp_q}
+use Rattle.rational.proofs.Comparison.{cmp_ranks}
+use Rattle.rational.proofs.Laws.{le_refl, le_trans, le_of_lt, le_lt_trans}
+use Rattle.rational.proofs.Over.{lt_q_in, lt_q_out}
+use Rattle.run_laws.specs.Counts.{before}
 use Rattle.flow_watch.specs.declared.step_lines.places.Placed.{Placed}
 use Rattle.flow_watch.specs.step_lines.Places.{IsIn}
 

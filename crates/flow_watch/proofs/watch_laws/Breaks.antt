@@ -1,24 +1,24 @@
 -- A continuous curve is affine but where its pieces start.
 use Rattle.std.specs.Prelude.{◌≡◌, pos, List, [], ◌∷◌, Option, Some, None}
 use Rattle.std.proofs.Common.{arith, refl, sym, subst, ap, ◌∙◌, inl, inr}
-use Rattle.upp_limits.specs.rational.specs.Rational.{ℚ, int, neg_ℚ, ◌+ℚ◌, ◌-ℚ◌, ◌*ℚ◌, ◌/ℚ◌, ◌≤ℚ◌, ◌<ℚ◌}
-use Rattle.upp_limits.specs.rational.specs.MinMax.{min_q, max_q}
-use Rattle.upp_limits.specs.rational.specs.Extended.{Ext, ◌≤ₑ◌, ◌+ₑ◌}
-use Rattle.upp_limits.specs.rational.specs.declared.Extended.TheVariants.{Fin, Inf}
-use Rattle.upp_limits.specs.rational.proofs.Laws.{le_refl, le_trans, le_or_lt, le_of_lt, lt_le_trans, le_lt_trans, antisym, between, half, half_is, half_pos, div_mul, mul_comm, mul_sub, mul_le_mul_right, neg_mul, not_zero, lt_of_mul, zero_mul}
-use Rattle.upp_limits.specs.rational.proofs.MinMax.{below_min_in, below_min_out, max_q_ge_left, max_q_ge_right, max_q_lt}
-use Rattle.upp_limits.specs.rational.proofs.Linear.{with1, with2, with3, with4, with5, with6}
-use Rattle.upp_limits.specs.upp_curve.specs.declared.affine_segment.line.Line.{Line}
-use Rattle.upp_limits.specs.upp_curve.specs.declared.affine_segment.line.Piece.{Piece}
-use Rattle.upp_limits.specs.upp_curve.specs.affine_segment.Values.{line_value}
-use Rattle.upp_limits.specs.upp_curve.specs.Curve.{SpecCurve, value_at}
-use Rattle.upp_limits.specs.min_plus.specs.Functions.{zero_q, IsFinite}
-use Rattle.upp_limits.specs.min_plus.specs.Continuity.{IsContinuous}
-use Rattle.upp_limits.specs.upp_curve.specs.affine_segment.Pieces.{HasStart, StartsAtZero}
-use Rattle.upp_limits.specs.upp_curve.specs.Normal.{IsNormal}
-use Rattle.upp_limits.specs.upp_curve.specs.affine_segment.Reading.{read, piece_in, piece_value}
-use Rattle.upp_limits.specs.upp_curve.specs.Unrolled.{unroll}
-use Rattle.upp_limits.specs.upp_curve.proofs.affine_segment.PieceIn.{piece_in_stop, piece_in_go, piece_in_end, value_past}
+use Rattle.rational.specs.Rational.{ℚ, int, neg_ℚ, ◌+ℚ◌, ◌-ℚ◌, ◌*ℚ◌, ◌/ℚ◌, ◌≤ℚ◌, ◌<ℚ◌}
+use Rattle.rational.specs.MinMax.{min_q, max_q}
+use Rattle.rational.specs.Extended.{Ext, ◌≤ₑ◌, ◌+ₑ◌}
+use Rattle.rational.specs.declared.Extended.TheVariants.{Fin, Inf}
+use Rattle.rational.proofs.Laws.{le_refl, le_trans, le_or_lt, le_of_lt, lt_le_trans, le_lt_trans, antisym, between, half, half_is, half_pos, div_mul, mul_comm, mul_sub, mul_le_mul_right, neg_mul, not_zero, lt_of_mul, zero_mul}
+use Rattle.rational.proofs.MinMax.{below_min_in, below_min_out, max_q_ge_left, max_q_ge_right, max_q_lt}
+use Rattle.rational.proofs.Linear.{with1, with2, with3, with4, with5, with6}
+use Rattle.upp_curve.specs.declared.affine_segment.line.Line.{Line}
+use Rattle.upp_curve.specs.declared.affine_segment.line.Piece.{Piece}
+use Rattle.upp_curve.specs.affine_segment.Values.{line_value}
+use Rattle.upp_curve.specs.Curve.{SpecCurve, value_at}
+use Rattle.min_plus.specs.Functions.{zero_q, IsFinite}
+use Rattle.min_plus.specs.Continuity.{IsContinuous}
+use Rattle.upp_curve.specs.affine_segment.Pieces.{HasStart, StartsAtZero}
+use Rattle.upp_curve.specs.Normal.{IsNormal}
+use Rattle.upp_curve.specs.affine_segment.Reading.{read, piece_in, piece_value}
+use Rattle.upp_curve.specs.Unrolled.{unroll}
+use Rattle.upp_curve.proofs.affine_segment.PieceIn.{piece_in_stop, piece_in_go, piece_in_end, value_past}
 use Rattle.upp_normal.proofs.Below.{unroll_reads}
 use Rattle.upp_normal.proofs.UnrolledPieces.{unroll_starts}
 use Rattle.flow_watch.specs.watch_laws.Affine.{IsLineOn, NoneInside, IsAffineOff, EachTime, IsPiecewise}

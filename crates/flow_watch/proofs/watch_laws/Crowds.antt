@@ -2,21 +2,21 @@
 use Rattle.std.specs.Prelude.{◌≡◌, ◌⊎◌, ℕ, zero, suc, ◌+◌, ◌<◌, ◌≤◌, ◌==◌, pos, false, ◌&&◌, List, [], ◌∷◌, length}
 use Rattle.std.proofs.Common.{arith, refl, inl, inr}
 use Rattle.std.proofs.lemmas.Bool.{cases_Bool, and_from, and_parts}
-use Rattle.upp_limits.specs.rational.specs.Rational.{ℚ, int, ◌+ℚ◌, ◌-ℚ◌, ◌≤ℚ◌, le_q}
-use Rattle.upp_limits.specs.rational.specs.Extended.{Ext, ◌≤ₑ◌, ◌<ₑ◌}
-use Rattle.upp_limits.specs.rational.specs.declared.Extended.TheVariants.{Fin, Inf}
-use Rattle.upp_limits.specs.rational.proofs.Laws.{le_refl, le_trans, le_or_lt, lt_le_trans, lt_irrefl}
-use Rattle.upp_limits.specs.rational.proofs.Linear.{with_atoms, with2, with3, with4}
-use Rattle.upp_limits.specs.rational.proofs.Over.{le_q_out, le_q_in}
-use Rattle.upp_limits.specs.rational.proofs.ExtendedOrder.{le_ext_trans}
-use Rattle.net_model.specs.run_laws.specs.declared.steps.Step.{Step}
-use Rattle.net_model.specs.run_laws.specs.declared.steps.Step.TheVariants.{Enter, Reach, Work, Leave, Visit}
-use Rattle.net_model.specs.run_laws.specs.Cards.{whole}
-use Rattle.net_model.specs.run_laws.specs.Counts.{when, within}
-use Rattle.net_model.specs.run_laws.specs.RunPremises.{entered_in}
-use Rattle.net_model.specs.run_laws.proofs.Sizes.{whole_nonneg, whole_le, whole_sum}
-use Rattle.net_model.specs.run_laws.proofs.Sums.{when_true, when_false, when_nonneg, add_nothing}
-use Rattle.upp_limits.specs.min_plus.specs.Functions.{zero_q, IsRising, IsNonnegative}
+use Rattle.rational.specs.Rational.{ℚ, int, ◌+ℚ◌, ◌-ℚ◌, ◌≤ℚ◌, le_q}
+use Rattle.rational.specs.Extended.{Ext, ◌≤ₑ◌, ◌<ₑ◌}
+use Rattle.rational.specs.declared.Extended.TheVariants.{Fin, Inf}
+use Rattle.rational.proofs.Laws.{le_refl, le_trans, le_or_lt, lt_le_trans, lt_irrefl}
+use Rattle.rational.proofs.Linear.{with_atoms, with2, with3, with4}
+use Rattle.rational.proofs.Over.{le_q_out, le_q_in}
+use Rattle.rational.proofs.ExtendedOrder.{le_ext_trans}
+use Rattle.run_laws.specs.declared.steps.Step.{Step}
+use Rattle.run_laws.specs.declared.steps.Step.TheVariants.{Enter, Reach, Work, Leave, Visit}
+use Rattle.run_laws.specs.Cards.{whole}
+use Rattle.run_laws.specs.Counts.{when, within}
+use Rattle.run_laws.specs.RunPremises.{entered_in}
+use Rattle.run_laws.proofs.Sizes.{whole_nonneg, whole_le, whole_sum}
+use Rattle.run_laws.proofs.Sums.{when_true, when_false, when_nonneg, add_nothing}
+use Rattle.min_plus.specs.Functions.{zero_q, IsRising, IsNonnegative}
 use Rattle.flow_watch.specs.declared.watch_laws.entering.Entering.{Entering}
 use Rattle.flow_watch.specs.watch_laws.Entries.{entries, entering, bits_to, bits_between, IsCrowded, EntersFrom}
 

@@ -3,21 +3,21 @@ use Rattle.std.specs.Prelude.{◌≡◌, ℕ, ◌<◌, ◌==◌, List, [], ◌�
 use Rattle.std.proofs.Common.{arith, sym, subst, ap, ◌∙◌, inl, inr}
 use Rattle.std.proofs.lemmas.Bool.{cases_Bool, cases_eq, eqb-true}
 use Rattle.std.proofs.lemmas.List.{get_or-set_same, length-set, length-map}
-use Rattle.upp_limits.specs.rational.specs.Rational.{ℚ, ◌≤ℚ◌}
-use Rattle.upp_limits.specs.rational.proofs.Laws.{le_refl, le_trans}
-use Rattle.net_model.specs.run_laws.specs.declared.steps.Step.{Step}
-use Rattle.net_model.specs.run_laws.specs.declared.steps.Step.TheVariants.{Enter, Reach, Work, Leave, Visit}
-use Rattle.net_model.specs.run_laws.specs.Runs.{SpecRun}
-use Rattle.net_model.specs.run_laws.specs.Cards.{time_of}
-use Rattle.net_model.specs.run_laws.specs.Servers.{Fifo, Server, ServerState, start}
-use Rattle.net_model.specs.run_laws.specs.Next.{next}
-use Rattle.net_model.specs.run_laws.specs.Routes.{Routes, server_at, route_of, first_server}
-use Rattle.net_model.specs.run_laws.specs.Views.{server_of, seen}
-use Rattle.net_model.specs.run_laws.specs.Lawful.{RunState, state_at, next_run, AllowsInRun, AllAllowedInRun, run_start, IsLawful}
-use Rattle.net_model.specs.run_laws.proofs.Cuts.{time_in_order}
+use Rattle.rational.specs.Rational.{ℚ, ◌≤ℚ◌}
+use Rattle.rational.proofs.Laws.{le_refl, le_trans}
+use Rattle.run_laws.specs.declared.steps.Step.{Step}
+use Rattle.run_laws.specs.declared.steps.Step.TheVariants.{Enter, Reach, Work, Leave, Visit}
+use Rattle.run_laws.specs.Runs.{SpecRun}
+use Rattle.run_laws.specs.Cards.{time_of}
+use Rattle.run_laws.specs.Servers.{Fifo, Server, ServerState, start}
+use Rattle.run_laws.specs.Next.{next}
+use Rattle.run_laws.specs.Routes.{Routes, server_at, route_of, first_server}
+use Rattle.run_laws.specs.Views.{server_of, seen}
+use Rattle.run_laws.specs.Lawful.{RunState, state_at, next_run, AllowsInRun, AllAllowedInRun, run_start, IsLawful}
+use Rattle.run_laws.proofs.Cuts.{time_in_order}
 use Rattle.flow_watch.specs.declared.watch_laws.entering.Entering.{Entering}
 use Rattle.flow_watch.specs.watch_laws.Entries.{entries, EntersFrom}
-use Rattle.net_model.specs.run_laws.proofs.Views.{other_state}
+use Rattle.run_laws.proofs.Views.{other_state}
 
 -- a step does not set a server's clock back
 clock_own : (net : Routes) (r : RunState) (x : Step) → server_of net x < length r.servers

@@ -1,21 +1,21 @@
 -- A server keeps its curve exactly where no window between watch points falls short.
 use Rattle.std.specs.Prelude.{◌≡◌, ◌⊎◌, pos, List}
 use Rattle.std.proofs.Common.{sym, arith, refl, subst, inl, inr}
-use Rattle.upp_limits.specs.rational.specs.Rational.{ℚ, int, ◌+ℚ◌, ◌-ℚ◌, ◌≤ℚ◌, ◌<ℚ◌}
-use Rattle.upp_limits.specs.rational.specs.Extended.{Ext, ◌≤ₑ◌, ◌<ₑ◌, ◌+ₑ◌}
-use Rattle.upp_limits.specs.rational.specs.declared.Extended.TheVariants.{Fin}
-use Rattle.upp_limits.specs.rational.proofs.Laws.{le_refl, le_trans, le_or_lt, le_of_lt, lt_le_trans, le_lt_trans, lt_irrefl, antisym}
-use Rattle.upp_limits.specs.rational.proofs.Linear.{with2}
-use Rattle.net_model.specs.run_laws.specs.Cards.{all, ServerStep}
-use Rattle.net_model.specs.run_laws.specs.Servers.{Server, start}
-use Rattle.net_model.specs.run_laws.specs.Allows.{IsLawfulView}
-use Rattle.net_model.specs.run_laws.specs.Counts.{arrived, worked}
-use Rattle.net_model.specs.run_laws.specs.Premises.{IsBusy, KeepsService, IsZeroAtStart}
-use Rattle.net_model.specs.run_laws.proofs.Cuts.{all_works}
-use Rattle.upp_limits.specs.upp_curve.specs.Curve.{SpecCurve, value_at}
-use Rattle.upp_limits.specs.min_plus.specs.Functions.{zero_q, IsFinite}
-use Rattle.upp_limits.specs.min_plus.specs.Continuity.{IsContinuous}
-use Rattle.upp_limits.specs.upp_curve.specs.Normal.{IsNormal}
+use Rattle.rational.specs.Rational.{ℚ, int, ◌+ℚ◌, ◌-ℚ◌, ◌≤ℚ◌, ◌<ℚ◌}
+use Rattle.rational.specs.Extended.{Ext, ◌≤ₑ◌, ◌<ₑ◌, ◌+ₑ◌}
+use Rattle.rational.specs.declared.Extended.TheVariants.{Fin}
+use Rattle.rational.proofs.Laws.{le_refl, le_trans, le_or_lt, le_of_lt, lt_le_trans, le_lt_trans, lt_irrefl, antisym}
+use Rattle.rational.proofs.Linear.{with2}
+use Rattle.run_laws.specs.Cards.{all, ServerStep}
+use Rattle.run_laws.specs.Servers.{Server, start}
+use Rattle.run_laws.specs.Allows.{IsLawfulView}
+use Rattle.run_laws.specs.Counts.{arrived, worked}
+use Rattle.run_laws.specs.Premises.{IsBusy, KeepsService, IsZeroAtStart}
+use Rattle.run_laws.proofs.Cuts.{all_works}
+use Rattle.upp_curve.specs.Curve.{SpecCurve, value_at}
+use Rattle.min_plus.specs.Functions.{zero_q, IsFinite}
+use Rattle.min_plus.specs.Continuity.{IsContinuous}
+use Rattle.upp_curve.specs.Normal.{IsNormal}
 use Rattle.flow_watch.specs.watch_laws.Affine.{IsPiecewise}
 use Rattle.flow_watch.specs.watch_laws.Windows.{IsPair}
 use Rattle.flow_watch.specs.watch_laws.Paces.{IsPaceChange}
@@ -27,7 +27,7 @@ use Rattle.flow_watch.proofs.watch_laws.Paces.{work_pieces}
 use Rattle.flow_watch.specs.watch_laws.Segments.{number_at}
 use Rattle.flow_watch.proofs.watch_laws.Breaks.{is_number, curve_pieces}
 use Rattle.flow_watch.proofs.watch_laws.Stretches.{around, each_time_map}
-use Rattle.upp_limits.specs.rational.proofs.ExtendedOrder.{not_past}
+use Rattle.rational.proofs.ExtendedOrder.{not_past}
 
 -- ---- from a premise that fails
 pub length_nonneg : (a b : ℚ) → a <ℚ b → zero_q ≤ℚ b -ℚ a

@@ -3,14 +3,14 @@ use Rattle.std.specs.Prelude.{◌≡◌, ℕ, ◌+◌, ◌*◌, ◌<◌, ◌≤�
 use Rattle.std.proofs.Common.{arith, sym, ap, ◌∙◌, subst}
 use Prim.Native.Nat.{◌∣◌}
 use native.Mathlib.Nat.{dvd-mul_left, mul-pos, mul-le-mul_right}
-use Rattle.upp_limits.specs.rational.specs.Rational.{ℚ, neg_ℚ, ◌-ℚ◌, ◌*ℚ◌, ◌≤ℚ◌, int}
-use Rattle.upp_limits.specs.rational.specs.Ratio.{SumFits}
-use Rattle.upp_limits.specs.rational.specs.Grid.{Whole, Within}
-use Rattle.upp_limits.specs.rational.proofs.Grid.{whole_weaken, whole_mul, whole_sub, whole_neg, within_weaken, within_sub, within_neg, within_mul, within_nonneg}
-use Rattle.upp_limits.specs.rational.proofs.Sizes.{sum_on_grid, small_on_grid}
-use Rattle.upp_limits.specs.rational.proofs.Integers.{nat_le, nat_nonneg, int_mul}
-use Rattle.upp_limits.specs.rational.proofs.Laws.{le_trans, mul_assoc}
-use Rattle.upp_limits.specs.rational.proofs.Linear.{with1, with2}
+use Rattle.rational.specs.Rational.{ℚ, neg_ℚ, ◌-ℚ◌, ◌*ℚ◌, ◌≤ℚ◌, int}
+use Rattle.rational.specs.Ratio.{SumFits}
+use Rattle.rational.specs.Grid.{Whole, Within}
+use Rattle.rational.proofs.Grid.{whole_weaken, whole_mul, whole_sub, whole_neg, within_weaken, within_sub, within_neg, within_mul, within_nonneg}
+use Rattle.rational.proofs.Sizes.{sum_on_grid, small_on_grid}
+use Rattle.rational.proofs.Integers.{nat_le, nat_nonneg, int_mul}
+use Rattle.rational.proofs.Laws.{le_trans, mul_assoc}
+use Rattle.rational.proofs.Linear.{with1, with2}
 use Rattle.upp_limits.specs.Limits.{Sizes}
 use Rattle.upp_limits.specs.Sized.{IsSlope, grid_of, times_largest}
 use Rattle.upp_normal.specs.Operand.{AreLimited}

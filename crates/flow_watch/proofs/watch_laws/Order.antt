@@ -1,12 +1,12 @@
 -- Breaches are in one order, and a key belongs to one breach.
 use Rattle.std.specs.Prelude.{◌≡◌, ℕ, zero, suc, pos, List, [], ◌∷◌}
 use Rattle.std.proofs.Common.{arith, refl, sym, subst, ap, ap₂, ◌∙◌, inl, inr}
-use Rattle.upp_limits.specs.rational.specs.Rational.{ℚ, int, ◌≤ℚ◌, ◌<ℚ◌}
-use Rattle.upp_limits.specs.rational.proofs.Laws.{lt_irrefl, lt_trans}
-use Rattle.upp_limits.specs.rational.proofs.Integers.{nat_le_out}
-use Rattle.upp_limits.specs.rational.proofs.Laws.{le_refl}
-use Rattle.net_model.specs.run_laws.specs.Runs.{SpecRun}
-use Rattle.net_model.specs.run_laws.specs.Cards.{whole}
+use Rattle.rational.specs.Rational.{ℚ, int, ◌≤ℚ◌, ◌<ℚ◌}
+use Rattle.rational.proofs.Laws.{lt_irrefl, lt_trans}
+use Rattle.rational.proofs.Integers.{nat_le_out}
+use Rattle.rational.proofs.Laws.{le_refl}
+use Rattle.run_laws.specs.Runs.{SpecRun}
+use Rattle.run_laws.specs.Cards.{whole}
 use Rattle.net_model.specs.declared.breach.Breach.{Breach}
 use Rattle.net_model.specs.declared.breach.Breach.TheVariants.{Size, Arrival, Service}
 use Rattle.flow_watch.specs.watch_laws.Breaches.{order_key, NoLater}

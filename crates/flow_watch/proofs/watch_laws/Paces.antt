@@ -2,17 +2,17 @@
 use Rattle.std.specs.Prelude.{◌≡◌, ◌≢◌, ◌⊎◌, pos, ◌&&◌, List, [], ◌∷◌}
 use Rattle.std.proofs.Common.{arith, refl, sym, subst, ap, ◌∙◌, inl, inr}
 use Rattle.std.proofs.lemmas.Bool.{and_from, and_left, and_right}
-use Rattle.upp_limits.specs.rational.specs.Rational.{ℚ, int, le_q, lt_q, ◌+ℚ◌, ◌-ℚ◌, ◌*ℚ◌, ◌/ℚ◌, inv_ℚ, ◌≤ℚ◌, ◌<ℚ◌}
-use Rattle.upp_limits.specs.rational.proofs.Laws.{le_refl, le_trans, le_or_lt, le_of_lt, lt_le_trans, le_lt_trans, lt_irrefl, lt_cases, antisym, div_mul, mul_comm, mul_assoc, mul_add, mul_zero, add_mul}
-use Rattle.upp_limits.specs.rational.proofs.Linear.{with_atoms, with2, with3, with4, with6}
-use Rattle.upp_limits.specs.rational.proofs.Over.{le_q_out, lt_q_out}
-use Rattle.upp_limits.specs.rational.proofs.MinMax.{le_q_not, lt_q_not}
-use Rattle.net_model.specs.run_laws.specs.Cards.{all, ServerStep, Arrives, Works, Leaves, Visits}
-use Rattle.net_model.specs.run_laws.specs.Servers.{Span, clip}
-use Rattle.net_model.specs.run_laws.specs.Counts.{when, works, worked}
-use Rattle.net_model.specs.run_laws.proofs.Clips.{IsSpan, clip_early, clip_late}
-use Rattle.net_model.specs.run_laws.proofs.Counts.{IsWork}
-use Rattle.net_model.specs.run_laws.proofs.Sums.{Each, when_true, when_false}
+use Rattle.rational.specs.Rational.{ℚ, int, le_q, lt_q, ◌+ℚ◌, ◌-ℚ◌, ◌*ℚ◌, ◌/ℚ◌, inv_ℚ, ◌≤ℚ◌, ◌<ℚ◌}
+use Rattle.rational.proofs.Laws.{le_refl, le_trans, le_or_lt, le_of_lt, lt_le_trans, le_lt_trans, lt_irrefl, lt_cases, antisym, div_mul, mul_comm, mul_assoc, mul_add, mul_zero, add_mul}
+use Rattle.rational.proofs.Linear.{with_atoms, with2, with3, with4, with6}
+use Rattle.rational.proofs.Over.{le_q_out, lt_q_out}
+use Rattle.rational.proofs.MinMax.{le_q_not, lt_q_not}
+use Rattle.run_laws.specs.Cards.{all, ServerStep, Arrives, Works, Leaves, Visits}
+use Rattle.run_laws.specs.Servers.{Span, clip}
+use Rattle.run_laws.specs.Counts.{when, works, worked}
+use Rattle.run_laws.proofs.Clips.{IsSpan, clip_early, clip_late}
+use Rattle.run_laws.proofs.Counts.{IsWork}
+use Rattle.run_laws.proofs.Sums.{Each, when_true, when_false}
 use Rattle.flow_watch.specs.watch_laws.Affine.{IsLineOn, NoneInside, EachTime, Among, IsPiecewise}
 use Rattle.flow_watch.specs.watch_laws.Paces.{pace_of, goes_after, goes_before, pace_after, pace_before, IsPaceChange}
 

@@ -2,20 +2,20 @@
 use Rattle.std.specs.Prelude.{◌≡◌, ℕ, zero, suc, ◌<◌, ◌≤◌, ◌==◌, true, false, List, [], ◌∷◌, length}
 use Rattle.std.proofs.Common.{arith, refl, sym, subst, inl, inr}
 use Rattle.std.proofs.lemmas.Bool.{cases_Bool, cases_lt, eq-eqb, eqb-true, both_ways}
-use Rattle.upp_limits.specs.rational.specs.Rational.{ℚ, ◌-ℚ◌}
-use Rattle.upp_limits.specs.rational.specs.Extended.{Ext, ◌≤ₑ◌, ◌+ₑ◌}
-use Rattle.upp_limits.specs.rational.specs.declared.Extended.TheVariants.{Fin}
-use Rattle.upp_limits.specs.upp_curve.specs.Curve.{SpecCurve, value_at}
-use Rattle.net_model.specs.run_laws.specs.declared.steps.Step.{Step}
-use Rattle.net_model.specs.run_laws.specs.declared.steps.Step.TheVariants.{Enter, Reach, Work, Leave, Visit}
-use Rattle.net_model.specs.run_laws.specs.Runs.{SpecRun}
-use Rattle.net_model.specs.run_laws.specs.Cards.{all}
-use Rattle.net_model.specs.run_laws.specs.Counts.{worked}
-use Rattle.net_model.specs.run_laws.specs.Routes.{Routes, server_at}
-use Rattle.net_model.specs.run_laws.specs.Views.{view}
-use Rattle.net_model.specs.run_laws.specs.Lawful.{IsLawful}
-use Rattle.net_model.specs.run_laws.specs.RunPremises.{EnterSizes, KeepsPremises}
-use Rattle.net_model.specs.run_laws.proofs.Views.{views_are_lawful}
+use Rattle.rational.specs.Rational.{ℚ, ◌-ℚ◌}
+use Rattle.rational.specs.Extended.{Ext, ◌≤ₑ◌, ◌+ₑ◌}
+use Rattle.rational.specs.declared.Extended.TheVariants.{Fin}
+use Rattle.upp_curve.specs.Curve.{SpecCurve, value_at}
+use Rattle.run_laws.specs.declared.steps.Step.{Step}
+use Rattle.run_laws.specs.declared.steps.Step.TheVariants.{Enter, Reach, Work, Leave, Visit}
+use Rattle.run_laws.specs.Runs.{SpecRun}
+use Rattle.run_laws.specs.Cards.{all}
+use Rattle.run_laws.specs.Counts.{worked}
+use Rattle.run_laws.specs.Routes.{Routes, server_at}
+use Rattle.run_laws.specs.Views.{view}
+use Rattle.run_laws.specs.Lawful.{IsLawful}
+use Rattle.run_laws.specs.RunPremises.{EnterSizes, KeepsPremises}
+use Rattle.run_laws.proofs.Views.{views_are_lawful}
 use Rattle.net_model.specs.declared.breach.Breach.{Breach}
 use Rattle.net_model.specs.declared.breach.Breach.TheVariants.{Size, Arrival, Service}
 use Rattle.flow_watch.specs.declared.watch_laws.entering.Entering.{Entering}
@@ -26,7 +26,7 @@ use Rattle.flow_watch.proofs.watch_laws.Idle.{none_idle, idle_breaks, none_found
 use Rattle.flow_watch.proofs.watch_laws.Crowds.{window_is, none_crowded, crowded_breaks}
 use Rattle.flow_watch.proofs.watch_laws.Entered.{in_order}
 use Rattle.flow_watch.proofs.watch_laws.Order.{both_no_later, one_key}
-use Rattle.upp_limits.specs.rational.proofs.ExtendedOrder.{not_past}
+use Rattle.rational.proofs.ExtendedOrder.{not_past}
 
 -- ---- sizes
 size_at : (flow n : ℕ) (xs : List Step) (k : ℕ) → EnterSizes flow n xs → k < length (entries flow xs) → (entering (entries flow xs) k).bits ≤ n

@@ -2,25 +2,25 @@
 -- one is cut a period before its end, and one of the two parts is short.
 use Rattle.std.specs.Prelude.{◌≡◌, ◌⊎◌, ℕ, zero, suc, pos, [], ◌∷◌}
 use Rattle.std.proofs.Common.{arith, sym, subst, ap, ◌∙◌, inl, inr}
-use Rattle.upp_limits.specs.rational.specs.Rational.{ℚ, int, ◌+ℚ◌, ◌-ℚ◌, ◌*ℚ◌, ◌≤ℚ◌, ◌<ℚ◌}
-use Rattle.upp_limits.specs.rational.specs.MinMax.{min_q}
-use Rattle.upp_limits.specs.rational.specs.Whole.{periods}
-use Rattle.upp_limits.specs.rational.specs.Extended.{◌+ₑ◌}
-use Rattle.upp_limits.specs.rational.specs.declared.Extended.TheVariants.{Fin}
-use Rattle.upp_limits.specs.rational.proofs.Laws.{le_refl, le_trans, le_or_lt, le_of_lt, zero_mul}
-use Rattle.upp_limits.specs.rational.proofs.Linear.{with_atoms, with2, with3, with4, with5}
-use Rattle.upp_limits.specs.rational.proofs.MinMax.{min_q_left, min_q_is_right}
-use Rattle.upp_limits.specs.rational.proofs.Whole.{one_more_times, periods_high}
-use Rattle.upp_limits.specs.upp_curve.specs.declared.curve.Tail.{Tail}
-use Rattle.upp_limits.specs.upp_curve.specs.Curve.{SpecCurve, value_at}
-use Rattle.upp_limits.specs.upp_curve.specs.Normal.{IsNormal, FitsPeriod, TailFits}
-use Rattle.upp_limits.specs.upp_curve.specs.Steady.{Repeats}
-use Rattle.upp_limits.specs.upp_curve.proofs.Normal.{periodic_rule}
-use Rattle.net_model.specs.run_laws.specs.Cards.{all}
-use Rattle.net_model.specs.run_laws.specs.Servers.{start}
-use Rattle.net_model.specs.run_laws.specs.Counts.{worked}
-use Rattle.net_model.specs.run_laws.proofs.Counts.{worked_rises}
-use Rattle.net_model.specs.run_laws.proofs.Cuts.{all_works}
+use Rattle.rational.specs.Rational.{ℚ, int, ◌+ℚ◌, ◌-ℚ◌, ◌*ℚ◌, ◌≤ℚ◌, ◌<ℚ◌}
+use Rattle.rational.specs.MinMax.{min_q}
+use Rattle.rational.specs.Whole.{periods}
+use Rattle.rational.specs.Extended.{◌+ₑ◌}
+use Rattle.rational.specs.declared.Extended.TheVariants.{Fin}
+use Rattle.rational.proofs.Laws.{le_refl, le_trans, le_or_lt, le_of_lt, zero_mul}
+use Rattle.rational.proofs.Linear.{with_atoms, with2, with3, with4, with5}
+use Rattle.rational.proofs.MinMax.{min_q_left, min_q_is_right}
+use Rattle.rational.proofs.Whole.{one_more_times, periods_high}
+use Rattle.upp_curve.specs.declared.curve.Tail.{Tail}
+use Rattle.upp_curve.specs.Curve.{SpecCurve, value_at}
+use Rattle.upp_curve.specs.Normal.{IsNormal, FitsPeriod, TailFits}
+use Rattle.upp_curve.specs.Steady.{Repeats}
+use Rattle.upp_curve.proofs.Normal.{periodic_rule}
+use Rattle.run_laws.specs.Cards.{all}
+use Rattle.run_laws.specs.Servers.{start}
+use Rattle.run_laws.specs.Counts.{worked}
+use Rattle.run_laws.proofs.Counts.{worked_rises}
+use Rattle.run_laws.proofs.Cuts.{all_works}
 use Rattle.flow_watch.specs.watch_laws.Affine.{IsPiecewise}
 use Rattle.flow_watch.specs.watch_laws.Windows.{FallsShort, IsShort}
 use Rattle.flow_watch.specs.watch_laws.Breaks.{IsBreak}

@@ -1,9 +1,9 @@
 -- A function that is affine but at some times, and below 0 somewhere, is below 0 at one of those times or at an end.
 use Rattle.std.specs.Prelude.{◌≡◌, ◌⊎◌, pos, List, [], ◌∷◌}
 use Rattle.std.proofs.Common.{arith, refl, sym, subst, inl, inr}
-use Rattle.upp_limits.specs.rational.specs.Rational.{ℚ, int, neg_ℚ, ◌-ℚ◌, ◌*ℚ◌, ◌≤ℚ◌, ◌<ℚ◌}
-use Rattle.upp_limits.specs.rational.proofs.Laws.{le_refl, le_trans, le_or_lt, le_of_lt, mul_le_mul, mul_nonneg, neg_mul}
-use Rattle.upp_limits.specs.rational.proofs.Linear.{with1, with2, with3, with4, with5}
+use Rattle.rational.specs.Rational.{ℚ, int, neg_ℚ, ◌-ℚ◌, ◌*ℚ◌, ◌≤ℚ◌, ◌<ℚ◌}
+use Rattle.rational.proofs.Laws.{le_refl, le_trans, le_or_lt, le_of_lt, mul_le_mul, mul_nonneg, neg_mul}
+use Rattle.rational.proofs.Linear.{with1, with2, with3, with4, with5}
 use Rattle.flow_watch.specs.watch_laws.Affine.{IsLineOn, IsAffineOff, EachTime}
 
 -- ---- on one line

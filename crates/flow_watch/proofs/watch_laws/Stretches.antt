@@ -1,24 +1,24 @@
 -- The stretch that a busy window is in.
 use Rattle.std.specs.Prelude.{◌≡◌, ◌⊎◌, Bool, pos, List, [], ◌∷◌}
 use Rattle.std.proofs.Common.{arith, refl, sym, subst, ap, ◌∙◌, inl, inr}
-use Rattle.upp_limits.specs.rational.specs.Rational.{ℚ, int, ◌+ℚ◌, ◌≤ℚ◌, ◌<ℚ◌}
-use Rattle.upp_limits.specs.rational.proofs.Laws.{le_refl, le_trans, le_or_lt, le_of_lt, lt_le_trans, le_lt_trans, lt_irrefl, between, antisym}
-use Rattle.upp_limits.specs.rational.proofs.Linear.{with4}
-use Rattle.upp_limits.specs.rational.proofs.Over.{le_q_out}
-use Rattle.upp_limits.specs.rational.proofs.MinMax.{le_q_not}
-use Rattle.net_model.specs.run_laws.specs.Cards.{all, ServerStep, Arrives, Works, Leaves, Visits}
-use Rattle.net_model.specs.run_laws.specs.Servers.{Server}
-use Rattle.net_model.specs.run_laws.specs.Allows.{IsLawfulView}
-use Rattle.net_model.specs.run_laws.specs.Counts.{total, leaves, upto, arrived, worked}
-use Rattle.net_model.specs.run_laws.specs.Premises.{IsBusy}
-use Rattle.net_model.specs.run_laws.proofs.Counts.{arrived_rises, departed_upto}
-use Rattle.net_model.specs.run_laws.proofs.Orders.{left_worked, left_upto_worked}
-use Rattle.net_model.specs.run_laws.proofs.Gone.{gone_by}
-use Rattle.net_model.specs.run_laws.proofs.Backlogged.{backlogged_since}
+use Rattle.rational.specs.Rational.{ℚ, int, ◌+ℚ◌, ◌≤ℚ◌, ◌<ℚ◌}
+use Rattle.rational.proofs.Laws.{le_refl, le_trans, le_or_lt, le_of_lt, lt_le_trans, le_lt_trans, lt_irrefl, between, antisym}
+use Rattle.rational.proofs.Linear.{with4}
+use Rattle.rational.proofs.Over.{le_q_out}
+use Rattle.rational.proofs.MinMax.{le_q_not}
+use Rattle.run_laws.specs.Cards.{all, ServerStep, Arrives, Works, Leaves, Visits}
+use Rattle.run_laws.specs.Servers.{Server}
+use Rattle.run_laws.specs.Allows.{IsLawfulView}
+use Rattle.run_laws.specs.Counts.{total, leaves, upto, arrived, worked}
+use Rattle.run_laws.specs.Premises.{IsBusy}
+use Rattle.run_laws.proofs.Counts.{arrived_rises, departed_upto}
+use Rattle.run_laws.proofs.Orders.{left_worked, left_upto_worked}
+use Rattle.run_laws.proofs.Gone.{gone_by}
+use Rattle.run_laws.proofs.Backlogged.{backlogged_since}
 use Rattle.flow_watch.specs.watch_laws.Affine.{EachTime, Among}
 use Rattle.flow_watch.specs.watch_laws.Stretches.{IsAround}
 use Rattle.flow_watch.specs.watch_laws.Times.{leave_times}
-pub use Rattle.net_model.specs.run_laws.proofs.Times.{each_time_map, each_time_at}
+pub use Rattle.run_laws.proofs.Times.{each_time_map, each_time_at}
 
 -- two tests that agree on these times count the same
 leaves_same : (p q : ℚ → Bool) (V : List ServerStep) → EachTime (λ u. p u ≡ q u) (leave_times V) → total (leaves all p) V ≡ total (leaves all q) V

@@ -2,23 +2,23 @@
 use Rattle.std.specs.Prelude.{◌≡◌, ◌⊎◌, ◌≤◌, Bool, ◌&&◌, pos, List, [], ◌∷◌}
 use Rattle.std.proofs.Common.{arith, refl, sym, subst, ap, ap₂, ◌∙◌, inl, inr}
 use Rattle.std.proofs.lemmas.Bool.{and_from, and_left, and_right}
-use Rattle.upp_limits.specs.rational.specs.Rational.{ℚ, int, le_q, lt_q, ◌+ℚ◌, ◌≤ℚ◌, ◌<ℚ◌}
-use Rattle.upp_limits.specs.rational.proofs.Laws.{le_refl, le_trans, le_or_lt, le_of_lt, lt_le_trans, le_lt_trans, lt_trans, lt_irrefl, lt_cases, between}
-use Rattle.upp_limits.specs.rational.proofs.Linear.{with_atoms, with2, with4}
-use Rattle.upp_limits.specs.rational.proofs.Over.{le_q_out, lt_q_out, lt_q_in}
-use Rattle.upp_limits.specs.rational.proofs.MinMax.{le_q_not, lt_q_not}
-use Rattle.net_model.specs.run_laws.specs.Cards.{all, size, ServerStep, Arrives, Works, Leaves, Visits}
-use Rattle.net_model.specs.run_laws.specs.Servers.{Server, ServerState, start}
-use Rattle.net_model.specs.run_laws.specs.Next.{next}
-use Rattle.net_model.specs.run_laws.specs.Allows.{AllAllowed, IsLawfulView}
-use Rattle.net_model.specs.run_laws.specs.Premises.{EachArrival}
-use Rattle.net_model.specs.run_laws.proofs.Sizes.{size_nonneg, whole_lt}
-use Rattle.net_model.specs.run_laws.specs.Counts.{when, total, arrives, before, upto, arrived, worked}
-use Rattle.net_model.specs.run_laws.proofs.Cuts.{all_works}
-use Rattle.net_model.specs.run_laws.proofs.Counts.{arrived_rises, worked_rises, departed_upto}
-use Rattle.net_model.specs.run_laws.proofs.Orders.{left_upto_worked, worked_arrived}
-use Rattle.net_model.specs.run_laws.proofs.Gone.{gone_by}
-use Rattle.net_model.specs.run_laws.proofs.Sums.{when_true, when_false, when_rises}
+use Rattle.rational.specs.Rational.{ℚ, int, le_q, lt_q, ◌+ℚ◌, ◌≤ℚ◌, ◌<ℚ◌}
+use Rattle.rational.proofs.Laws.{le_refl, le_trans, le_or_lt, le_of_lt, lt_le_trans, le_lt_trans, lt_trans, lt_irrefl, lt_cases, between}
+use Rattle.rational.proofs.Linear.{with_atoms, with2, with4}
+use Rattle.rational.proofs.Over.{le_q_out, lt_q_out, lt_q_in}
+use Rattle.rational.proofs.MinMax.{le_q_not, lt_q_not}
+use Rattle.run_laws.specs.Cards.{all, size, ServerStep, Arrives, Works, Leaves, Visits}
+use Rattle.run_laws.specs.Servers.{Server, ServerState, start}
+use Rattle.run_laws.specs.Next.{next}
+use Rattle.run_laws.specs.Allows.{AllAllowed, IsLawfulView}
+use Rattle.run_laws.specs.Premises.{EachArrival}
+use Rattle.run_laws.proofs.Sizes.{size_nonneg, whole_lt}
+use Rattle.run_laws.specs.Counts.{when, total, arrives, before, upto, arrived, worked}
+use Rattle.run_laws.proofs.Cuts.{all_works}
+use Rattle.run_laws.proofs.Counts.{arrived_rises, worked_rises, departed_upto}
+use Rattle.run_laws.proofs.Orders.{left_upto_worked, worked_arrived}
+use Rattle.run_laws.proofs.Gone.{gone_by}
+use Rattle.run_laws.proofs.Sums.{when_true, when_false, when_rises}
 use Rattle.flow_watch.specs.watch_laws.Affine.{EachTime, Among}
 use Rattle.flow_watch.specs.watch_laws.Paces.{pace_of, pace_after, pace_before}
 use Rattle.flow_watch.specs.watch_laws.Stretches.{IsStretch}

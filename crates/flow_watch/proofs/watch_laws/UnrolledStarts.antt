@@ -2,25 +2,25 @@
 use Rattle.std.specs.Prelude.{◌≡◌, ◌⊎◌, ℕ, zero, suc, ◌<◌, pos, List, [], ◌∷◌, ◌++◌}
 use Rattle.std.proofs.Common.{arith, sym, subst, ap, ◌∙◌, inl, inr}
 use Rattle.std.proofs.lemmas.Bool.{cases_lt}
-use Rattle.upp_limits.specs.rational.specs.Rational.{ℚ, int, ◌+ℚ◌, ◌-ℚ◌, ◌*ℚ◌, ◌≤ℚ◌, ◌<ℚ◌}
-use Rattle.upp_limits.specs.rational.specs.Whole.{periods}
-use Rattle.upp_limits.specs.rational.proofs.Laws.{le_refl, le_trans, le_of_lt, zero_mul, mul_comm, mul_one, mul_le_mul_right}
-use Rattle.upp_limits.specs.rational.proofs.Integers.{nat_le}
-use Rattle.upp_limits.specs.rational.proofs.Whole.{one_more_times, periods_high}
-use Rattle.upp_limits.specs.rational.proofs.Linear.{with_atoms, with2, with3}
-use Rattle.upp_limits.specs.upp_curve.specs.declared.affine_segment.line.Piece.{Piece}
-use Rattle.upp_limits.specs.upp_curve.specs.declared.curve.Tail.{Tail}
-use Rattle.upp_limits.specs.upp_curve.specs.declared.curve.Tail.TheVariants.{Periodic, Affine, Infinite}
-use Rattle.upp_limits.specs.upp_curve.specs.Curve.{SpecCurve}
-use Rattle.upp_limits.specs.upp_curve.specs.affine_segment.Pieces.{HasStart, StartsAtZero, RisesFrom}
-use Rattle.upp_limits.specs.upp_curve.specs.Normal.{IsNormal}
-use Rattle.upp_limits.specs.upp_curve.specs.Unrolled.{each_later, copies, upto, from, unrolled, unroll}
+use Rattle.rational.specs.Rational.{ℚ, int, ◌+ℚ◌, ◌-ℚ◌, ◌*ℚ◌, ◌≤ℚ◌, ◌<ℚ◌}
+use Rattle.rational.specs.Whole.{periods}
+use Rattle.rational.proofs.Laws.{le_refl, le_trans, le_of_lt, zero_mul, mul_comm, mul_one, mul_le_mul_right}
+use Rattle.rational.proofs.Integers.{nat_le}
+use Rattle.rational.proofs.Whole.{one_more_times, periods_high}
+use Rattle.rational.proofs.Linear.{with_atoms, with2, with3}
+use Rattle.upp_curve.specs.declared.affine_segment.line.Piece.{Piece}
+use Rattle.upp_curve.specs.declared.curve.Tail.{Tail}
+use Rattle.upp_curve.specs.declared.curve.Tail.TheVariants.{Periodic, Affine, Infinite}
+use Rattle.upp_curve.specs.Curve.{SpecCurve}
+use Rattle.upp_curve.specs.affine_segment.Pieces.{HasStart, StartsAtZero, RisesFrom}
+use Rattle.upp_curve.specs.Normal.{IsNormal}
+use Rattle.upp_curve.specs.Unrolled.{each_later, copies, upto, from, unrolled, unroll}
 use Rattle.flow_watch.specs.watch_laws.Breaks.{IsBreak}
 use Rattle.upp_normal.proofs.Below.{cut_at_start}
-use Rattle.upp_limits.specs.upp_curve.proofs.Normal.{start_in_upto, start_from_upto}
-use Rattle.upp_limits.specs.upp_curve.proofs.Unique.{upto_none}
+use Rattle.upp_curve.proofs.Normal.{start_in_upto, start_from_upto}
+use Rattle.upp_curve.proofs.Unique.{upto_none}
 use Rattle.upp_normal.proofs.UnrolledPieces.{periodic_starts}
-use Rattle.upp_limits.specs.upp_curve.proofs.affine_segment.PieceIn.{low_start}
+use Rattle.upp_curve.proofs.affine_segment.PieceIn.{low_start}
 
 start_parts : (x : ℚ) (ps qs : List Piece) → HasStart x (ps ++ qs) → HasStart x ps ⊎ HasStart x qs
 start_parts x [] qs h = inr h

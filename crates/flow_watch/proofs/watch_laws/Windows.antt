@@ -2,14 +2,14 @@
 -- and whose other end is such a time too, or is one of the curve's times away.
 use Rattle.std.specs.Prelude.{◌≡◌, ◌⊎◌, pos, List, [], ◌∷◌, ◌++◌, map}
 use Rattle.std.proofs.Common.{arith, sym, subst, inl, inr}
-use Rattle.upp_limits.specs.rational.specs.Rational.{ℚ, int, ◌+ℚ◌, ◌-ℚ◌, ◌*ℚ◌, ◌≤ℚ◌, ◌<ℚ◌}
-use Rattle.upp_limits.specs.rational.proofs.Laws.{le_refl, le_trans, le_or_lt, antisym, sub_mul, mul_sub}
-use Rattle.upp_limits.specs.rational.proofs.Linear.{with_atoms, with1, with2, with3, with4, sub_nonneg}
+use Rattle.rational.specs.Rational.{ℚ, int, ◌+ℚ◌, ◌-ℚ◌, ◌*ℚ◌, ◌≤ℚ◌, ◌<ℚ◌}
+use Rattle.rational.proofs.Laws.{le_refl, le_trans, le_or_lt, antisym, sub_mul, mul_sub}
+use Rattle.rational.proofs.Linear.{with_atoms, with1, with2, with3, with4, sub_nonneg}
 use Rattle.flow_watch.specs.watch_laws.Affine.{IsLineOn, NoneInside, IsAffineOff, EachTime, IsPiecewise}
 use Rattle.flow_watch.specs.watch_laws.Windows.{FallsShort, IsShort}
 use Rattle.flow_watch.proofs.watch_laws.Slides.{low_somewhere}
-use Rattle.upp_limits.specs.rational.proofs.Stretch.{not_earlier}
-use Rattle.net_model.specs.run_laws.proofs.Times.{each_time_map, each_time_append}
+use Rattle.rational.proofs.Stretch.{not_earlier}
+use Rattle.run_laws.proofs.Times.{each_time_map, each_time_append}
 
 -- ---- lists of times
 none-append : (x y : ℚ) (ls ms : List ℚ) → NoneInside x y (ls ++ ms) → NoneInside x y ls × NoneInside x y ms

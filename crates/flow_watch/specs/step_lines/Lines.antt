@@ -1,7 +1,7 @@
 -- Packets that keep a line in whole steps. Own choice.
 use Rattle.std.specs.Prelude.{ℕ, suc, pos, ◌<◌, ◌≤◌, List}
-use Rattle.upp_limits.specs.rational.specs.Rational.{ℚ, int, ◌+ℚ◌, ◌-ℚ◌, ◌*ℚ◌, ◌≤ℚ◌}
-use Rattle.net_model.specs.run_laws.specs.Cards.{whole}
+use Rattle.rational.specs.Rational.{ℚ, int, ◌+ℚ◌, ◌-ℚ◌, ◌*ℚ◌, ◌≤ℚ◌}
+use Rattle.run_laws.specs.Cards.{whole}
 use Rattle.flow_watch.specs.declared.watch_laws.entering.Entering.{Entering}
 use Rattle.flow_watch.specs.watch_laws.Entries.{entering, bits_between}
 

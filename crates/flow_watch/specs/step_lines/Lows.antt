@@ -1,6 +1,6 @@
 -- A tree of values in a list, in which the nodes 2 n and 2 n + 1 stand below node n. (A tournament tree; textbook.)
 use Rattle.std.specs.Prelude.{ℕ, zero, suc, pos, ◌<◌, ◌/◌, List, get_or}
-use Rattle.upp_limits.specs.rational.specs.Rational.{ℚ, int, ◌≤ℚ◌}
+use Rattle.rational.specs.Rational.{ℚ, int, ◌≤ℚ◌}
 
 -- the node so many rows above another; 0 above the root
 abbrev pub above : ℕ → ℕ → ℕ

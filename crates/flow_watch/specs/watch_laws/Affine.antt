@@ -1,7 +1,7 @@
 -- Functions of time that are affine but at some times. Textbook.
 use Rattle.std.specs.Prelude.{◌≡◌, ◌⊎◌, List, [], ◌∷◌}
-use Rattle.upp_limits.specs.rational.specs.Rational.{ℚ, ◌+ℚ◌, ◌-ℚ◌, ◌*ℚ◌, ◌≤ℚ◌}
-pub use Rattle.net_model.specs.run_laws.specs.Times.{EachTime, Among}
+use Rattle.rational.specs.Rational.{ℚ, ◌+ℚ◌, ◌-ℚ◌, ◌*ℚ◌, ◌≤ℚ◌}
+pub use Rattle.run_laws.specs.Times.{EachTime, Among}
 
 -- from x to y the function is a line of slope r
 abbrev pub IsLineOn : (ℚ → ℚ) → ℚ → ℚ → ℚ → Type 0

@@ -1,14 +1,14 @@
 -- What a run breaks, and what it breaks first.
 use Rattle.std.specs.Prelude.{◌≡◌, ◌⊎◌, ◌<◌, ℕ, true, List, [], ◌∷◌, length}
-use Rattle.upp_limits.specs.rational.specs.Rational.{ℚ, ◌-ℚ◌, ◌<ℚ◌}
-use Rattle.upp_limits.specs.rational.specs.Extended.{Ext, ◌<ₑ◌, ◌+ₑ◌}
-use Rattle.upp_limits.specs.rational.specs.declared.Extended.TheVariants.{Fin}
-use Rattle.upp_limits.specs.upp_curve.specs.Curve.{SpecCurve, value_at}
-use Rattle.net_model.specs.run_laws.specs.Runs.{SpecRun}
-use Rattle.net_model.specs.run_laws.specs.Cards.{all, whole, ServerStep}
-use Rattle.net_model.specs.run_laws.specs.Counts.{worked}
-use Rattle.net_model.specs.run_laws.specs.Routes.{Routes, route_of}
-use Rattle.net_model.specs.run_laws.specs.Views.{view}
+use Rattle.rational.specs.Rational.{ℚ, ◌-ℚ◌, ◌<ℚ◌}
+use Rattle.rational.specs.Extended.{Ext, ◌<ₑ◌, ◌+ₑ◌}
+use Rattle.rational.specs.declared.Extended.TheVariants.{Fin}
+use Rattle.upp_curve.specs.Curve.{SpecCurve, value_at}
+use Rattle.run_laws.specs.Runs.{SpecRun}
+use Rattle.run_laws.specs.Cards.{all, whole, ServerStep}
+use Rattle.run_laws.specs.Counts.{worked}
+use Rattle.run_laws.specs.Routes.{Routes, route_of}
+use Rattle.run_laws.specs.Views.{view}
 use Rattle.net_model.specs.declared.breach.Breach.{Breach}
 use Rattle.net_model.specs.declared.breach.Breach.TheVariants.{Size, Arrival, Service}
 use Rattle.flow_watch.specs.watch_laws.Breaks.{IsBreak}

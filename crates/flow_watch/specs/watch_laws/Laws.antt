@@ -1,23 +1,23 @@
 -- That a run breaks a premise exactly where it has a breach; and the two laws on which that stands.
 use Rattle.std.specs.Prelude.{◌≡◌, ◌↔◌, ◌⊎◌, ◌<◌, ℕ, true, List, length}
-use Rattle.upp_limits.specs.rational.specs.Rational.{ℚ, ◌-ℚ◌, ◌≤ℚ◌, ◌<ℚ◌}
-use Rattle.upp_limits.specs.rational.specs.Extended.{Ext, ◌≤ₑ◌, ◌<ₑ◌, ◌+ₑ◌}
-use Rattle.upp_limits.specs.rational.specs.declared.Extended.TheVariants.{Fin}
-use Rattle.upp_limits.specs.upp_curve.specs.Curve.{SpecCurve, value_at}
-use Rattle.upp_limits.specs.min_plus.specs.Functions.{IsFinite, IsRising, IsNonnegative}
-use Rattle.upp_limits.specs.min_plus.specs.Continuity.{IsContinuous}
-use Rattle.upp_limits.specs.upp_curve.specs.affine_segment.Pieces.{HasStart}
-use Rattle.upp_limits.specs.upp_curve.specs.Normal.{IsNormal}
-use Rattle.upp_limits.specs.upp_curve.specs.Unrolled.{unroll}
-use Rattle.net_model.specs.run_laws.specs.Runs.{SpecRun}
-use Rattle.net_model.specs.run_laws.specs.Cards.{all, ServerStep}
-use Rattle.net_model.specs.run_laws.specs.Counts.{worked}
-use Rattle.net_model.specs.run_laws.specs.Servers.{Server}
-use Rattle.net_model.specs.run_laws.specs.Allows.{IsLawfulView}
-use Rattle.net_model.specs.run_laws.specs.Premises.{KeepsService, IsZeroAtStart}
-use Rattle.net_model.specs.run_laws.specs.Routes.{Routes, route_of}
-use Rattle.net_model.specs.run_laws.specs.Lawful.{IsLawful}
-use Rattle.net_model.specs.run_laws.specs.RunPremises.{entered_in, KeepsPremises}
+use Rattle.rational.specs.Rational.{ℚ, ◌-ℚ◌, ◌≤ℚ◌, ◌<ℚ◌}
+use Rattle.rational.specs.Extended.{Ext, ◌≤ₑ◌, ◌<ₑ◌, ◌+ₑ◌}
+use Rattle.rational.specs.declared.Extended.TheVariants.{Fin}
+use Rattle.upp_curve.specs.Curve.{SpecCurve, value_at}
+use Rattle.min_plus.specs.Functions.{IsFinite, IsRising, IsNonnegative}
+use Rattle.min_plus.specs.Continuity.{IsContinuous}
+use Rattle.upp_curve.specs.affine_segment.Pieces.{HasStart}
+use Rattle.upp_curve.specs.Normal.{IsNormal}
+use Rattle.upp_curve.specs.Unrolled.{unroll}
+use Rattle.run_laws.specs.Runs.{SpecRun}
+use Rattle.run_laws.specs.Cards.{all, ServerStep}
+use Rattle.run_laws.specs.Counts.{worked}
+use Rattle.run_laws.specs.Servers.{Server}
+use Rattle.run_laws.specs.Allows.{IsLawfulView}
+use Rattle.run_laws.specs.Premises.{KeepsService, IsZeroAtStart}
+use Rattle.run_laws.specs.Routes.{Routes, route_of}
+use Rattle.run_laws.specs.Lawful.{IsLawful}
+use Rattle.run_laws.specs.RunPremises.{entered_in, KeepsPremises}
 use Rattle.net_model.specs.declared.breach.Breach.{Breach}
 use Rattle.flow_watch.specs.watch_laws.Breaks.{IsBreak}
 use Rattle.flow_watch.specs.watch_laws.Windows.{IsPair}

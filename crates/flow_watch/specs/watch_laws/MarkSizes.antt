@@ -1,9 +1,9 @@
 -- Where marks stand and how large they are, by the sizes of a gauge below 2 ^ 120 whose window ends with the run: no
 -- step of a scan is too wide. Own choice.
 use Rattle.std.specs.Prelude.{Option, Some, None, pos}
-use Rattle.upp_limits.specs.rational.specs.Rational.{ℚ, int, ◌-ℚ◌, ◌*ℚ◌, ◌≤ℚ◌, neg_ℚ}
-use Rattle.upp_limits.specs.rational.specs.Grid.{Whole, Within}
-use Rattle.upp_limits.specs.rational.specs.Ratio.{IsSmall, SumFits}
+use Rattle.rational.specs.Rational.{ℚ, int, ◌-ℚ◌, ◌*ℚ◌, ◌≤ℚ◌, neg_ℚ}
+use Rattle.rational.specs.Grid.{Whole, Within}
+use Rattle.rational.specs.Ratio.{IsSmall, SumFits}
 use Rattle.upp_limits.specs.Limits.{Sizes}
 use Rattle.upp_limits.specs.Sized.{IsSlope, grid_of, times_largest}
 use Rattle.upp_normal.specs.Operand.{AreLimited}

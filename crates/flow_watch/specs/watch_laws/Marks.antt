@@ -1,7 +1,7 @@
 -- Pairs of marks: two times so far apart, of which the later has too small a key. Own choice.
 use Rattle.std.specs.Prelude.{◌≡◌, ◌⊎◌, List, [], ◌∷◌, Option, Some, None}
-use Rattle.upp_limits.specs.rational.specs.Rational.{ℚ, ◌+ℚ◌, ◌≤ℚ◌, ◌<ℚ◌}
-use Rattle.upp_limits.specs.rational.specs.Ratio.{SumFits}
+use Rattle.rational.specs.Rational.{ℚ, ◌+ℚ◌, ◌≤ℚ◌, ◌<ℚ◌}
+use Rattle.rational.specs.Ratio.{SumFits}
 use Rattle.flow_watch.specs.declared.watch_laws.mark.Mark.{Mark}
 use Rattle.flow_watch.specs.declared.watch_laws.mark.Rule.{Rule}
 

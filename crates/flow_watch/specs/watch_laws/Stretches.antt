@@ -1,10 +1,10 @@
 -- The stretches through which a server has work, and its watch points: the times between which windows are looked at.
 -- (Own choice; that these suffice is the law `watch_points_suffice`.)
 use Rattle.std.specs.Prelude.{◌≡◌, ◌⊎◌, List}
-use Rattle.upp_limits.specs.rational.specs.Rational.{ℚ, ◌-ℚ◌, ◌≤ℚ◌, ◌<ℚ◌}
-use Rattle.net_model.specs.run_laws.specs.Cards.{all, ServerStep}
-use Rattle.net_model.specs.run_laws.specs.Counts.{arrived, worked}
-use Rattle.net_model.specs.run_laws.specs.Premises.{IsBusy}
+use Rattle.rational.specs.Rational.{ℚ, ◌-ℚ◌, ◌≤ℚ◌, ◌<ℚ◌}
+use Rattle.run_laws.specs.Cards.{all, ServerStep}
+use Rattle.run_laws.specs.Counts.{arrived, worked}
+use Rattle.run_laws.specs.Premises.{IsBusy}
 use Rattle.flow_watch.specs.watch_laws.Paces.{IsPaceChange}
 
 -- from u to e something that has arrived is still to be worked, and the two are as far apart as may be: at u all that

@@ -1,18 +1,18 @@
 //! The value of a curve at a time of a window.
 
 ghost use Rattle.std.specs.Prelude.{◌≡◌, ◌↔◌, IsTrue};
-ghost use Rattle.upp_limits.specs.rational.specs.Rational.{◌-ℚ◌, ◌+ℚ◌, ◌≤ℚ◌};
-ghost use Rattle.upp_limits.specs.rational.specs.Extended.{◌+ₑ◌};
-ghost use Rattle.upp_limits.specs.upp_curve.specs.Curve.{value_at};
-ghost use Rattle.upp_limits.specs.upp_curve.specs.Curves.{IsCurve};
-ghost use Rattle.upp_limits.specs.upp_curve.specs.Readable.{SumFitsAt};
+ghost use Rattle.rational.specs.Rational.{◌-ℚ◌, ◌+ℚ◌, ◌≤ℚ◌};
+ghost use Rattle.rational.specs.Extended.{◌+ₑ◌};
+ghost use Rattle.upp_curve.specs.Curve.{value_at};
+ghost use Rattle.upp_curve.specs.Curves.{IsCurve};
+ghost use Rattle.upp_curve.specs.Readable.{SumFitsAt};
 ghost use Rattle.upp_normal.specs.Unrolling.{IsOperandTo};
 ghost use Rattle.flow_watch.specs.curve_values.Early.{IsEarly};
 
-use upp_limits::fraction128::{Ext, Frac, difference, is_less, sum};
-use upp_limits::rational::Extended;
-use upp_limits::upp_curve::affine_segment::read;
-use upp_limits::upp_curve::{Curve, Tail};
+use fraction128::{Ext, Frac, difference, is_less, sum};
+use rational::Extended;
+use upp_curve::affine_segment::read;
+use upp_curve::{Curve, Tail};
 use upp_normal::stretch_at;
 
 /// Whether a time is before the end of a curve's first period, where it has one.

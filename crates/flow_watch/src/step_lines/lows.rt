@@ -1,10 +1,10 @@
 //! The least of many values that fall, between two places of them: a tree in which each node is at most the nodes below it.
 
 ghost use Rattle.std.specs.Prelude.{ℕ, ◌<◌, ◌≤◌, length};
-ghost use Rattle.upp_limits.specs.rational.specs.Rational.{ℚ, ◌≤ℚ◌};
+ghost use Rattle.rational.specs.Rational.{ℚ, ◌≤ℚ◌};
 ghost use Rattle.flow_watch.specs.step_lines.Lows.{Covers};
 
-use upp_limits::fraction128::{Frac, lesser};
+use fraction128::{Frac, lesser};
 
 /// Lowers a leaf and all nodes above it to at most a value. Node 1 is the root; the nodes 2 n and 2 n + 1 stand below node n.
 pub(crate) fn lower(nodes: &mut [Frac], leaf: usize, value: Frac)

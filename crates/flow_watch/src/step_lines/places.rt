@@ -2,17 +2,17 @@
 
 ghost use Rattle.std.specs.Prelude.{◌≡◌, ℕ, ◌*◌, ◌<◌, ◌≤◌, ◌^◌, pos, length, IfOk, IfSome, IsTrue};
 ghost use Rattle.std.specs.List.Sorted.{IsSorted};
-ghost use Rattle.upp_limits.specs.rational.specs.Ratio.{cmp_q};
-ghost use Rattle.upp_limits.specs.rational.specs.Rational.{ℚ, int, ◌+ℚ◌, ◌≤ℚ◌, ◌<ℚ◌, lt_q, le_q};
-ghost use Rattle.net_model.specs.run_laws.specs.Cards.{whole};
+ghost use Rattle.rational.specs.Ratio.{cmp_q};
+ghost use Rattle.rational.specs.Rational.{ℚ, int, ◌+ℚ◌, ◌≤ℚ◌, ◌<ℚ◌, lt_q, le_q};
+ghost use Rattle.run_laws.specs.Cards.{whole};
 ghost use Rattle.flow_watch.specs.step_lines.Lines.{KeepsLine};
 ghost use Rattle.flow_watch.specs.step_lines.Lows.{Covers};
 ghost use Rattle.flow_watch.specs.step_lines.Places.{IsFill, IsBetween, IsPlaced, ArePlaced, KeepPlaces, IsIn};
 
 use crate::step_lines::lows::{least_between, lower};
 use crate::watch_laws::Entering;
+use fraction128::{Frac, Wide, greater, is_less, lesser};
 use std::alloc::{AllocError, Global};
-use upp_limits::fraction128::{Frac, Wide, greater, is_less, lesser};
 
 /// How many whole steps an amount fills, and what part of one more.
 #[derive(Clone, Copy)]

@@ -1,4 +1,4 @@
-use upp_limits::fraction128::Frac;
+use fraction128::Frac;
 
 /// A packet that enters, in bits.
 #[derive(Debug, Clone, Copy)]

@@ -1,4 +1,4 @@
-use upp_limits::fraction128::Frac;
+use fraction128::Frac;
 
 /// A time, with a number for pairs that start there and one for pairs that end there.
 #[derive(Debug, Clone, Copy)]

@@ -1,4 +1,4 @@
-use upp_limits::fraction128::Frac;
+use fraction128::Frac;
 
 /// A time, and the work done up to it.
 #[derive(Debug, Clone, Copy)]

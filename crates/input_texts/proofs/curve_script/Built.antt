@@ -3,7 +3,7 @@ use Rattle.std.proofs.Common.{◌≡◌, ℕ, zero, suc, ◌<◌, ◌≤◌, Lis
 use Rattle.std.specs.Prelude.{option_map}
 use Rattle.std.proofs.lemmas.List.{append_assoc}
 use Rattle.std.proofs.lemmas.Bool.{cases_lt}
-use Rattle.min_plus.specs.rational.specs.Rational.{ℚ}
+use Rattle.rational.specs.Rational.{ℚ}
 use Rattle.input_texts.specs.declared.curve_script.token.Sign.TheVariants.{Close, Comma, Equals}
 use Rattle.input_texts.specs.declared.curve_script.keyword.Keyword.{Keyword}
 use Rattle.input_texts.specs.declared.curve_script.keyword.Keyword.TheVariants as words

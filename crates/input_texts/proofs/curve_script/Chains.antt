@@ -4,7 +4,7 @@ use Rattle.std.specs.Prelude.{option_map}
 use Rattle.input_texts.specs.declared.curve_script.keyword.Keyword.{Keyword}
 use Rattle.input_texts.specs.curve_script.Tokens.{Token}
 use Rattle.input_texts.specs.curve_script.Keywords.{keyword_of}
-use Rattle.min_plus.specs.rational.specs.Rational.{ℚ}
+use Rattle.rational.specs.Rational.{ℚ}
 use Rattle.input_texts.specs.curve_script.Grammar.{Expression, Named, Nought}
 use Rattle.input_texts.specs.curve_script.Shapes.{is_name_text}
 use Rattle.input_texts.specs.curve_script.Building.{Made, ◌>>=◌, next_word, begin_with, zero_or, is_zero, name_if, build, call_from, calls}

@@ -3,7 +3,7 @@ use Rattle.std.proofs.Common.{◌≡◌, ℕ, suc, ◌<◌, ◌≤◌, List, [],
 use Rattle.std.specs.Prelude.{is_some, max}
 use Rattle.std.proofs.lemmas.List.{append-nil}
 use Rattle.std.proofs.lemmas.Bool.{cases_lt}
-use Rattle.min_plus.specs.rational.specs.Rational.{ℚ}
+use Rattle.rational.specs.Rational.{ℚ}
 use Rattle.input_texts.specs.declared.curve_script.shape.Symbol.TheVariants.{Statement as Whole}
 use Rattle.input_texts.specs.declared.curve_script.fault.LangKind.TheVariants.{C2, C3, C4}
 use Rattle.input_texts.specs.curve_script.Tokens.{Token, Says}

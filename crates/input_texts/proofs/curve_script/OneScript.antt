@@ -1,7 +1,7 @@
 -- A text is one script at most, and none where it has a fault.
 use Rattle.std.proofs.Common.{◌≡◌, ℕ, suc, ◌+◌, ◌<◌, ◌≤◌, List, [], ◌∷◌, ◌++◌, Some, Bool, true, false, sym, ap, ap₂, ◌∙◌, subst, arith, ⊎_elim}
 use Rattle.std.specs.Prelude.{is_some, MatchBool, ◌⊎◌}
-use Rattle.min_plus.specs.rational.specs.Rational.{ℚ}
+use Rattle.rational.specs.Rational.{ℚ}
 use Rattle.input_texts.specs.declared.curve_script.shape.Symbol.TheVariants.{Statement as Whole}
 use Rattle.input_texts.specs.declared.curve_script.fault.LangKind.{LangKind}
 use Rattle.input_texts.specs.declared.curve_script.fault.LangKind.TheVariants.{C1, C2, C3, C4, C5, C6, C7, C8, TooMany, TooWide, NoMemory}

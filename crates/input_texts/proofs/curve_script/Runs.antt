@@ -2,7 +2,7 @@
 use Rattle.std.proofs.Common.{◌≡◌, ℕ, ◌+◌, ◌<◌, List, [], ◌∷◌, ◌++◌, length, drop, get_or, map, reverse, Some, None, Bool, refl, sym, ap, ◌∙◌, arith}
 use Rattle.std.specs.Prelude.{is_some, is_ok, ◌&&◌, Result, Ok, Err}
 use Rattle.std.proofs.lemmas.List.{reverse-append, length-reverse, drop_more, drop-map}
-use Rattle.min_plus.specs.rational.specs.Rational.{ℚ}
+use Rattle.rational.specs.Rational.{ℚ}
 use Rattle.fraction128.specs.declared.fault.FracText.{FracText}
 use Rattle.input_texts.specs.declared.curve_script.shape.Symbol.{Symbol}
 use Rattle.input_texts.specs.declared.curve_script.token.Token.{Token as CodeToken}

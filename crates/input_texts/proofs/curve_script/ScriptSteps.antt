@@ -5,7 +5,7 @@ use Rattle.std.proofs.lemmas.Bool.{eq-eqb, ne_eqb}
 use Rattle.std.proofs.lemmas.List.{append_assoc, length-append, drop-drop}
 use Rattle.std.specs.List.{slice_range}
 use Rattle.std.proofs.Math.Seq.{drop-cons}
-use Rattle.min_plus.specs.rational.specs.Rational.{ℚ}
+use Rattle.rational.specs.Rational.{ℚ}
 use Rattle.input_texts.specs.declared.curve_script.fault.LangKind.{LangKind}
 use Rattle.input_texts.specs.declared.curve_script.fault.LangFault.{LangFault}
 use Rattle.input_texts.specs.curve_script.Grammar.{Statement}

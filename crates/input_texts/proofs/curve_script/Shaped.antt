@@ -2,7 +2,7 @@
 use Rattle.std.proofs.Common.{◌≡◌, ℕ, List, [], ◌∷◌, ◌++◌, Option, Some, None, Bool, true, false, refl, sym, ap, ◌∙◌, subst}
 use Rattle.std.specs.Prelude.{◌&&◌, is_some, option_map}
 use Rattle.std.proofs.lemmas.List.{append_assoc, append-nil}
-use Rattle.min_plus.specs.rational.specs.Rational.{ℚ}
+use Rattle.rational.specs.Rational.{ℚ}
 use Rattle.input_texts.specs.declared.curve_script.token.Sign.{Sign}
 use Rattle.input_texts.specs.declared.curve_script.token.Sign.TheVariants as signs
 use Rattle.input_texts.specs.declared.curve_script.shape.Symbol.{Symbol}

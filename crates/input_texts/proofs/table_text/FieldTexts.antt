@@ -2,10 +2,10 @@
 use Rattle.std.proofs.Common.{◌≡◌, ℕ, zero, suc, ℤ, pos, neg_ℤ, ◌^◌, ◌-◌, ◌≤◌, ◌<◌, nat_lt, min, Bool, true, false, List, Option, None, refl, sym, ap, subst, arith, ◌∙◌}
 use Rattle.std.specs.Str.Parse.{digits_value, starts_with_minus}
 use Rattle.std.proofs.lemmas.Bool.Decides.{nat_tests}
-use Rattle.min_plus.specs.rational.specs.Gauge.{cap}
-use Rattle.min_plus.specs.rational.specs.Rational.{ℚ, lt_q, ◌≤ℚ◌}
-use Rattle.min_plus.specs.rational.proofs.Over.{lt_q_out}
-use Rattle.min_plus.specs.rational.proofs.Laws.{le_of_not_lt}
+use Rattle.rational.specs.Gauge.{cap}
+use Rattle.rational.specs.Rational.{ℚ, lt_q, ◌≤ℚ◌}
+use Rattle.rational.proofs.Over.{lt_q_out}
+use Rattle.rational.proofs.Laws.{le_of_not_lt}
 use Rattle.min_plus.specs.Functions.{zero_q}
 use Rattle.fraction128.specs.Text.{signed_value, is_numeral, unsigned_text}
 use Rattle.input_texts.specs.table_text.Fields.{in_64_bits, whole_in}

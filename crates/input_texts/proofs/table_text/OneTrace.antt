@@ -3,8 +3,8 @@ use Rattle.std.proofs.Common.{Bool, true, false, true≢false, le_refl, sub-eq-z
 use Rattle.std.proofs.lemmas.Bool.{cases_order}
 use Rattle.std.proofs.lemmas.Option.{slice_get_within, get_or_from_slice_get}
 use Rattle.std.proofs.lemmas.List.{get_or_append_left, get_or-append_right}
-use Rattle.min_plus.specs.rational.specs.Rational.{◌≤ℚ◌}
-use Rattle.min_plus.specs.rational.proofs.Laws.{lt_irrefl, lt_le_trans}
+use Rattle.rational.specs.Rational.{◌≤ℚ◌}
+use Rattle.rational.proofs.Laws.{lt_irrefl, lt_le_trans}
 use Rattle.net_model.specs.declared.trace.TracePacket.{TracePacket}
 use Rattle.net_model.specs.declared.trace.Stall.{Stall}
 use Rattle.net_model.specs.Networks.{Net}

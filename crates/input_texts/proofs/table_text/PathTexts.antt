@@ -8,7 +8,7 @@ use Rattle.std.specs.Str.Parse.{digits_value}
 use Rattle.std.proofs.lemmas.Bool.{eq-eqb, ne_eqb}
 use Rattle.std.proofs.lemmas.Bool.Decides.{nat_tests}
 use Rattle.std.proofs.lemmas.Str.{IsUtf8-from_ascii}
-use Rattle.min_plus.specs.rational.specs.Gauge.{cap}
+use Rattle.rational.specs.Gauge.{cap}
 use Rattle.fraction128.specs.Text.{is_numeral}
 use Rattle.net_model.specs.Names.{is_name_byte}
 use Rattle.input_texts.specs.declared.table_text.fault.TableKind.{TableKind}

@@ -4,7 +4,7 @@ use Rattle.input_texts.specs.declared.table_text.fault.TableKind.{TableKind}
 use Rattle.input_texts.specs.declared.table_text.fault.TableKind.TheVariants.{T1, T2, T3, T4, NoMemory}
 use Rattle.input_texts.specs.declared.table_text.trace_rows.TraceWord.{TraceWord}
 use Rattle.input_texts.specs.declared.table_text.trace_rows.TraceWord.TheVariants as words
-use Rattle.min_plus.specs.rational.specs.Rational.{lt_q}
+use Rattle.rational.specs.Rational.{lt_q}
 use Rattle.net_model.specs.Networks.{Net}
 use Rattle.input_texts.specs.table_text.Rows.{Row, Read, and_then, field, is_plain}
 use Rattle.input_texts.specs.table_text.Fields.{number_in, time_in, bits_in}

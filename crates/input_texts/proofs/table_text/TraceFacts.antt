@@ -1,9 +1,9 @@
 -- Rows of a trace.
 use Rattle.std.proofs.Common.{⊎_elim, eq-or-lt_of_le, Ok, ◌≡◌, ℕ, ◌-◌, true, false, List, length, slice_get, get_or, Some, None, All, AllPairs, refl, sym, ap, subst, arith, inr, ◌∙◌}
 use Rattle.std.proofs.lemmas.Option.{slice_get_within, get_or_from_slice_get}
-use Rattle.min_plus.specs.rational.specs.Rational.{ℚ, lt_q, ◌≤ℚ◌}
-use Rattle.min_plus.specs.rational.proofs.Over.{lt_q_out, lt_q_in}
-use Rattle.min_plus.specs.rational.proofs.Laws.{le_trans, le_of_not_lt}
+use Rattle.rational.specs.Rational.{ℚ, lt_q, ◌≤ℚ◌}
+use Rattle.rational.proofs.Over.{lt_q_out, lt_q_in}
+use Rattle.rational.proofs.Laws.{le_trans, le_of_not_lt}
 use Rattle.net_model.specs.declared.trace.TracePacket.{TracePacket}
 use Rattle.net_model.specs.Networks.{Net}
 use Rattle.net_model.specs.Names.{IsServerNamed, IsFlowNamed, FindsServer, FindsFlow}

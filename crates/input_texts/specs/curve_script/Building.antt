@@ -1,6 +1,6 @@
 -- How a statement is made of tokens. `Grammar` says what it has to be.
 use Rattle.std.specs.Prelude.{◌≡◌, ℕ, zero, suc, List, [], ◌∷◌, Option, Some, None, Bool, true, false, option_map}
-use Rattle.min_plus.specs.rational.specs.Rational.{ℚ}
+use Rattle.rational.specs.Rational.{ℚ}
 use Rattle.input_texts.specs.declared.curve_script.token.Sign.{Sign}
 use Rattle.input_texts.specs.declared.curve_script.token.Sign.TheVariants.{Open, Close, Comma, Equals}
 use Rattle.input_texts.specs.declared.curve_script.keyword.Keyword.{Keyword}

@@ -1,7 +1,7 @@
 -- What a statement is spelt like. Numbers are of any type: in a draft they are words as they stand. (Own choice.)
 use Rattle.std.specs.Prelude.{◌≡◌, ◌≢◌, ℕ, suc, ◌<◌, ◌≤◌, max, List, [], ◌∷◌, ◌++◌, length, Option, Some, None, Bool, ◌||◌, ◌==◌, true, option_map, Result, Ok, Err}
 use Rattle.std.specs.List.{list_all}
-use Rattle.min_plus.specs.rational.specs.Rational.{ℚ}
+use Rattle.rational.specs.Rational.{ℚ}
 use Rattle.fraction128.specs.Text.{parse_of}
 use Rattle.fraction128.specs.declared.fault.FracText.{FracText}
 use Rattle.input_texts.specs.declared.curve_script.token.Sign.TheVariants.{Open, Close, Comma, Equals}

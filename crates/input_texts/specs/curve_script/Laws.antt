@@ -1,6 +1,6 @@
 -- Laws of scripts. (Own choice.)
 use Rattle.std.specs.Prelude.{◌≡◌, ℕ, List}
-use Rattle.min_plus.specs.rational.specs.Rational.{ℚ}
+use Rattle.rational.specs.Rational.{ℚ}
 use Rattle.input_texts.specs.declared.curve_script.fault.LangKind.{LangKind}
 use Rattle.input_texts.specs.curve_script.Tokens.{Token, Says}
 use Rattle.input_texts.specs.curve_script.Grammar.{Statement}

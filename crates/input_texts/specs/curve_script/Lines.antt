@@ -1,7 +1,7 @@
 -- Lines of a script, and what is wrong with one. (Own choice.)
 use Rattle.std.specs.Prelude.{◌≡◌, ℕ, ◌<◌, ◌≤◌, List, [], ◌∷◌, Some, None, Bool, true, false, ◌||◌, ◌==◌}
 use Rattle.std.specs.List.{list_all}
-use Rattle.min_plus.specs.rational.specs.Rational.{ℚ}
+use Rattle.rational.specs.Rational.{ℚ}
 use Rattle.input_texts.specs.plain_text.Plain.{is_plain}
 use Rattle.input_texts.specs.declared.curve_script.fault.LangKind.{LangKind}
 use Rattle.input_texts.specs.declared.curve_script.fault.LangKind.TheVariants.{C1, C2, C3, C4, C5, C6, C7, C8, TooMany, TooWide, NoMemory}

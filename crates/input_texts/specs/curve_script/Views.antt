@@ -1,6 +1,6 @@
 -- Statements and expressions apart from where they lie in memory.
 use Rattle.std.specs.String.{string_bytes}
-use Rattle.min_plus.specs.rational.specs.Rational.{ℚ}
+use Rattle.rational.specs.Rational.{ℚ}
 use Rattle.input_texts.specs.declared.curve_script.script.Expr.{Expr}
 use Rattle.input_texts.specs.declared.curve_script.script.Expr.TheVariants.{Name, Zero, OfPair, OfTriple, OnCurve', OnNumber', OnTwo'}
 use Rattle.input_texts.specs.declared.curve_script.script.Stat.{Stat}

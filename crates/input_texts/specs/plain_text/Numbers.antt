@@ -1,7 +1,7 @@
 -- How a number that may be infinite is written. (Own choice.)
 use Rattle.std.specs.Prelude.{ℕ, List, codes}
-use Rattle.min_plus.specs.rational.specs.Extended.{Ext}
-use Rattle.min_plus.specs.rational.specs.declared.Extended.TheVariants.{Fin, Inf}
+use Rattle.rational.specs.Extended.{Ext}
+use Rattle.rational.specs.declared.Extended.TheVariants.{Fin, Inf}
 use Rattle.fraction128.specs.Text.{text_of}
 
 -- a whole number, or a fraction in lowest terms, or `unbounded` for infinity

@@ -1,7 +1,7 @@
 -- Rows of an edit list: a word, and what the word asks for. Own choice.
 use Rattle.std.specs.Prelude.{◌≡◌, ℕ, ℤ, List, Option, Some, None, ok_or, option_and_then, option_map, map, Result, Ok, Err, not, ◌==◌, length, codes, string_bytes, if◌then◌else◌}
 use Rattle.std.specs.Str.{bytes_eq}
-use Rattle.min_plus.specs.rational.specs.Rational.{ℚ}
+use Rattle.rational.specs.Rational.{ℚ}
 use Rattle.net_model.specs.declared.edit.Edit.{Edit}
 use Rattle.net_model.specs.declared.edit.Edit.TheVariants as edit
 use Rattle.input_texts.specs.declared.table_text.fault.TableKind.{TableKind}

@@ -3,7 +3,7 @@ use Rattle.std.specs.Prelude.{ℕ, ℤ, pos, negsuc, List, Option, Some, None, �
 use Rattle.std.specs.Option.{option_and_then}
 use Rattle.std.specs.Result.{result_ok}
 use Rattle.std.specs.Str.Parse.{digits_value, starts_with_minus}
-use Rattle.min_plus.specs.rational.specs.Rational.{ℚ, lt_q}
+use Rattle.rational.specs.Rational.{ℚ, lt_q}
 use Rattle.min_plus.specs.Functions.{zero_q}
 use Rattle.fraction128.specs.Text.{parse_of, is_numeral, unsigned_text, signed_value}
 

@@ -1,6 +1,6 @@
 -- What entries of a trace keep, and what one row adds: what the loop over the rows is proved by.
 use Rattle.std.specs.Prelude.{◌≡◌, ℕ, ◌<◌, List, [], ◌∷◌, ◌++◌, All}
-use Rattle.min_plus.specs.rational.specs.Rational.{◌≤ℚ◌}
+use Rattle.rational.specs.Rational.{◌≤ℚ◌}
 use Rattle.net_model.specs.declared.trace.TracePacket.{TracePacket}
 use Rattle.net_model.specs.declared.trace.Stall.{Stall}
 use Rattle.net_model.specs.Networks.{Net}

@@ -1,7 +1,7 @@
 -- Rows of a trace: `packet,TIME,FLOW,BITS` and `stall,SERVER,FROM,TO`. Own choice.
 use Rattle.std.specs.Prelude.{◌≡◌, ℕ, List, Option, Some, None, ok_or, Ok, Err, not, ◌==◌, length, codes, if◌then◌else◌, ◌⊎◌}
 use Rattle.std.specs.Str.{bytes_eq}
-use Rattle.min_plus.specs.rational.specs.Rational.{ℚ, lt_q}
+use Rattle.rational.specs.Rational.{ℚ, lt_q}
 use Rattle.net_model.specs.Networks.{Net}
 use Rattle.net_model.specs.Names.{IsServerNamed, IsFlowNamed, FindsServer, FindsFlow}
 use Rattle.input_texts.specs.declared.table_text.fault.TableKind.{TableKind}

@@ -2,7 +2,7 @@
 
 ghost use Rattle.std.specs.Prelude.{◌≡◌, ◌≤◌, IfSome};
 ghost use Rattle.std.specs.Str.Parse.{starts_with_minus};
-ghost use Rattle.min_plus.specs.rational.specs.Rational.{◌≤ℚ◌};
+ghost use Rattle.rational.specs.Rational.{◌≤ℚ◌};
 ghost use Rattle.fraction128.specs.Text.{unsigned_text, signed_value};
 ghost use Rattle.min_plus.specs.Functions.{zero_q};
 ghost use Rattle.net_model.specs.Accepted.{IsLength};

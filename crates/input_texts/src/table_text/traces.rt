@@ -1,7 +1,7 @@
 //! Traces from their text.
 
 ghost use Rattle.std.specs.Prelude.{◌≡◌, ◌⊎◌, ◌++◌, ◌∷◌, [], true, false, All, AllPairs, IfOk, IfErr, OnOk};
-ghost use Rattle.min_plus.specs.rational.specs.Rational.{◌≤ℚ◌};
+ghost use Rattle.rational.specs.Rational.{◌≤ℚ◌};
 ghost use Rattle.csv.specs.Records.{fields_of};
 ghost use Rattle.net_model.specs.Traces.{IsTracePacket, IsStall};
 ghost use Rattle.input_texts.specs.declared.table_text.fault.TableKind.TheVariants.{T6, NoMemory};

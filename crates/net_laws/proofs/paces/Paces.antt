@@ -3,11 +3,11 @@
 use Rattle.std.specs.Prelude.{Option, Some, None, ◌≡◌, ℕ, pos, true, ◌&&◌, List, [], ◌∷◌}
 use Rattle.std.proofs.Common.{arith, sym, ◌∙◌, refl, inl, inr, subst}
 use Rattle.std.proofs.lemmas.Bool.{cases_Bool, and_parts, and_right}
-use Rattle.min_plus.specs.rational.specs.Rational.{ℚ, int, ◌+ℚ◌, ◌-ℚ◌, ◌*ℚ◌, ◌≤ℚ◌, ◌<ℚ◌, le_q}
-use Rattle.min_plus.specs.rational.proofs.Over.{le_q_in}
-use Rattle.min_plus.specs.rational.proofs.MinMax.{le_q_not}
-use Rattle.min_plus.specs.rational.proofs.Laws.{le_refl, le_trans, le_or_lt, mul_nonneg, mul_sub}
-use Rattle.min_plus.specs.rational.proofs.Linear.{with1, with2, with3, with4, with5, with6}
+use Rattle.rational.specs.Rational.{ℚ, int, ◌+ℚ◌, ◌-ℚ◌, ◌*ℚ◌, ◌≤ℚ◌, ◌<ℚ◌, le_q}
+use Rattle.rational.proofs.Over.{le_q_in}
+use Rattle.rational.proofs.MinMax.{le_q_not}
+use Rattle.rational.proofs.Laws.{le_refl, le_trans, le_or_lt, mul_nonneg, mul_sub}
+use Rattle.rational.proofs.Linear.{with1, with2, with3, with4, with5, with6}
 use Rattle.run_laws.specs.Cards.{Card, size, whole, Class, ServerStep, Arrives, Works, Leaves, Visits}
 use Rattle.run_laws.specs.Servers.{Server, Under, ServerState, done_so_far, done, start}
 use Rattle.run_laws.specs.Next.{next}

@@ -2,10 +2,10 @@
 use Rattle.std.specs.Prelude.{◌≡◌, ◌&&◌, true, ℕ}
 use Rattle.std.proofs.Common.{arith, refl}
 use Rattle.std.proofs.lemmas.Bool.{and_from}
-use Rattle.min_plus.specs.rational.specs.Rational.{◌+ℚ◌, ◌-ℚ◌, ◌*ℚ◌, ◌≤ℚ◌, le_q}
-use Rattle.min_plus.specs.rational.proofs.Over.{le_q_out}
-use Rattle.min_plus.specs.rational.proofs.Laws.{one_mul}
-use Rattle.min_plus.specs.rational.proofs.Linear.{with1}
+use Rattle.rational.specs.Rational.{◌+ℚ◌, ◌-ℚ◌, ◌*ℚ◌, ◌≤ℚ◌, le_q}
+use Rattle.rational.proofs.Over.{le_q_out}
+use Rattle.rational.proofs.Laws.{one_mul}
+use Rattle.rational.proofs.Linear.{with1}
 use Rattle.run_laws.specs.Cards.{all, whole}
 use Rattle.run_laws.specs.Counts.{when, within, departed_in}
 use Rattle.run_laws.proofs.Small.{le_t, sum_t, in_time, works_whole}

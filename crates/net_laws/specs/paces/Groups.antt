@@ -2,8 +2,8 @@
 -- the sum of its parts: the flows that enter there, and those of each server before. (Grouping of flows by their input
 -- link; that a part is the lesser of a sum and a bucket is our own choice.)
 use Rattle.std.specs.Prelude.{Option, Some, None, ◌≡◌, ℕ, zero, suc, pos, ◌<◌, ◌≤◌, Bool, true, false, ◌&&◌, ◌||◌, ◌==◌, List, [], ◌∷◌, length, if◌then◌else◌}
-use Rattle.min_plus.specs.rational.specs.Rational.{ℚ, int, ◌≤ℚ◌}
-use Rattle.min_plus.specs.rational.specs.Extended.{Ext, min_ext}
+use Rattle.rational.specs.Rational.{ℚ, int, ◌≤ℚ◌}
+use Rattle.rational.specs.Extended.{Ext, min_ext}
 use Rattle.min_plus.specs.Formulas.{bucket_value}
 use Rattle.run_laws.specs.Runs.{SpecRun}
 use Rattle.run_laws.specs.Cards.{Class, of_flow, of_queue, whole}

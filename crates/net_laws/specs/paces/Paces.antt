@@ -1,7 +1,7 @@
 -- The pace of a server's work, and what leaves in a closed window by it alone. (Le Boudec and Thiran, shaping by a link
 -- of fixed rate; that it is stated for works of a pace and for packets is our own choice.)
 use Rattle.std.specs.Prelude.{Some, ◌≡◌, ℕ, pos, List, [], ◌∷◌}
-use Rattle.min_plus.specs.rational.specs.Rational.{ℚ, int, ◌+ℚ◌, ◌-ℚ◌, ◌*ℚ◌, ◌≤ℚ◌}
+use Rattle.rational.specs.Rational.{ℚ, int, ◌+ℚ◌, ◌-ℚ◌, ◌*ℚ◌, ◌≤ℚ◌}
 use Rattle.run_laws.specs.Cards.{Class, whole, ServerStep, Arrives, Works, Leaves, Visits}
 use Rattle.run_laws.specs.Servers.{Server}
 use Rattle.run_laws.specs.Allows.{IsLawfulView}

@@ -1,6 +1,6 @@
 -- A view in which the bound on what leaves by the pace is reached. (Own choice.)
 use Rattle.std.specs.Prelude.{◌≡◌, ℕ, List, [], ◌∷◌}
-use Rattle.min_plus.specs.rational.specs.Rational.{◌+ℚ◌, ◌-ℚ◌, ◌*ℚ◌}
+use Rattle.rational.specs.Rational.{◌+ℚ◌, ◌-ℚ◌, ◌*ℚ◌}
 use Rattle.run_laws.specs.Cards.{Card, all, whole, ServerStep, Arrives, Works, Leaves}
 use Rattle.run_laws.specs.Servers.{Fifo}
 use Rattle.run_laws.specs.Allows.{IsLawfulView}

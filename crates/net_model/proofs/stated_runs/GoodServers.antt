@@ -1,9 +1,9 @@
 -- What holds of each server's state in a stated run.
 use Rattle.std.proofs.Common.{◌≡◌, ℕ, ◌<◌, List, length, refl, sym, ap, ◌∙◌, subst, arith, inl, inr, Some, None}
 use Rattle.std.specs.Prelude.{pos}
-use Rattle.upp_limits.specs.rational.specs.Rational.{ℚ, int, ◌+ℚ◌, ◌≤ℚ◌, ◌<ℚ◌}
-use Rattle.upp_limits.specs.rational.proofs.Linear.{with2}
-use Rattle.upp_limits.specs.rational.proofs.Laws.{le_refl, le_trans}
+use Rattle.rational.specs.Rational.{ℚ, int, ◌+ℚ◌, ◌≤ℚ◌, ◌<ℚ◌}
+use Rattle.rational.proofs.Linear.{with2}
+use Rattle.rational.proofs.Laws.{le_refl, le_trans}
 use Rattle.run_laws.specs.Cards.{Card, size, Arrives, Works, Leaves, Visits}
 use Rattle.run_laws.specs.Servers.{Discipline, Under, Span, ServerState, done, done_so_far}
 use Rattle.run_laws.specs.Next.{next}

@@ -1,25 +1,25 @@
 -- Steps of arithmetic on times that have room.
 use Rattle.std.specs.Prelude.{ℕ, pos}
 use Rattle.std.proofs.Common.{arith}
-use Rattle.upp_limits.specs.rational.specs.Rational.{ℚ, int, ◌+ℚ◌, ◌-ℚ◌, ◌*ℚ◌, ◌/ℚ◌, neg_ℚ, ◌≤ℚ◌, ◌<ℚ◌}
-use Rattle.upp_limits.specs.rational.specs.Ratio.{IsSmall, SumFits}
-use Rattle.upp_limits.specs.rational.specs.Grid.{Within}
-use Rattle.upp_limits.specs.rational.proofs.Integers.{nat_nonneg}
-use Rattle.upp_limits.specs.rational.proofs.Linear.{with1, with2}
-use Rattle.upp_limits.specs.rational.proofs.Laws.{le_trans, mul_le_mul_right, not_zero}
-use Rattle.upp_limits.specs.rational.proofs.Grid.{within_nonneg, whole_sub}
-use Rattle.upp_limits.specs.rational.proofs.Sizes.{small_on_grid, sum_on_grid, difference_on_grid, quotient_on_grid}
+use Rattle.rational.specs.Rational.{ℚ, int, ◌+ℚ◌, ◌-ℚ◌, ◌*ℚ◌, ◌/ℚ◌, neg_ℚ, ◌≤ℚ◌, ◌<ℚ◌}
+use Rattle.rational.specs.Ratio.{IsSmall, SumFits}
+use Rattle.rational.specs.Grid.{Within}
+use Rattle.rational.proofs.Integers.{nat_nonneg}
+use Rattle.rational.proofs.Linear.{with1, with2}
+use Rattle.rational.proofs.Laws.{le_trans, mul_le_mul_right, not_zero}
+use Rattle.rational.proofs.Grid.{within_nonneg, whole_sub}
+use Rattle.rational.proofs.Sizes.{small_on_grid, sum_on_grid, difference_on_grid, quotient_on_grid}
 use Rattle.net_model.specs.stated_runs.TimeGrids.{HasRoom, IsTime}
 
 pub within : {D : ℕ} {E t : ℚ} → IsTime D E t → Within E t
 within {D} {E} {t} i = within_nonneg E t i.from_zero i.by
 
-room_one : (D : ℕ) (E : ℚ) → HasRoom D E → E *ℚ int (pos D) ≤ℚ int (pos Rattle.upp_limits.specs.rational.proofs.Sizes.largest_part)
+room_one : (D : ℕ) (E : ℚ) → HasRoom D E → E *ℚ int (pos D) ≤ℚ int (pos Rattle.rational.proofs.Sizes.largest_part)
 room_one D E r =
     let z = r.from_zero in
     le_trans (mul_le_mul_right (int (pos D)) (nat_nonneg D) (let l : E ≤ℚ int (pos 8) *ℚ E = with1 E (λ c. omega (arith, c.le, c.lt, c.same)) in l)) r.room
 
-pub room_two : (D : ℕ) (E : ℚ) → HasRoom D E → (E +ℚ E) *ℚ int (pos D) ≤ℚ int (pos Rattle.upp_limits.specs.rational.proofs.Sizes.largest_part)
+pub room_two : (D : ℕ) (E : ℚ) → HasRoom D E → (E +ℚ E) *ℚ int (pos D) ≤ℚ int (pos Rattle.rational.proofs.Sizes.largest_part)
 room_two D E r =
     let z = r.from_zero in
     le_trans (mul_le_mul_right (int (pos D)) (nat_nonneg D) (let l : E +ℚ E ≤ℚ int (pos 8) *ℚ E = with1 E (λ c. omega (arith, c.le, c.lt, c.same)) in l)) r.room
@@ -45,5 +45,5 @@ rest_is_time D E a b i j l =
     record {
       on_grid = whole_sub D a b i.on_grid j.on_grid;
       from_zero = with2 a b (λ c. omega (arith, c.le, c.lt, c.same));
-      by = Rattle.upp_limits.specs.rational.proofs.Linear.with3 a b E (λ c. omega (arith, c.le, c.lt, c.same));
+      by = Rattle.rational.proofs.Linear.with3 a b E (λ c. omega (arith, c.le, c.lt, c.same));
     }

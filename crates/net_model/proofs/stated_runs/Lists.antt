@@ -2,7 +2,7 @@
 use Rattle.std.proofs.Common.{◌≡◌, ℕ, List, [], ◌∷◌, ◌++◌, refl, sym, ap, ◌∙◌, subst, inl, inr, ◌⊎◌, Some}
 use Rattle.std.specs.Prelude.{◌≢◌, true, ◌==◌, ◌&&◌}
 use Rattle.std.proofs.lemmas.Bool.{cases_eq, cases_Bool, eqb-true, eq-eqb, ne_eqb, and_parts}
-use Rattle.upp_limits.specs.rational.specs.Rational.{le_q}
+use Rattle.rational.specs.Rational.{le_q}
 use Rattle.run_laws.specs.Cards.{Card}
 use Rattle.run_laws.specs.Servers.{head_of, without_head}
 use Rattle.run_laws.specs.Lawful.{Due, same_due, without}

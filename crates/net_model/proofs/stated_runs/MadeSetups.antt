@@ -4,9 +4,9 @@ use Rattle.std.specs.Prelude.{pos, ◌==◌, ◌⊎◌, slice_get, slice_index}
 use Rattle.std.proofs.lemmas.Bool.{cases_Bool, cases_eq}
 use Rattle.std.proofs.lemmas.List.{get_or-map, length-map}
 use Rattle.std.proofs.lemmas.Option.{slice_get_within}
-use Rattle.upp_limits.specs.rational.specs.Rational.{ℚ, int, ◌≤ℚ◌, ◌<ℚ◌}
-use Rattle.upp_limits.specs.rational.proofs.Linear.{with1}
-use Rattle.upp_limits.specs.rational.proofs.Laws.{le_refl}
+use Rattle.rational.specs.Rational.{ℚ, int, ◌≤ℚ◌, ◌<ℚ◌}
+use Rattle.rational.proofs.Linear.{with1}
+use Rattle.rational.proofs.Laws.{le_refl}
 use Rattle.run_laws.specs.Servers.{Fifo, Server, queue_count}
 use Rattle.run_laws.specs.Routes.{Route, server_at, route_of}
 use Rattle.net_model.specs.declared.server.ServiceKind.{ServiceKind}

@@ -2,10 +2,10 @@
 use Rattle.std.proofs.Common.{◌≡◌, ℕ, zero, suc, ◌≤◌, ◌+◌, List, [], ◌∷◌, length, refl, sym, ap, ◌∙◌, subst, arith, inl, inr, ◌⊎◌, Some, None}
 use Rattle.std.specs.Prelude.{Option, pos}
 use Rattle.std.proofs.lemmas.Bool.{cases_order}
-use Rattle.upp_limits.specs.rational.specs.Rational.{ℚ, int, ◌+ℚ◌, ◌-ℚ◌, ◌*ℚ◌, ◌/ℚ◌, ◌≤ℚ◌, ◌<ℚ◌}
-use Rattle.upp_limits.specs.rational.proofs.Linear.{with1, with2, with3, with5}
-use Rattle.upp_limits.specs.rational.proofs.Laws.{le_refl, le_trans, le_of_lt, lt_le_trans, lt_trans, le_or_lt, lt_cases, lt_irrefl, mul_le_mul, mul_le_mul_right, add_mul, one_mul, div_mul, mul_comm, antisym}
-use Rattle.upp_limits.specs.rational.proofs.Quotients.{times_above, div_pos}
+use Rattle.rational.specs.Rational.{ℚ, int, ◌+ℚ◌, ◌-ℚ◌, ◌*ℚ◌, ◌/ℚ◌, ◌≤ℚ◌, ◌<ℚ◌}
+use Rattle.rational.proofs.Linear.{with1, with2, with3, with5}
+use Rattle.rational.proofs.Laws.{le_refl, le_trans, le_of_lt, lt_le_trans, lt_trans, le_or_lt, lt_cases, lt_irrefl, mul_le_mul, mul_le_mul_right, add_mul, one_mul, div_mul, mul_comm, antisym}
+use Rattle.rational.proofs.Quotients.{times_above, div_pos}
 use Rattle.run_laws.specs.Cards.{whole}
 use Rattle.run_laws.proofs.Sizes.{whole_le, whole_sum}
 use Rattle.net_model.specs.stated_runs.Setups.{Setup, rate_of, IsStretch, GateTimes, StallTimes, IsGate, IsGateFor, IsGateOpen, IsStalled, IsFirstGateOpen, IsFirstOpenAt, StaysTo, opening_of}

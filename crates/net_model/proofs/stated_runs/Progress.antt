@@ -3,8 +3,8 @@ use Rattle.std.proofs.Common.{◌≡◌, ℕ, ◌<◌, ◌≤◌, ◌^◌, List,
 use Rattle.std.specs.Prelude.{pos}
 use Rattle.std.proofs.lemmas.Bool.{cases_eq}
 use Rattle.std.proofs.lemmas.List.{get_or-map}
-use Rattle.upp_limits.specs.rational.specs.Rational.{ℚ, int}
-use Rattle.upp_limits.specs.rational.proofs.Linear.{with1}
+use Rattle.rational.specs.Rational.{ℚ, int}
+use Rattle.rational.proofs.Linear.{with1}
 use Rattle.run_laws.specs.declared.steps.Step.{Step}
 use Rattle.run_laws.specs.declared.steps.Step.TheVariants.{Enter, Reach, Work, Leave, Visit}
 use Rattle.run_laws.specs.Cards.{Card, size, Works, Leaves}

@@ -2,7 +2,7 @@
 use Rattle.std.proofs.Common.{◌≡◌, ℕ, zero, suc, ◌+◌, ◌<◌, List, [], ◌∷◌, length, get_or, map, ap, ◌∙◌, arith, inl, inr, Some, None}
 use Rattle.std.specs.Prelude.{pos, Contains, slice_get}
 use Rattle.std.proofs.lemmas.Option.{slice_get_within, get_or_from_slice_get}
-use Rattle.upp_limits.specs.rational.specs.Rational.{int}
+use Rattle.rational.specs.Rational.{int}
 use Rattle.run_laws.specs.Routes.{link_at}
 use Rattle.net_model.specs.declared.trace.Stall.{Stall}
 use Rattle.net_model.specs.Networks.{Net, NetServer}

@@ -2,7 +2,7 @@
 use Rattle.std.proofs.Common.{◌≡◌, ℕ, zero, suc, ◌<◌, ◌≤◌, ◌+◌, ◌^◌, List, [], ◌∷◌, length, get_or, refl, sym, ap, ◌∙◌, subst, arith, inl, inr, ◌⊎◌, Some, None}
 use Rattle.std.specs.Prelude.{Option}
 use Rattle.std.proofs.lemmas.Bool.{le-leb, eq-eqb}
-use Rattle.upp_limits.specs.rational.specs.Rational.{ℚ}
+use Rattle.rational.specs.Rational.{ℚ}
 use Rattle.run_laws.specs.Cards.{Card, Arrives, Works, Leaves, Visits}
 use Rattle.run_laws.specs.Servers.{Discipline, Fifo, Priority, Drr, queue_count, Under, Round, ServerState, head_of, without_head, done_so_far}
 use Rattle.run_laws.specs.Next.{next, fits, worked_round}

@@ -1,6 +1,6 @@
 -- What is promised of stated runs.
 use Rattle.std.specs.Prelude.{◌≡◌, ◌≢◌, ◌⊎◌, ℕ, ◌<◌, List, [], ◌∷◌, ◌++◌, length, None, Contains, pos}
-use Rattle.upp_limits.specs.rational.specs.Rational.{ℚ, int, ◌≤ℚ◌}
+use Rattle.rational.specs.Rational.{ℚ, int, ◌≤ℚ◌}
 use Rattle.run_laws.specs.declared.steps.Step.{Step}
 use Rattle.run_laws.specs.declared.steps.Step.TheVariants.{Enter, Reach, Work, Leave, Visit}
 use Rattle.run_laws.specs.Runs.{SpecRun}

@@ -1,6 +1,6 @@
 -- What a simulation is told: the network, how fast each server works and when it may, and the packets that enter.
 use Rattle.std.specs.Prelude.{Option, Some, None, ◌≡◌, ◌⊎◌, ℕ, pos, ◌<◌, ◌≤◌, ◌^◌, true, List, [], ◌∷◌, length, get_or}
-use Rattle.upp_limits.specs.rational.specs.Rational.{ℚ, int, ◌+ℚ◌, ◌-ℚ◌, ◌*ℚ◌, ◌≤ℚ◌, ◌<ℚ◌}
+use Rattle.rational.specs.Rational.{ℚ, int, ◌+ℚ◌, ◌-ℚ◌, ◌*ℚ◌, ◌≤ℚ◌, ◌<ℚ◌}
 use Rattle.run_laws.specs.Cards.{whole}
 use Rattle.run_laws.specs.Servers.{queue_count}
 use Rattle.run_laws.specs.Routes.{Hop, Routes, server_at, route_of}

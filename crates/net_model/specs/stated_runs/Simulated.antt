@@ -1,6 +1,6 @@
 -- The stated run: at each place the first of the steps that are due, until none is.
 use Rattle.std.specs.Prelude.{◌≡◌, pos, List, [], ◌∷◌}
-use Rattle.upp_limits.specs.rational.specs.Rational.{ℚ, int}
+use Rattle.rational.specs.Rational.{ℚ, int}
 use Rattle.run_laws.specs.declared.steps.Step.{Step}
 use Rattle.run_laws.specs.Runs.{SpecRun}
 use Rattle.run_laws.specs.Lawful.{RunState, next_run, run_start}

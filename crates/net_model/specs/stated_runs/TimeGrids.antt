@@ -1,8 +1,8 @@
 -- The numbers that a simulation meets: times that are multiples of 1 / D, from 0 up to E. (Own choice.)
 use Rattle.std.specs.Prelude.{Option, Some, None, ◌≡◌, ℕ, pos, ◌<◌, ◌≤◌, ◌-◌, ◌^◌, List, [], ◌∷◌, length}
-use Rattle.upp_limits.specs.rational.specs.Rational.{ℚ, int, ◌-ℚ◌, ◌*ℚ◌, ◌/ℚ◌, ◌≤ℚ◌}
-use Rattle.upp_limits.specs.rational.specs.Grid.{Whole}
-use Rattle.upp_limits.specs.rational.specs.Ratio.{IsSmall}
+use Rattle.rational.specs.Rational.{ℚ, int, ◌-ℚ◌, ◌*ℚ◌, ◌/ℚ◌, ◌≤ℚ◌}
+use Rattle.rational.specs.Grid.{Whole}
+use Rattle.rational.specs.Ratio.{IsSmall}
 use Rattle.run_laws.specs.declared.steps.Step.{Step}
 use Rattle.run_laws.specs.declared.steps.Step.TheVariants.{Work}
 use Rattle.run_laws.specs.Cards.{whole, size}

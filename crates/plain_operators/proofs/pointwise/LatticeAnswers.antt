@@ -1,26 +1,26 @@
 -- What is made of two curves in a call within both limits: its pieces have room, and it repeats from the time on from which the slower curve is nowhere above.
 use Rattle.std.specs.Prelude.{◌≡◌, ℕ, ◌*◌, pos, List, ◌⊎◌}
 use Rattle.std.proofs.Common.{arith, sym, ap, ap₂, ◌∙◌, refl, subst, inl, inr}
-use Rattle.upp_limits.specs.rational.specs.Rational.{ℚ, ◌+ℚ◌, ◌-ℚ◌, ◌≤ℚ◌, ◌<ℚ◌, int}
-use Rattle.upp_limits.specs.rational.specs.Grid.{Whole, Within}
-use Rattle.upp_limits.specs.rational.specs.Extended.{Ext, ◌≤ₑ◌, ◌<ₑ◌, ◌+ₑ◌}
-use Rattle.upp_limits.specs.rational.specs.declared.Extended.TheVariants.{Fin, Inf}
-use Rattle.upp_limits.specs.rational.proofs.Grid.{whole_int, whole_sub, within_sub, within_nonneg, within_weaken}
-use Rattle.upp_limits.specs.rational.proofs.Linear.{with1, with3}
-use Rattle.upp_limits.specs.rational.proofs.Laws.{le_refl, le_trans, le_of_lt}
-use Rattle.upp_limits.specs.rational.proofs.Integers.{nat_nonneg, int_mul}
-use Rattle.upp_limits.specs.upp_curve.specs.declared.affine_segment.line.Piece.{Piece}
-use Rattle.upp_limits.specs.upp_curve.specs.affine_segment.Reading.{read}
-use Rattle.upp_limits.specs.upp_curve.specs.Curve.{SpecCurve, repeated, value_at}
-use Rattle.upp_limits.specs.min_plus.specs.Pointwise.{excess}
-use Rattle.curve_call.specs.upp_normal.specs.Normalising.{HasValues}
-use Rattle.upp_limits.specs.upp_curve.specs.Unrolled.{unroll}
-use Rattle.upp_limits.specs.upp_curve.specs.Steady.{rate, rise_over}
+use Rattle.rational.specs.Rational.{ℚ, ◌+ℚ◌, ◌-ℚ◌, ◌≤ℚ◌, ◌<ℚ◌, int}
+use Rattle.rational.specs.Grid.{Whole, Within}
+use Rattle.rational.specs.Extended.{Ext, ◌≤ₑ◌, ◌<ₑ◌, ◌+ₑ◌}
+use Rattle.rational.specs.declared.Extended.TheVariants.{Fin, Inf}
+use Rattle.rational.proofs.Grid.{whole_int, whole_sub, within_sub, within_nonneg, within_weaken}
+use Rattle.rational.proofs.Linear.{with1, with3}
+use Rattle.rational.proofs.Laws.{le_refl, le_trans, le_of_lt}
+use Rattle.rational.proofs.Integers.{nat_nonneg, int_mul}
+use Rattle.upp_curve.specs.declared.affine_segment.line.Piece.{Piece}
+use Rattle.upp_curve.specs.affine_segment.Reading.{read}
+use Rattle.upp_curve.specs.Curve.{SpecCurve, repeated, value_at}
+use Rattle.min_plus.specs.Pointwise.{excess}
+use Rattle.upp_normal.specs.Normalising.{HasValues}
+use Rattle.upp_curve.specs.Unrolled.{unroll}
+use Rattle.upp_curve.specs.Steady.{rate, rise_over}
 use Rattle.upp_limits.specs.Periods.{periods_after}
 use Rattle.upp_limits.specs.Limits.{Sizes}
 use Rattle.upp_limits.specs.Sized.{grid_of, times_largest}
-use Rattle.upp_limits.specs.upp_curve.proofs.Steady.{steady_rule}
-use Rattle.curve_call.specs.upp_normal.proofs.Below.{unroll_reads}
+use Rattle.upp_curve.proofs.Steady.{steady_rule}
+use Rattle.upp_normal.proofs.Below.{unroll_reads}
 use Rattle.curve_call.specs.Operands.{IsMadeOf}
 use Rattle.curve_call.proofs.TailGrids.{TailOf, made_on_grids}
 use Rattle.curve_call.specs.declared.frame.Frame.{Frame}
@@ -35,7 +35,7 @@ use Rattle.plain_operators.specs.pointwise.Lattice.{made_of, rises_of, FiniteFor
 use Rattle.plain_operators.specs.pointwise.LatticeCall.{LatticeCall, IsLatticeFrame}
 use Rattle.curve_call.proofs.TailMoves.{rates_compared, not_both, not_same, lower_first, lower_second, lower_both, upper_first, upper_second, upper_both, excess_below, excess_both, excess_above}
 use Rattle.plain_operators.proofs.pointwise.LatticeCalls.{operands, from_is, from_late, from_whole, left_rise, right_rise}
-use Rattle.curve_call.specs.upp_normal.proofs.AnswerRoom.{more_largest}
+use Rattle.upp_normal.proofs.AnswerRoom.{more_largest}
 
 -- ---- the rise stands
 pub record RiseHasRoom (z : Sizes) (y : ℚ) : Type 0 where

@@ -1,28 +1,28 @@
 -- The sizes and the times of a call on two curves that both repeat from its start on.
 use Rattle.std.specs.Prelude.{◌≡◌, ℕ, suc, ◌+◌, ◌<◌, ◌^◌, pos, List}
 use Rattle.std.proofs.Common.{arith, sym, ap, ◌∙◌, refl, subst}
-use Rattle.upp_limits.specs.rational.specs.Rational.{ℚ, neg_ℚ, ◌+ℚ◌, ◌-ℚ◌, ◌*ℚ◌, ◌≤ℚ◌, ◌<ℚ◌, int}
-use Rattle.upp_limits.specs.rational.specs.Ratio.{SumFits}
-use Rattle.upp_limits.specs.rational.specs.Grid.{Whole}
-use Rattle.upp_limits.specs.rational.proofs.Grid.{whole_neg, whole_sub, within_neg}
-use Rattle.upp_limits.specs.rational.proofs.Linear.{with2, with3, with4}
-use Rattle.upp_limits.specs.rational.proofs.Laws.{le_refl, le_trans, le_of_lt, one_mul, mul_nonneg}
-use Rattle.upp_limits.specs.rational.proofs.Integers.{nat_nonneg}
-use Rattle.upp_limits.specs.rational.proofs.Whole.{one_more_times}
-use Rattle.upp_limits.specs.rational.proofs.MinMax.{max_q_ge_left, max_q_ge_right}
-use Rattle.upp_limits.specs.upp_curve.specs.declared.affine_segment.line.Piece.{Piece}
+use Rattle.rational.specs.Rational.{ℚ, neg_ℚ, ◌+ℚ◌, ◌-ℚ◌, ◌*ℚ◌, ◌≤ℚ◌, ◌<ℚ◌, int}
+use Rattle.rational.specs.Ratio.{SumFits}
+use Rattle.rational.specs.Grid.{Whole}
+use Rattle.rational.proofs.Grid.{whole_neg, whole_sub, within_neg}
+use Rattle.rational.proofs.Linear.{with2, with3, with4}
+use Rattle.rational.proofs.Laws.{le_refl, le_trans, le_of_lt, one_mul, mul_nonneg}
+use Rattle.rational.proofs.Integers.{nat_nonneg}
+use Rattle.rational.proofs.Whole.{one_more_times}
+use Rattle.rational.proofs.MinMax.{max_q_ge_left, max_q_ge_right}
+use Rattle.upp_curve.specs.declared.affine_segment.line.Piece.{Piece}
 use Rattle.upp_limits.specs.declared.op_kind.OpKind.{OpKind}
 use Rattle.upp_limits.specs.declared.op_kind.OpKind.TheVariants.{Min, Max, PosDiff}
-use Rattle.upp_limits.specs.upp_curve.specs.Curve.{SpecCurve}
-use Rattle.upp_limits.specs.upp_curve.specs.Curves.{IsCurve}
-use Rattle.upp_limits.specs.upp_curve.specs.Steady.{steady, rise_over, IsWholePeriods}
+use Rattle.upp_curve.specs.Curve.{SpecCurve}
+use Rattle.upp_curve.specs.Curves.{IsCurve}
+use Rattle.upp_curve.specs.Steady.{steady, rise_over, IsWholePeriods}
 use Rattle.upp_limits.specs.Periods.{common_period, both_steady, periods_after}
 use Rattle.upp_limits.specs.Windows.{window_at}
 use Rattle.upp_limits.specs.Limits.{Sizes, sizes_of, curve_numbers}
 use Rattle.upp_limits.specs.Gauges.{numbers_over, gauge_over, gauge_at}
 use Rattle.upp_limits.specs.Sized.{Stands, grid_of, times_largest}
-use Rattle.upp_limits.specs.upp_curve.specs.Unrolled.{unroll}
-use Rattle.curve_call.specs.upp_normal.specs.Operand.{AreLimited}
+use Rattle.upp_curve.specs.Unrolled.{unroll}
+use Rattle.upp_normal.specs.Operand.{AreLimited}
 use Rattle.upp_limits.proofs.NarrowSizes.{small_sum}
 use Rattle.upp_limits.proofs.CurveStands.{are_sizes}
 use Rattle.upp_limits.proofs.Stands.{sizes_stand}
@@ -41,7 +41,7 @@ use Rattle.plain_operators.specs.declared.pointwise.lattice.Lattice.TheVariants.
 use Rattle.plain_operators.specs.pointwise.Lattice.{kind_of}
 use Rattle.curve_call.specs.FirstWindows.{IsFirstWindow}
 use Rattle.plain_operators.specs.pointwise.LatticeCall.{LatticeCall}
-use Rattle.curve_call.specs.upp_normal.proofs.AnswerRoom.{wide_narrow}
+use Rattle.upp_normal.proofs.AnswerRoom.{wide_narrow}
 
 -- ---- from a kind of call
 pub call_from : (op : OpKind) (f g h : SpecCurve) (k : ℕ) → IsCurve f → IsCurve h → SecondIsCurve op g → IsForward op → gauge_at op f g k 0 < 2 ^ 120 → number_of op k 0 ≡ k + 1

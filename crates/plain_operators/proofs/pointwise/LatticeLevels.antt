@@ -1,34 +1,34 @@
 -- A call on a curve and a level: its sizes and times, its limits, and its answer.
 use Rattle.std.specs.Prelude.{◌≡◌, ℕ, ◌<◌, ◌^◌, pos, [], ◌∷◌, Option, Some, None, MatchOption}
 use Rattle.std.proofs.Common.{arith, sym, ap, ◌∙◌, refl, subst}
-use Rattle.upp_limits.specs.rational.specs.Rational.{ℚ, ◌-ℚ◌, ◌*ℚ◌, ◌≤ℚ◌, ◌<ℚ◌, int}
-use Rattle.upp_limits.specs.rational.specs.Ratio.{IsSmall}
-use Rattle.upp_limits.specs.rational.specs.Extended.{Ext, ◌≤ₑ◌, ◌<ₑ◌}
-use Rattle.upp_limits.specs.rational.specs.declared.Extended.TheVariants.{Fin}
-use Rattle.upp_limits.specs.rational.proofs.Integers.{nat_nonneg}
-use Rattle.upp_limits.specs.rational.proofs.Linear.{with2, with3}
-use Rattle.upp_limits.specs.rational.proofs.Laws.{le_refl, le_trans, le_of_lt, zero_mul, mul_nonneg}
-use Rattle.upp_limits.specs.upp_curve.specs.declared.affine_segment.line.Piece.{Piece}
+use Rattle.rational.specs.Rational.{ℚ, ◌-ℚ◌, ◌*ℚ◌, ◌≤ℚ◌, ◌<ℚ◌, int}
+use Rattle.rational.specs.Ratio.{IsSmall}
+use Rattle.rational.specs.Extended.{Ext, ◌≤ₑ◌, ◌<ₑ◌}
+use Rattle.rational.specs.declared.Extended.TheVariants.{Fin}
+use Rattle.rational.proofs.Integers.{nat_nonneg}
+use Rattle.rational.proofs.Linear.{with2, with3}
+use Rattle.rational.proofs.Laws.{le_refl, le_trans, le_of_lt, zero_mul, mul_nonneg}
+use Rattle.upp_curve.specs.declared.affine_segment.line.Piece.{Piece}
 use Rattle.upp_limits.specs.declared.op_kind.OpKind.TheVariants.{PosMinus}
 use Rattle.upp_limits.specs.declared.op_kind.OpFault.{OpFault}
 use Rattle.upp_limits.specs.declared.op_kind.OpFault.TheVariants.{TooMany, TooWide, NoMemory}
-use Rattle.upp_limits.specs.upp_curve.specs.Curve.{SpecCurve, value_at}
-use Rattle.upp_limits.specs.upp_curve.specs.Curves.{IsCurve}
-use Rattle.upp_limits.specs.upp_curve.specs.Steady.{steady, rate, rise_over, later_unless}
+use Rattle.upp_curve.specs.Curve.{SpecCurve, value_at}
+use Rattle.upp_curve.specs.Curves.{IsCurve}
+use Rattle.upp_curve.specs.Steady.{steady, rate, rise_over, later_unless}
 use Rattle.upp_limits.specs.Periods.{own_period, periods_after}
 use Rattle.upp_limits.specs.Windows.{window_at, Meets, IsLeast, IsLeastPeriods, IsBelowFor, IsSlowerBelow}
 use Rattle.upp_limits.specs.Limits.{Sizes, sizes_of}
 use Rattle.upp_limits.specs.Gauges.{numbers_over, gauge_at, gauge_over, IsTooWide}
 use Rattle.upp_limits.specs.Sized.{IsValue}
-use Rattle.upp_limits.specs.upp_curve.specs.Unrolled.{unroll}
+use Rattle.upp_curve.specs.Unrolled.{unroll}
 use Rattle.upp_limits.specs.Outcome.{IsWithin, IsCauseOf}
-use Rattle.upp_limits.specs.min_plus.specs.Pointwise.{excess, IsPositiveMinus}
+use Rattle.min_plus.specs.Pointwise.{excess, IsPositiveMinus}
 use Rattle.upp_limits.proofs.AtRank.{same_by}
-use Rattle.upp_limits.specs.upp_curve.proofs.Unique.{upto_some, upto_end}
+use Rattle.upp_curve.proofs.Unique.{upto_some, upto_end}
 use Rattle.upp_limits.proofs.CurveStands.{are_sizes}
 use Rattle.upp_limits.proofs.Stands.{sizes_stand}
 use Rattle.upp_limits.proofs.NarrowSizes.{narrow_gauge, small_number, value_whole, value_within}
-use Rattle.upp_limits.specs.upp_curve.proofs.ReadableKinds.{bucket_curve}
+use Rattle.upp_curve.proofs.ReadableKinds.{bucket_curve}
 use Rattle.curve_call.specs.declared.frame.Frame.{Frame}
 use Rattle.curve_call.specs.declared.windows.CallWindow.{CallWindow}
 use Rattle.curve_call.specs.Frames.{IsFrame, IsRefusedAt, sizes_at}

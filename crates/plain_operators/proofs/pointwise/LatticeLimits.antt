@@ -1,12 +1,12 @@
 -- Which limits the call is over, from the least number of periods; and the frame of one that is over neither.
 use Rattle.std.specs.Prelude.{◌≡◌, ℕ, Option, Some, None, MatchOption, Result, Ok, Err, IfErr}
 use Rattle.std.proofs.Common.{sym, ◌∙◌, subst}
-use Rattle.upp_limits.specs.rational.specs.Rational.{ℚ}
+use Rattle.rational.specs.Rational.{ℚ}
 use Rattle.upp_limits.specs.declared.op_kind.OpKind.{OpKind}
 use Rattle.upp_limits.specs.declared.op_kind.OpFault.{OpFault}
 use Rattle.upp_limits.specs.declared.op_kind.OpFault.TheVariants.{TooMany, TooWide, NoMemory}
-use Rattle.upp_limits.specs.upp_curve.specs.Curve.{SpecCurve}
-use Rattle.upp_limits.specs.upp_curve.specs.Curves.{IsCurve}
+use Rattle.upp_curve.specs.Curve.{SpecCurve}
+use Rattle.upp_curve.specs.Curves.{IsCurve}
 use Rattle.upp_limits.specs.Periods.{common_period, both_steady}
 use Rattle.upp_limits.specs.Windows.{window_at, Meets, IsLeast, IsLeastPeriods}
 use Rattle.upp_limits.specs.Gauges.{IsKnownAtOnce, IsTooWide}

@@ -3,31 +3,31 @@
 use Rattle.std.specs.Prelude.{◌≡◌, ℕ, pos, [], ◌∷◌, Option, Some, None}
 use Rattle.std.proofs.Common.{arith, sym, ap, ap₂, ◌∙◌, subst, inl, inr}
 use Rattle.std.proofs.lemmas.Bool.{cases_lt}
-use Rattle.upp_limits.specs.rational.specs.Rational.{ℚ, ◌+ℚ◌, ◌-ℚ◌, ◌*ℚ◌, ◌/ℚ◌, ◌≤ℚ◌, ◌<ℚ◌, int}
-use Rattle.upp_limits.specs.rational.specs.Grid.{Whole}
-use Rattle.upp_limits.specs.rational.specs.Gauge.{size_up}
-use Rattle.upp_limits.specs.rational.specs.Line.{line_at as line_of}
-use Rattle.upp_limits.specs.rational.specs.MinMax.{max_q, min_q}
-use Rattle.upp_limits.specs.rational.specs.Extended.{Ext, ◌≤ₑ◌, ◌<ₑ◌, ◌+ₑ◌}
-use Rattle.upp_limits.specs.rational.specs.declared.Extended.TheVariants.{Fin}
-use Rattle.upp_limits.specs.rational.proofs.Linear.{with_atoms, with2, with3, with4, with5}
-use Rattle.upp_limits.specs.rational.proofs.Laws.{le_refl, le_trans, le_of_lt, lt_cases, mul_add, sub_mul, mul_nonneg, mul_le_mul, zero_mul}
-use Rattle.upp_limits.specs.rational.proofs.Integers.{nat_nonneg}
-use Rattle.upp_limits.specs.rational.proofs.Quotients.{div_le}
-use Rattle.upp_limits.specs.rational.proofs.MinMax.{max_q_le, max_q_ge_left, max_q_ge_right, min_q_le_left, min_q_le_right, min_q_one}
-use Rattle.upp_limits.specs.rational.proofs.Stretch.{line_supremum}
-use Rattle.upp_limits.specs.rational.proofs.ExtendedOrder.{le_ext_trans, add_le_ext, le_ext_refl}
+use Rattle.rational.specs.Rational.{ℚ, ◌+ℚ◌, ◌-ℚ◌, ◌*ℚ◌, ◌/ℚ◌, ◌≤ℚ◌, ◌<ℚ◌, int}
+use Rattle.rational.specs.Grid.{Whole}
+use Rattle.rational.specs.Gauge.{size_up}
+use Rattle.rational.specs.Line.{line_at as line_of}
+use Rattle.rational.specs.MinMax.{max_q, min_q}
+use Rattle.rational.specs.Extended.{Ext, ◌≤ₑ◌, ◌<ₑ◌, ◌+ₑ◌}
+use Rattle.rational.specs.declared.Extended.TheVariants.{Fin}
+use Rattle.rational.proofs.Linear.{with_atoms, with2, with3, with4, with5}
+use Rattle.rational.proofs.Laws.{le_refl, le_trans, le_of_lt, lt_cases, mul_add, sub_mul, mul_nonneg, mul_le_mul, zero_mul}
+use Rattle.rational.proofs.Integers.{nat_nonneg}
+use Rattle.rational.proofs.Quotients.{div_le}
+use Rattle.rational.proofs.MinMax.{max_q_le, max_q_ge_left, max_q_ge_right, min_q_le_left, min_q_le_right, min_q_one}
+use Rattle.rational.proofs.Stretch.{line_supremum}
+use Rattle.rational.proofs.ExtendedOrder.{le_ext_trans, add_le_ext, le_ext_refl}
 use Rattle.upp_limits.proofs.CommonDen.{size_up_within}
-use Rattle.upp_limits.specs.upp_curve.specs.declared.affine_segment.line.Line.{Line}
-use Rattle.upp_limits.specs.upp_curve.specs.affine_segment.Values.{line_value}
-use Rattle.upp_limits.specs.upp_curve.specs.Curve.{SpecCurve, value_at}
-use Rattle.upp_limits.specs.upp_curve.specs.Steady.{Repeats, rate, rise_over}
+use Rattle.upp_curve.specs.declared.affine_segment.line.Line.{Line}
+use Rattle.upp_curve.specs.affine_segment.Values.{line_value}
+use Rattle.upp_curve.specs.Curve.{SpecCurve, value_at}
+use Rattle.upp_curve.specs.Steady.{Repeats, rate, rise_over}
 use Rattle.upp_limits.specs.Limits.{Sizes}
 use Rattle.upp_limits.specs.Periods.{periods_after}
 use Rattle.upp_limits.specs.Windows.{IsBelowFor, IsLeast}
-use Rattle.curve_call.specs.upp_normal.specs.declared.ahead.Stretch.{Stretch}
-use Rattle.curve_call.specs.upp_normal.specs.Ahead.{IsBeforeNext, AtNext, TimesStand, HasWindow, IsTimeIn, GoesOn}
-use Rattle.curve_call.specs.upp_normal.proofs.StretchSizes.{times_stand}
+use Rattle.upp_normal.specs.declared.ahead.Stretch.{Stretch}
+use Rattle.upp_normal.specs.Ahead.{IsBeforeNext, AtNext, TimesStand, HasWindow, IsTimeIn, GoesOn}
+use Rattle.upp_normal.proofs.StretchSizes.{times_stand}
 use Rattle.curve_call.specs.declared.gaps.Gap.{Gap}
 use Rattle.curve_call.specs.declared.gaps.Gap.TheVariants.{NoTime, Never, Is}
 use Rattle.curve_call.specs.Gaps.{InWindow, IsGap}

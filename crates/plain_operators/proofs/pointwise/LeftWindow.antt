@@ -2,25 +2,25 @@
 use Rattle.std.specs.Prelude.{◌≡◌, pos, List, [], ◌∷◌, ◌++◌, map, Option, Some, None}
 use Rattle.std.specs.declared.cmp.Ordering.{Ordering}
 use Rattle.std.proofs.Common.{arith, sym, ap, ap₂, ◌∙◌, refl, subst, inl, inr, append_assoc, append-nil, Greater}
-use Rattle.upp_limits.specs.rational.specs.Rational.{ℚ, ◌+ℚ◌, ◌-ℚ◌, ◌*ℚ◌, ◌≤ℚ◌, ◌<ℚ◌, int, neg_ℚ}
-use Rattle.upp_limits.specs.rational.specs.Ratio.{cmp_q}
-use Rattle.upp_limits.specs.rational.specs.Extended.{Ext, ◌+ₑ◌}
-use Rattle.upp_limits.specs.rational.specs.declared.Extended.TheVariants.{Fin, Inf}
-use Rattle.upp_limits.specs.rational.proofs.Comparison.{cmp_greater, cmp_not_greater}
-use Rattle.upp_limits.specs.rational.proofs.Linear.{with1, with2, with3}
-use Rattle.upp_limits.specs.rational.proofs.Laws.{le_or_lt, add_zero, mul_neg}
-use Rattle.upp_limits.specs.upp_curve.specs.declared.affine_segment.line.Line.{Line}
-use Rattle.upp_limits.specs.upp_curve.specs.declared.affine_segment.line.Piece.{Piece}
-use Rattle.upp_limits.specs.upp_curve.specs.affine_segment.Reading.{read}
-use Rattle.upp_limits.specs.upp_curve.specs.affine_segment.Pieces.{Each, RisesFrom, StartsAtZero}
-use Rattle.curve_call.specs.upp_normal.specs.Normalising.{past, cut_at}
-use Rattle.upp_limits.specs.upp_curve.specs.Unrolled.{line_later, later, each_later}
-use Rattle.curve_call.specs.upp_normal.proofs.UnrolledValues.{read_later}
-use Rattle.curve_call.specs.upp_normal.proofs.NormaliseLoops.{past_go, past_stop, past_none, later_none, later_some}
-use Rattle.curve_call.specs.upp_normal.proofs.NormaliseLists.{rises_past}
-use Rattle.curve_call.specs.upp_normal.proofs.NormalisePeriods.{cut_reads}
+use Rattle.rational.specs.Rational.{ℚ, ◌+ℚ◌, ◌-ℚ◌, ◌*ℚ◌, ◌≤ℚ◌, ◌<ℚ◌, int, neg_ℚ}
+use Rattle.rational.specs.Ratio.{cmp_q}
+use Rattle.rational.specs.Extended.{Ext, ◌+ₑ◌}
+use Rattle.rational.specs.declared.Extended.TheVariants.{Fin, Inf}
+use Rattle.rational.proofs.Comparison.{cmp_greater, cmp_not_greater}
+use Rattle.rational.proofs.Linear.{with1, with2, with3}
+use Rattle.rational.proofs.Laws.{le_or_lt, add_zero, mul_neg}
+use Rattle.upp_curve.specs.declared.affine_segment.line.Line.{Line}
+use Rattle.upp_curve.specs.declared.affine_segment.line.Piece.{Piece}
+use Rattle.upp_curve.specs.affine_segment.Reading.{read}
+use Rattle.upp_curve.specs.affine_segment.Pieces.{Each, RisesFrom, StartsAtZero}
+use Rattle.upp_normal.specs.Normalising.{past, cut_at}
+use Rattle.upp_curve.specs.Unrolled.{line_later, later, each_later}
+use Rattle.upp_normal.proofs.UnrolledValues.{read_later}
+use Rattle.upp_normal.proofs.NormaliseLoops.{past_go, past_stop, past_none, later_none, later_some}
+use Rattle.upp_normal.proofs.NormaliseLists.{rises_past}
+use Rattle.upp_normal.proofs.NormalisePeriods.{cut_reads}
 use Rattle.plain_operators.specs.pointwise.Shifting.{left_line, left_piece, moved_left}
-use Rattle.upp_limits.specs.rational.proofs.ExtendedOrder.{add_zero_ext}
+use Rattle.rational.proofs.ExtendedOrder.{add_zero_ext}
 
 -- ---- the loop
 pub left_more : (x : ℚ) (p q : Piece) (todo more done done2 all : List Piece) (o : Ordering) → todo ≡ p ∷ more → o ≡ cmp_q p.x x → o ≡ Greater → q ≡ left_piece x p → done2 ≡ done ++ q ∷ []

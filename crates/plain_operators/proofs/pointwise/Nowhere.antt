@@ -1,16 +1,16 @@
 -- The curve that is infinite everywhere.
 use Rattle.std.specs.Prelude.{◌≡◌, pos, Bool, true, false, cond, List, [], ◌∷◌, ◌++◌}
 use Rattle.std.proofs.Common.{ap, ap₂, ◌∙◌, refl, inl, subst, sym}
-use Rattle.upp_limits.specs.rational.specs.Rational.{ℚ, int, le_q}
-use Rattle.upp_limits.specs.rational.specs.Extended.{Ext}
-use Rattle.upp_limits.specs.rational.specs.declared.Extended.TheVariants.{Inf}
-use Rattle.upp_limits.specs.rational.proofs.Laws.{le_refl}
-use Rattle.upp_limits.specs.upp_curve.specs.declared.affine_segment.line.Piece.{Piece}
-use Rattle.upp_limits.specs.upp_curve.specs.declared.curve.Tail.TheVariants.{Infinite}
-use Rattle.upp_limits.specs.upp_curve.specs.affine_segment.Reading.{read, piece_in, nothing_at}
-use Rattle.upp_limits.specs.upp_curve.specs.Curve.{SpecCurve, cut, value_at}
-use Rattle.upp_limits.specs.upp_curve.specs.Curves.{IsCurve}
-use Rattle.upp_limits.specs.upp_curve.proofs.affine_segment.PieceIn.{nothing_read}
+use Rattle.rational.specs.Rational.{ℚ, int, le_q}
+use Rattle.rational.specs.Extended.{Ext}
+use Rattle.rational.specs.declared.Extended.TheVariants.{Inf}
+use Rattle.rational.proofs.Laws.{le_refl}
+use Rattle.upp_curve.specs.declared.affine_segment.line.Piece.{Piece}
+use Rattle.upp_curve.specs.declared.curve.Tail.TheVariants.{Infinite}
+use Rattle.upp_curve.specs.affine_segment.Reading.{read, piece_in, nothing_at}
+use Rattle.upp_curve.specs.Curve.{SpecCurve, cut, value_at}
+use Rattle.upp_curve.specs.Curves.{IsCurve}
+use Rattle.upp_curve.proofs.affine_segment.PieceIn.{nothing_read}
 
 abbrev pub infinite_from : ℚ → SpecCurve
 infinite_from x = record { pieces = nothing_at x ∷ []; tail = Infinite x }

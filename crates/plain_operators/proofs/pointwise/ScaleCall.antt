@@ -2,20 +2,20 @@
 use Rattle.std.specs.Prelude.{◌≡◌, pos, List, map}
 use Rattle.std.specs.List.{AllByRecursion}
 use Rattle.std.proofs.Common.{arith, sym, ap, ap₂, ◌∙◌, subst}
-use Rattle.upp_limits.specs.rational.specs.Rational.{ℚ, ◌+ℚ◌, ◌≤ℚ◌, ◌<ℚ◌, int}
-use Rattle.upp_limits.specs.rational.proofs.Linear.{with3}
-use Rattle.upp_limits.specs.rational.proofs.Laws.{lt_le_trans}
-use Rattle.upp_limits.specs.upp_curve.specs.declared.affine_segment.line.Piece.{Piece}
-use Rattle.upp_limits.specs.upp_curve.specs.declared.curve.Tail.{Tail}
-use Rattle.upp_limits.specs.upp_curve.specs.declared.curve.Tail.TheVariants.{Periodic, Affine, Infinite}
+use Rattle.rational.specs.Rational.{ℚ, ◌+ℚ◌, ◌≤ℚ◌, ◌<ℚ◌, int}
+use Rattle.rational.proofs.Linear.{with3}
+use Rattle.rational.proofs.Laws.{lt_le_trans}
+use Rattle.upp_curve.specs.declared.affine_segment.line.Piece.{Piece}
+use Rattle.upp_curve.specs.declared.curve.Tail.{Tail}
+use Rattle.upp_curve.specs.declared.curve.Tail.TheVariants.{Periodic, Affine, Infinite}
 use Rattle.upp_limits.specs.declared.op_kind.OpKind.TheVariants.{Scale}
-use Rattle.upp_limits.specs.upp_curve.specs.Curve.{SpecCurve, value_at, HasSameValues}
-use Rattle.upp_limits.specs.upp_curve.specs.Curves.{IsCurve}
-use Rattle.upp_limits.specs.upp_curve.specs.affine_segment.Pieces.{Each}
-use Rattle.upp_limits.specs.upp_curve.specs.Normal.{IsNormal, IsRaw}
-use Rattle.upp_limits.specs.upp_curve.specs.Steady.{steady}
+use Rattle.upp_curve.specs.Curve.{SpecCurve, value_at, HasSameValues}
+use Rattle.upp_curve.specs.Curves.{IsCurve}
+use Rattle.upp_curve.specs.affine_segment.Pieces.{Each}
+use Rattle.upp_curve.specs.Normal.{IsNormal, IsRaw}
+use Rattle.upp_curve.specs.Steady.{steady}
 use Rattle.upp_limits.specs.Periods.{own_period}
-use Rattle.upp_limits.specs.min_plus.specs.Pointwise.{IsScaled}
+use Rattle.min_plus.specs.Pointwise.{IsScaled}
 use Rattle.upp_limits.specs.Spans.{piece_read, spans}
 use Rattle.upp_limits.specs.Limits.{Sizes, curve_numbers, own_end}
 use Rattle.upp_limits.specs.Sized.{Stands, HeldBy}
@@ -25,14 +25,14 @@ use Rattle.upp_limits.proofs.Stands.{stands_right}
 use Rattle.upp_limits.proofs.Every.{every_weaken}
 use Rattle.upp_limits.proofs.Operands.{held_scaled}
 use Rattle.upp_limits.proofs.CurveStands.{starts_below_own_end}
-use Rattle.curve_call.specs.upp_normal.proofs.UnrolledPieces.{each_of_spans, each_with, all_read}
-use Rattle.upp_limits.specs.upp_curve.proofs.affine_segment.PieceOrder.{each_map}
-use Rattle.curve_call.specs.upp_normal.proofs.NormaliseOwn.{EndsBy, Found, limited_found}
+use Rattle.upp_normal.proofs.UnrolledPieces.{each_of_spans, each_with, all_read}
+use Rattle.upp_curve.proofs.affine_segment.PieceOrder.{each_map}
+use Rattle.upp_normal.proofs.NormaliseOwn.{EndsBy, Found, limited_found}
 use Rattle.curve_call.specs.declared.frame.Frame.{Frame}
 use Rattle.curve_call.specs.Frames.{IsFrame, sizes_at}
 use Rattle.curve_call.proofs.FrameFacts.{FrameFacts, frame_facts}
 use Rattle.plain_operators.proofs.pointwise.ScaledValues.{curve_scaled, each_start, raw_scaled}
-use Rattle.upp_limits.specs.upp_curve.proofs.SteadyTimes.{rank_early}
+use Rattle.upp_curve.proofs.SteadyTimes.{rank_early}
 
 -- ---- what the frame gives
 pub record ScaleCall (q : ℚ) (f : SpecCurve) (r : Frame) (z : Sizes) : Type 0 where

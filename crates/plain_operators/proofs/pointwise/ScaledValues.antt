@@ -1,23 +1,23 @@
 -- A curve times a number, piece by piece: its values, and that it is a curve in some form.
 use Rattle.std.specs.Prelude.{◌≡◌, pos, Bool, true, false, cond, List, [], ◌∷◌, map, Option, Some, None}
 use Rattle.std.proofs.Common.{sym, ap, ap₂, ◌∙◌, refl, inl, inr}
-use Rattle.upp_limits.specs.rational.specs.Rational.{ℚ, ◌+ℚ◌, ◌-ℚ◌, ◌*ℚ◌, ◌≤ℚ◌, ◌<ℚ◌, int, le_q}
-use Rattle.upp_limits.specs.rational.specs.Whole.{periods}
-use Rattle.upp_limits.specs.rational.specs.Extended.{Ext, ◌+ₑ◌}
-use Rattle.upp_limits.specs.rational.specs.declared.Extended.TheVariants.{Fin, Inf}
-use Rattle.upp_limits.specs.rational.proofs.Laws.{le_or_lt, mul_add, mul_assoc, mul_comm}
-use Rattle.upp_limits.specs.upp_curve.specs.declared.affine_segment.line.Line.{Line}
-use Rattle.upp_limits.specs.upp_curve.specs.declared.affine_segment.line.Piece.{Piece}
-use Rattle.upp_limits.specs.upp_curve.specs.affine_segment.Values.{line_value}
-use Rattle.upp_limits.specs.upp_curve.specs.declared.curve.Tail.{Tail}
-use Rattle.upp_limits.specs.upp_curve.specs.declared.curve.Tail.TheVariants.{Periodic, Affine, Infinite}
-use Rattle.upp_limits.specs.upp_curve.specs.affine_segment.Reading.{read, piece_in, piece_value}
-use Rattle.upp_limits.specs.upp_curve.specs.Curve.{SpecCurve, repeated, cut, with_tail, value_at}
-use Rattle.upp_limits.specs.upp_curve.specs.affine_segment.Pieces.{Each, RisesFrom}
-use Rattle.upp_limits.specs.upp_curve.specs.Normal.{TailFits, IsRaw}
-use Rattle.upp_limits.specs.min_plus.specs.Pointwise.{scaled}
+use Rattle.rational.specs.Rational.{ℚ, ◌+ℚ◌, ◌-ℚ◌, ◌*ℚ◌, ◌≤ℚ◌, ◌<ℚ◌, int, le_q}
+use Rattle.rational.specs.Whole.{periods}
+use Rattle.rational.specs.Extended.{Ext, ◌+ₑ◌}
+use Rattle.rational.specs.declared.Extended.TheVariants.{Fin, Inf}
+use Rattle.rational.proofs.Laws.{le_or_lt, mul_add, mul_assoc, mul_comm}
+use Rattle.upp_curve.specs.declared.affine_segment.line.Line.{Line}
+use Rattle.upp_curve.specs.declared.affine_segment.line.Piece.{Piece}
+use Rattle.upp_curve.specs.affine_segment.Values.{line_value}
+use Rattle.upp_curve.specs.declared.curve.Tail.{Tail}
+use Rattle.upp_curve.specs.declared.curve.Tail.TheVariants.{Periodic, Affine, Infinite}
+use Rattle.upp_curve.specs.affine_segment.Reading.{read, piece_in, piece_value}
+use Rattle.upp_curve.specs.Curve.{SpecCurve, repeated, cut, with_tail, value_at}
+use Rattle.upp_curve.specs.affine_segment.Pieces.{Each, RisesFrom}
+use Rattle.upp_curve.specs.Normal.{TailFits, IsRaw}
+use Rattle.min_plus.specs.Pointwise.{scaled}
 use Rattle.upp_limits.specs.Gauges.{scaled_line, scaled_piece, scaled_tail, scaled_curve}
-use Rattle.upp_limits.specs.upp_curve.proofs.affine_segment.PieceIn.{piece_in_stop, piece_in_go, piece_in_end}
+use Rattle.upp_curve.proofs.affine_segment.PieceIn.{piece_in_stop, piece_in_go, piece_in_end}
 use Rattle.upp_limits.proofs.ScaledCurves.{starts_scaled}
 
 -- ---- values

@@ -2,40 +2,40 @@
 use Rattle.std.specs.Prelude.{◌≡◌, ℕ, ◌*◌, pos, List, [], ◌∷◌, Option, Some, None}
 use Prim.Native.Nat.{◌∣◌}
 use Rattle.std.proofs.Common.{arith, sym, ap, ap₂, ◌∙◌, refl, subst}
-use Rattle.upp_limits.specs.rational.specs.Rational.{ℚ, ◌+ℚ◌, ◌-ℚ◌, ◌≤ℚ◌, ◌<ℚ◌, int, neg_ℚ}
-use Rattle.upp_limits.specs.rational.specs.Ratio.{SumFits}
-use Rattle.upp_limits.specs.rational.specs.Grid.{Whole}
-use Rattle.upp_limits.specs.rational.specs.Extended.{Ext, ◌+ₑ◌}
-use Rattle.upp_limits.specs.rational.specs.declared.Extended.TheVariants.{Fin, Inf}
-use Rattle.upp_limits.specs.rational.proofs.Linear.{with2, with3, with4}
-use Rattle.upp_limits.specs.rational.proofs.Laws.{le_of_lt, le_refl}
-use Rattle.upp_limits.specs.rational.proofs.Grid.{whole_sub, whole_neg, within_neg, within_weaken}
-use Rattle.upp_limits.specs.upp_curve.specs.declared.affine_segment.line.Line.{Line}
-use Rattle.upp_limits.specs.upp_curve.specs.declared.affine_segment.line.Piece.{Piece}
+use Rattle.rational.specs.Rational.{ℚ, ◌+ℚ◌, ◌-ℚ◌, ◌≤ℚ◌, ◌<ℚ◌, int, neg_ℚ}
+use Rattle.rational.specs.Ratio.{SumFits}
+use Rattle.rational.specs.Grid.{Whole}
+use Rattle.rational.specs.Extended.{Ext, ◌+ₑ◌}
+use Rattle.rational.specs.declared.Extended.TheVariants.{Fin, Inf}
+use Rattle.rational.proofs.Linear.{with2, with3, with4}
+use Rattle.rational.proofs.Laws.{le_of_lt, le_refl}
+use Rattle.rational.proofs.Grid.{whole_sub, whole_neg, within_neg, within_weaken}
+use Rattle.upp_curve.specs.declared.affine_segment.line.Line.{Line}
+use Rattle.upp_curve.specs.declared.affine_segment.line.Piece.{Piece}
 use Rattle.upp_limits.specs.declared.op_kind.OpKind.{OpKind}
 use Rattle.upp_limits.specs.declared.op_kind.OpKind.TheVariants.{Shift}
-use Rattle.upp_limits.specs.upp_curve.specs.affine_segment.Reading.{read, piece_in}
-use Rattle.upp_limits.specs.upp_curve.specs.Curve.{SpecCurve, repeated, value_at}
-use Rattle.upp_limits.specs.upp_curve.specs.Curves.{IsCurve}
-use Rattle.upp_limits.specs.upp_curve.specs.affine_segment.Pieces.{Each, StartsAtZero}
-use Rattle.curve_call.specs.upp_normal.specs.Normalising.{HasValues, cut_at, past}
-use Rattle.upp_limits.specs.upp_curve.specs.affine_segment.Fits.{LineFitsAt}
-use Rattle.upp_limits.specs.upp_curve.specs.Unrolled.{unroll}
-use Rattle.upp_limits.specs.upp_curve.specs.Steady.{steady, rise_over, IsWholePeriods}
+use Rattle.upp_curve.specs.affine_segment.Reading.{read, piece_in}
+use Rattle.upp_curve.specs.Curve.{SpecCurve, repeated, value_at}
+use Rattle.upp_curve.specs.Curves.{IsCurve}
+use Rattle.upp_curve.specs.affine_segment.Pieces.{Each, StartsAtZero}
+use Rattle.upp_normal.specs.Normalising.{HasValues, cut_at, past}
+use Rattle.upp_curve.specs.affine_segment.Fits.{LineFitsAt}
+use Rattle.upp_curve.specs.Unrolled.{unroll}
+use Rattle.upp_curve.specs.Steady.{steady, rise_over, IsWholePeriods}
 use Rattle.upp_limits.specs.Windows.{window_at}
-use Rattle.upp_limits.specs.min_plus.specs.Pointwise.{IsShift}
+use Rattle.min_plus.specs.Pointwise.{IsShift}
 use Rattle.upp_limits.specs.Limits.{Sizes, curve_numbers}
 use Rattle.upp_limits.specs.Sized.{Stands, grid_of}
-use Rattle.curve_call.specs.upp_normal.specs.Operand.{AreLimited, OperandPiece, OperandPieces, OperandLineAt, answer_room}
-use Rattle.curve_call.specs.upp_normal.specs.Room.{PieceHasRoom, LineHasRoom}
+use Rattle.upp_normal.specs.Operand.{AreLimited, OperandPiece, OperandPieces, OperandLineAt, answer_room}
+use Rattle.upp_normal.specs.Room.{PieceHasRoom, LineHasRoom}
 use Rattle.upp_limits.proofs.NarrowSizes.{narrow_gauge, slope_time_divides}
-use Rattle.curve_call.specs.upp_normal.proofs.NormaliseGrids.{PieceOn, ValueOn, LineOn, raw_on}
-use Rattle.upp_limits.specs.upp_curve.proofs.affine_segment.PieceOrder.{each_map}
-use Rattle.upp_limits.specs.upp_curve.proofs.affine_segment.PieceIn.{read_is}
-use Rattle.upp_limits.specs.upp_curve.proofs.Finite.{each_in}
-use Rattle.upp_limits.specs.upp_curve.proofs.Steady.{steady_rule}
-use Rattle.curve_call.specs.upp_normal.proofs.Below.{unroll_reads}
-use Rattle.curve_call.specs.upp_normal.proofs.AnswerRoom.{room_at_start, line_in_room, operand_line, operand_line_fits, stands_operand_value, operand_line_value, operand_value_room, more_largest}
+use Rattle.upp_normal.proofs.NormaliseGrids.{PieceOn, ValueOn, LineOn, raw_on}
+use Rattle.upp_curve.proofs.affine_segment.PieceOrder.{each_map}
+use Rattle.upp_curve.proofs.affine_segment.PieceIn.{read_is}
+use Rattle.upp_curve.proofs.Finite.{each_in}
+use Rattle.upp_curve.proofs.Steady.{steady_rule}
+use Rattle.upp_normal.proofs.Below.{unroll_reads}
+use Rattle.upp_normal.proofs.AnswerRoom.{room_at_start, line_in_room, operand_line, operand_line_fits, stands_operand_value, operand_line_value, operand_value_room, more_largest}
 use Rattle.curve_call.proofs.OperandWindows.{operand_line_in, operand_read}
 use Rattle.curve_call.specs.declared.frame.Frame.{Frame}
 use Rattle.curve_call.specs.Frames.{IsFrame, sizes_at}
@@ -48,8 +48,8 @@ use Rattle.curve_call.proofs.CurveRises.{IsRise, rise_is, own_whole}
 use Rattle.curve_call.proofs.Answering.{answer_relation}
 use Rattle.plain_operators.specs.pointwise.Shifting.{left_line, left_piece, moved_left, LeftFits}
 use Rattle.plain_operators.proofs.pointwise.LeftWindow.{left_reads, left_starts, each_past, each_moved}
-use Rattle.curve_call.specs.upp_normal.specs.Ahead.{GridValue, IsTimeIn}
-use Rattle.upp_limits.specs.upp_curve.proofs.SteadyTimes.{steady_nonneg}
+use Rattle.upp_normal.specs.Ahead.{GridValue, IsTimeIn}
+use Rattle.upp_curve.proofs.SteadyTimes.{steady_nonneg}
 
 -- the piece at x can be read there
 pub here_fits : (x : ℚ) (ps : List Piece) (here : Piece) → StartsAtZero ps → Each (LeftFits x) ps → ((p : Piece) (qs : List Piece) → ps ≡ p ∷ qs → here ≡ piece_in p qs x) → LineFitsAt x here.line

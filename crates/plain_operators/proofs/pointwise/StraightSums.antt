@@ -4,27 +4,27 @@ use Rattle.std.specs.List.{AllByRecursion, flat_map}
 use Rattle.std.proofs.Common.{arith, sym, ap, ap₂, ◌∙◌, refl, subst}
 use Rattle.std.proofs.Math.Nat.{max-le}
 use native.Mathlib.Nat.{div-one, le_of_dvd, mul-le-mul_right}
-use Rattle.upp_limits.specs.rational.specs.Rational.{ℚ, ◌+ℚ◌, ◌*ℚ◌, ◌≤ℚ◌, ◌<ℚ◌, int, den, le_q}
-use Rattle.upp_limits.specs.rational.specs.MinMax.{max_q}
-use Rattle.upp_limits.specs.rational.specs.Grid.{Whole, Within}
-use Rattle.upp_limits.specs.rational.specs.Ratio.{IsSmall}
-use Rattle.upp_limits.specs.rational.specs.Gauge.{common_den, bound_of, size_up, up_over}
-use Rattle.upp_limits.specs.rational.specs.Extended.{◌+ₑ◌}
-use Rattle.upp_limits.specs.rational.specs.declared.Extended.TheVariants.{Fin}
-use Rattle.upp_limits.specs.rational.proofs.Laws.{le_refl, le_trans, le_of_lt, mul_zero, add_zero, mul_le_mul}
-use Rattle.upp_limits.specs.rational.proofs.Linear.{with1}
-use Rattle.upp_limits.specs.rational.proofs.Integers.{int_add, int_mul, nat_le, nat_nonneg}
-use Rattle.upp_limits.specs.rational.proofs.MinMax.{max_q_ge_left, max_q_le}
-use Rattle.upp_limits.specs.rational.proofs.Over.{lt_q_out}
-use Rattle.upp_limits.specs.rational.proofs.Grid.{whole_int, whole_add, whole_den, max_whole, within_add, within_weaken}
-use Rattle.upp_limits.specs.upp_curve.specs.affine_segment.Values.{line_at, line_value}
-use Rattle.upp_limits.specs.upp_curve.specs.affine_segment.Reading.{read, piece_in, piece_value}
-use Rattle.upp_limits.specs.upp_curve.specs.affine_segment.Pieces.{Each}
-use Rattle.upp_limits.specs.upp_curve.specs.Curve.{SpecCurve, value_at}
-use Rattle.upp_limits.specs.upp_curve.specs.Curves.{IsCurve}
-use Rattle.upp_limits.specs.upp_curve.specs.Steady.{steady, same_ext, later_unless}
-use Rattle.upp_limits.specs.upp_curve.specs.Unrolled.{unroll, upto, count}
-use Rattle.upp_limits.specs.upp_curve.proofs.ReadableKinds.{bucket_curve}
+use Rattle.rational.specs.Rational.{ℚ, ◌+ℚ◌, ◌*ℚ◌, ◌≤ℚ◌, ◌<ℚ◌, int, den, le_q}
+use Rattle.rational.specs.MinMax.{max_q}
+use Rattle.rational.specs.Grid.{Whole, Within}
+use Rattle.rational.specs.Ratio.{IsSmall}
+use Rattle.rational.specs.Gauge.{common_den, bound_of, size_up, up_over}
+use Rattle.rational.specs.Extended.{◌+ₑ◌}
+use Rattle.rational.specs.declared.Extended.TheVariants.{Fin}
+use Rattle.rational.proofs.Laws.{le_refl, le_trans, le_of_lt, mul_zero, add_zero, mul_le_mul}
+use Rattle.rational.proofs.Linear.{with1}
+use Rattle.rational.proofs.Integers.{int_add, int_mul, nat_le, nat_nonneg}
+use Rattle.rational.proofs.MinMax.{max_q_ge_left, max_q_le}
+use Rattle.rational.proofs.Over.{lt_q_out}
+use Rattle.rational.proofs.Grid.{whole_int, whole_add, whole_den, max_whole, within_add, within_weaken}
+use Rattle.upp_curve.specs.affine_segment.Values.{line_at, line_value}
+use Rattle.upp_curve.specs.affine_segment.Reading.{read, piece_in, piece_value}
+use Rattle.upp_curve.specs.affine_segment.Pieces.{Each}
+use Rattle.upp_curve.specs.Curve.{SpecCurve, value_at}
+use Rattle.upp_curve.specs.Curves.{IsCurve}
+use Rattle.upp_curve.specs.Steady.{steady, same_ext, later_unless}
+use Rattle.upp_curve.specs.Unrolled.{unroll, upto, count}
+use Rattle.upp_curve.proofs.ReadableKinds.{bucket_curve}
 use Rattle.upp_limits.specs.declared.op_kind.OpKind.TheVariants.{Sum}
 use Rattle.upp_limits.specs.Periods.{common_period, both_steady}
 use Rattle.upp_limits.specs.Windows.{window_at}
@@ -39,9 +39,9 @@ use Rattle.upp_limits.proofs.Rounding.{whole_up_most}
 use Rattle.upp_limits.proofs.CurveStands.{are_sizes}
 use Rattle.upp_limits.proofs.Stands.{sizes_stand}
 use Rattle.upp_limits.proofs.NarrowSizes.{two_times}
-use Rattle.curve_call.specs.upp_normal.specs.Operand.{AreLimited, OperandPiece}
-use Rattle.curve_call.specs.upp_normal.proofs.UnrolledPieces.{operand_pieces}
-use Rattle.curve_call.specs.upp_normal.proofs.AnswerRoom.{stands_operand_value, values_fit, operand_lines_fit}
+use Rattle.upp_normal.specs.Operand.{AreLimited, OperandPiece}
+use Rattle.upp_normal.proofs.UnrolledPieces.{operand_pieces}
+use Rattle.upp_normal.proofs.AnswerRoom.{stands_operand_value, values_fit, operand_lines_fit}
 use Rattle.curve_call.proofs.Sums.{sum_line_value}
 use Rattle.curve_call.proofs.CallTimes.{first_stands, second_stands}
 use Rattle.curve_call.proofs.Limited.{sum_least, within_at_least}

@@ -2,35 +2,35 @@
 use Rattle.std.specs.Prelude.{◌≡◌, ℕ, ◌*◌, pos, List}
 use Prim.Native.Nat.{◌∣◌}
 use Rattle.std.proofs.Common.{arith, sym, ap, ap₂, ◌∙◌, refl, subst}
-use Rattle.upp_limits.specs.rational.specs.Rational.{ℚ, ◌+ℚ◌, ◌≤ℚ◌, ◌<ℚ◌, int}
-use Rattle.upp_limits.specs.rational.specs.Ratio.{SumFits}
-use Rattle.upp_limits.specs.rational.specs.Grid.{Whole, Within}
-use Rattle.upp_limits.specs.rational.specs.Extended.{Ext, ◌+ₑ◌}
-use Rattle.upp_limits.specs.rational.specs.declared.Extended.TheVariants.{Fin, Inf}
-use Rattle.upp_limits.specs.rational.proofs.Linear.{with4}
-use Rattle.upp_limits.specs.rational.proofs.Laws.{le_trans, le_of_lt}
-use Rattle.upp_limits.specs.rational.proofs.MinMax.{max_q_ge_left, max_q_ge_right}
-use Rattle.upp_limits.specs.rational.proofs.Grid.{whole_add, within_add, within_weaken}
-use Rattle.upp_limits.specs.upp_curve.specs.declared.affine_segment.line.Piece.{Piece}
+use Rattle.rational.specs.Rational.{ℚ, ◌+ℚ◌, ◌≤ℚ◌, ◌<ℚ◌, int}
+use Rattle.rational.specs.Ratio.{SumFits}
+use Rattle.rational.specs.Grid.{Whole, Within}
+use Rattle.rational.specs.Extended.{Ext, ◌+ₑ◌}
+use Rattle.rational.specs.declared.Extended.TheVariants.{Fin, Inf}
+use Rattle.rational.proofs.Linear.{with4}
+use Rattle.rational.proofs.Laws.{le_trans, le_of_lt}
+use Rattle.rational.proofs.MinMax.{max_q_ge_left, max_q_ge_right}
+use Rattle.rational.proofs.Grid.{whole_add, within_add, within_weaken}
+use Rattle.upp_curve.specs.declared.affine_segment.line.Piece.{Piece}
 use Rattle.upp_limits.specs.declared.op_kind.OpKind.TheVariants.{Sum}
-use Rattle.upp_limits.specs.upp_curve.specs.affine_segment.Reading.{read}
-use Rattle.upp_limits.specs.upp_curve.specs.Curve.{SpecCurve, repeated, value_at}
-use Rattle.upp_limits.specs.upp_curve.specs.Curves.{IsCurve}
-use Rattle.upp_limits.specs.upp_curve.specs.affine_segment.Pieces.{Each}
-use Rattle.curve_call.specs.upp_normal.specs.Normalising.{HasValues}
-use Rattle.upp_limits.specs.upp_curve.specs.Unrolled.{unroll}
-use Rattle.upp_limits.specs.upp_curve.specs.Steady.{steady, rise_over, IsWholePeriods}
+use Rattle.upp_curve.specs.affine_segment.Reading.{read}
+use Rattle.upp_curve.specs.Curve.{SpecCurve, repeated, value_at}
+use Rattle.upp_curve.specs.Curves.{IsCurve}
+use Rattle.upp_curve.specs.affine_segment.Pieces.{Each}
+use Rattle.upp_normal.specs.Normalising.{HasValues}
+use Rattle.upp_curve.specs.Unrolled.{unroll}
+use Rattle.upp_curve.specs.Steady.{steady, rise_over, IsWholePeriods}
 use Rattle.upp_limits.specs.Windows.{window_at}
-use Rattle.upp_limits.specs.min_plus.specs.Pointwise.{IsSum}
+use Rattle.min_plus.specs.Pointwise.{IsSum}
 use Rattle.upp_limits.specs.Limits.{Sizes, curve_numbers}
 use Rattle.upp_limits.specs.Sized.{Stands, grid_of, times_largest}
-use Rattle.curve_call.specs.upp_normal.specs.Operand.{OperandPieces, answer_room}
-use Rattle.curve_call.specs.upp_normal.specs.Room.{PieceHasRoom}
+use Rattle.upp_normal.specs.Operand.{OperandPieces, answer_room}
+use Rattle.upp_normal.specs.Room.{PieceHasRoom}
 use Rattle.upp_limits.proofs.NarrowSizes.{narrow_gauge, small_sum, slope_time_divides}
-use Rattle.curve_call.specs.upp_normal.proofs.NormaliseGrids.{PieceOn, raw_on}
-use Rattle.upp_limits.specs.upp_curve.proofs.affine_segment.PieceOrder.{each_map}
-use Rattle.upp_limits.specs.upp_curve.proofs.Steady.{steady_rule}
-use Rattle.curve_call.specs.upp_normal.proofs.Below.{unroll_reads}
+use Rattle.upp_normal.proofs.NormaliseGrids.{PieceOn, raw_on}
+use Rattle.upp_curve.proofs.affine_segment.PieceOrder.{each_map}
+use Rattle.upp_curve.proofs.Steady.{steady_rule}
+use Rattle.upp_normal.proofs.Below.{unroll_reads}
 use Rattle.curve_call.specs.Pointwise.{IsWindowSum, IsSumPiece}
 use Rattle.curve_call.proofs.OperandWindows.{StartsWithRoom, sum_room}
 use Rattle.curve_call.specs.declared.frame.Frame.{Frame}

@@ -2,29 +2,29 @@
 -- the next, the service has caught up.
 use Rattle.std.specs.Prelude.{◌≡◌, ℕ, ◌<◌, pos, Option, None, ◌⊎◌}
 use Rattle.std.proofs.Common.{arith, sym, ap, ◌∙◌, refl, subst, inl, inr}
-use Rattle.upp_limits.specs.rational.specs.Rational.{ℚ, ◌-ℚ◌, ◌≤ℚ◌, ◌<ℚ◌, neg_ℚ}
-use Rattle.upp_limits.specs.rational.specs.MinMax.{max_q}
-use Rattle.upp_limits.specs.rational.specs.Ratio.{SumFits}
-use Rattle.upp_limits.specs.rational.specs.Grid.{Whole, Within}
-use Rattle.upp_limits.specs.rational.specs.Extended.{Ext, ◌≤ₑ◌, ◌<ₑ◌, ◌+ₑ◌}
-use Rattle.upp_limits.specs.rational.specs.declared.Extended.TheVariants.{Fin}
-use Rattle.upp_limits.specs.rational.proofs.Linear.{with2, with3, with4}
-use Rattle.upp_limits.specs.rational.proofs.Laws.{le_or_lt, le_refl, le_of_lt, le_trans, lt_irrefl, lt_le_trans, le_lt_trans, antisym, le_of_not_lt}
-use Rattle.upp_limits.specs.rational.proofs.MinMax.{max_q_one, max_q_ge_left, max_q_ge_right}
-use Rattle.upp_limits.specs.rational.proofs.Grid.{whole_int, whole_sub, within_nonneg, within_sub}
-use Rattle.upp_limits.specs.rational.proofs.ExtendedOrder.{le_ext_refl, le_ext_trans, add_le_ext}
-use Rattle.curve_call.specs.upp_normal.specs.declared.ahead.Stretch.{Stretch}
-use Rattle.upp_limits.specs.upp_curve.specs.Curve.{SpecCurve, value_at}
-use Rattle.upp_limits.specs.min_plus.specs.Functions.{zero_q}
-use Rattle.upp_limits.specs.upp_curve.specs.Shapes.{IsNumber}
+use Rattle.rational.specs.Rational.{ℚ, ◌-ℚ◌, ◌≤ℚ◌, ◌<ℚ◌, neg_ℚ}
+use Rattle.rational.specs.MinMax.{max_q}
+use Rattle.rational.specs.Ratio.{SumFits}
+use Rattle.rational.specs.Grid.{Whole, Within}
+use Rattle.rational.specs.Extended.{Ext, ◌≤ₑ◌, ◌<ₑ◌, ◌+ₑ◌}
+use Rattle.rational.specs.declared.Extended.TheVariants.{Fin}
+use Rattle.rational.proofs.Linear.{with2, with3, with4}
+use Rattle.rational.proofs.Laws.{le_or_lt, le_refl, le_of_lt, le_trans, lt_irrefl, lt_le_trans, le_lt_trans, antisym, le_of_not_lt}
+use Rattle.rational.proofs.MinMax.{max_q_one, max_q_ge_left, max_q_ge_right}
+use Rattle.rational.proofs.Grid.{whole_int, whole_sub, within_nonneg, within_sub}
+use Rattle.rational.proofs.ExtendedOrder.{le_ext_refl, le_ext_trans, add_le_ext}
+use Rattle.upp_normal.specs.declared.ahead.Stretch.{Stretch}
+use Rattle.upp_curve.specs.Curve.{SpecCurve, value_at}
+use Rattle.min_plus.specs.Functions.{zero_q}
+use Rattle.upp_curve.specs.Shapes.{IsNumber}
 use Rattle.upp_limits.specs.Limits.{Sizes}
 use Rattle.upp_limits.specs.Sized.{grid_of, times_largest}
-use Rattle.curve_call.specs.upp_normal.specs.Operand.{AreLimited}
-use Rattle.curve_call.specs.upp_normal.specs.Ahead.{GoesOn, AtNext, IsBeforeNext, TimesStand, IsTimeIn, GridValue}
-use Rattle.curve_call.specs.upp_normal.proofs.AnswerRoom.{values_fit}
-use Rattle.upp_limits.specs.upp_curve.proofs.Finite.{number_of}
-use Rattle.curve_call.specs.upp_normal.proofs.StretchSizes.{times_fit, grid_value}
-use Rattle.curve_call.specs.upp_normal.proofs.AnswerRoom.{many_more}
+use Rattle.upp_normal.specs.Operand.{AreLimited}
+use Rattle.upp_normal.specs.Ahead.{GoesOn, AtNext, IsBeforeNext, TimesStand, IsTimeIn, GridValue}
+use Rattle.upp_normal.proofs.AnswerRoom.{values_fit}
+use Rattle.upp_curve.proofs.Finite.{number_of}
+use Rattle.upp_normal.proofs.StretchSizes.{times_fit, grid_value}
+use Rattle.upp_normal.proofs.AnswerRoom.{many_more}
 use Rattle.curve_call.specs.declared.gaps.Gap.{Gap}
 use Rattle.curve_call.specs.declared.gaps.Gap.TheVariants.{NoTime, Is}
 use Rattle.curve_call.specs.Gaps.{InWindow, IsWithin, IsGap}

@@ -1,25 +1,25 @@
 -- The least number of periods after which one period covers all that came before.
 use Rattle.std.specs.Prelude.{◌≡◌, ℕ, ◌<◌, pos}
 use Rattle.std.proofs.Common.{arith, sym, ap, ◌∙◌, subst, inl, inr}
-use Rattle.upp_limits.specs.rational.specs.Rational.{ℚ, ◌+ℚ◌, ◌-ℚ◌, ◌*ℚ◌, ◌/ℚ◌, ◌≤ℚ◌, ◌<ℚ◌, int}
-use Rattle.upp_limits.specs.rational.specs.Gauge.{size_up}
-use Rattle.upp_limits.specs.rational.specs.Extended.{Ext, ◌≤ₑ◌, ◌+ₑ◌}
-use Rattle.upp_limits.specs.rational.specs.declared.Extended.TheVariants.{Fin}
-use Rattle.upp_limits.specs.rational.proofs.Grid.{within_nonneg}
-use Rattle.upp_limits.specs.rational.proofs.Linear.{with1, with2, with3, with4}
-use Rattle.upp_limits.specs.rational.proofs.Laws.{le_refl, le_of_lt, le_or_lt, le_trans, lt_irrefl, lt_le_trans, mul_le_mul_right, mul_lt_mul_right, mul_sub, mul_zero, div_mul, not_zero, lt_of_mul, zero_mul}
-use Rattle.upp_limits.specs.rational.proofs.Integers.{nat_nonneg}
-use Rattle.upp_limits.specs.rational.proofs.ExtendedOrder.{le_ext_trans}
-use Rattle.upp_limits.specs.rational.proofs.Bounds.{smallest}
+use Rattle.rational.specs.Rational.{ℚ, ◌+ℚ◌, ◌-ℚ◌, ◌*ℚ◌, ◌/ℚ◌, ◌≤ℚ◌, ◌<ℚ◌, int}
+use Rattle.rational.specs.Gauge.{size_up}
+use Rattle.rational.specs.Extended.{Ext, ◌≤ₑ◌, ◌+ₑ◌}
+use Rattle.rational.specs.declared.Extended.TheVariants.{Fin}
+use Rattle.rational.proofs.Grid.{within_nonneg}
+use Rattle.rational.proofs.Linear.{with1, with2, with3, with4}
+use Rattle.rational.proofs.Laws.{le_refl, le_of_lt, le_or_lt, le_trans, lt_irrefl, lt_le_trans, mul_le_mul_right, mul_lt_mul_right, mul_sub, mul_zero, div_mul, not_zero, lt_of_mul, zero_mul}
+use Rattle.rational.proofs.Integers.{nat_nonneg}
+use Rattle.rational.proofs.ExtendedOrder.{le_ext_trans}
+use Rattle.rational.proofs.Bounds.{smallest}
 use Rattle.upp_limits.specs.declared.op_kind.OpKind.TheVariants.{RunSup}
-use Rattle.upp_limits.specs.upp_curve.specs.Curve.{SpecCurve, value_at}
-use Rattle.upp_limits.specs.min_plus.specs.Functions.{zero_q}
-use Rattle.upp_limits.specs.upp_curve.specs.Steady.{Repeats, steady, rise_over}
+use Rattle.upp_curve.specs.Curve.{SpecCurve, value_at}
+use Rattle.min_plus.specs.Functions.{zero_q}
+use Rattle.upp_curve.specs.Steady.{Repeats, steady, rise_over}
 use Rattle.upp_limits.specs.Periods.{own_period, periods_after}
 use Rattle.upp_limits.specs.Windows.{IsCovered, IsLeast, Meets}
 use Rattle.upp_limits.proofs.CommonDen.{size_up_within, size_up_least}
-use Rattle.upp_limits.specs.min_plus.proofs.Rates.{enough}
-use Rattle.upp_limits.specs.upp_curve.proofs.Repeats.{repeats_times}
+use Rattle.min_plus.proofs.Rates.{enough}
+use Rattle.upp_curve.proofs.Repeats.{repeats_times}
 use Rattle.plain_operators.specs.running.Scans.{Until, IsSupremumIn}
 use Rattle.plain_operators.specs.running.Periods.{IsCover, IsCovering, IsCoveredAfter}
 use Rattle.plain_operators.proofs.running.Shifts.{period_supremum}

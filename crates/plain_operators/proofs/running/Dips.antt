@@ -1,19 +1,19 @@
 -- The worked curve of 3 t before 1 and t from 1 on is a curve in any form, finite and nowhere below 0.
 use Rattle.std.specs.Prelude.{◌≡◌, List}
 use Rattle.std.proofs.Common.{arith, sym, ap₂, ◌∙◌, refl, subst, inl, inr}
-use Rattle.upp_limits.specs.rational.specs.Rational.{ℚ, ◌*ℚ◌}
-use Rattle.upp_limits.specs.rational.specs.Extended.{◌≤ₑ◌}
-use Rattle.upp_limits.specs.rational.specs.declared.Extended.TheVariants.{Fin}
-use Rattle.upp_limits.specs.rational.proofs.Integers.{nat_le, nat_lt, nat_nonneg}
-use Rattle.upp_limits.specs.rational.proofs.Laws.{le_or_lt, le_refl}
-use Rattle.upp_limits.specs.rational.proofs.Linear.{with1}
-use Rattle.upp_limits.specs.upp_curve.specs.declared.affine_segment.line.Piece.{Piece}
-use Rattle.upp_limits.specs.upp_curve.specs.declared.curve.Tail.TheVariants.{Affine}
-use Rattle.upp_limits.specs.upp_curve.specs.Curve.{SpecCurve, value_at, HasSameValues}
-use Rattle.upp_limits.specs.min_plus.specs.Functions.{zero_q, IsFinite, IsNonnegative}
-use Rattle.upp_limits.specs.upp_curve.specs.Normal.{IsRaw}
-use Rattle.upp_limits.specs.upp_curve.specs.WorkedRows.{whole, dip}
-use Rattle.upp_limits.specs.upp_curve.proofs.WorkedRunning.{dip_early, dip_late}
+use Rattle.rational.specs.Rational.{ℚ, ◌*ℚ◌}
+use Rattle.rational.specs.Extended.{◌≤ₑ◌}
+use Rattle.rational.specs.declared.Extended.TheVariants.{Fin}
+use Rattle.rational.proofs.Integers.{nat_le, nat_lt, nat_nonneg}
+use Rattle.rational.proofs.Laws.{le_or_lt, le_refl}
+use Rattle.rational.proofs.Linear.{with1}
+use Rattle.upp_curve.specs.declared.affine_segment.line.Piece.{Piece}
+use Rattle.upp_curve.specs.declared.curve.Tail.TheVariants.{Affine}
+use Rattle.upp_curve.specs.Curve.{SpecCurve, value_at, HasSameValues}
+use Rattle.min_plus.specs.Functions.{zero_q, IsFinite, IsNonnegative}
+use Rattle.upp_curve.specs.Normal.{IsRaw}
+use Rattle.upp_curve.specs.WorkedRows.{whole, dip}
+use Rattle.upp_curve.proofs.WorkedRunning.{dip_early, dip_late}
 
 dip_raw : IsRaw dip
 dip_raw = record {

@@ -1,22 +1,22 @@
 -- The running bounds of a finite curve are finite: of the supremum by its pieces, of the infimum by its value.
 use Rattle.std.specs.Prelude.{◌≡◌, Bool, List, [], ◌∷◌, Option, Some}
 use Rattle.std.proofs.Common.{sym, ◌∙◌, subst, inl, inr}
-use Rattle.upp_limits.specs.rational.specs.Rational.{ℚ}
-use Rattle.upp_limits.specs.rational.specs.Extended.{Ext, ◌≤ₑ◌}
-use Rattle.upp_limits.specs.rational.proofs.Laws.{le_refl}
-use Rattle.upp_limits.specs.upp_curve.specs.declared.affine_segment.line.Line.{Line}
-use Rattle.upp_limits.specs.upp_curve.specs.declared.affine_segment.line.Piece.{Piece}
-use Rattle.upp_limits.specs.upp_curve.specs.affine_segment.Reading.{read}
-use Rattle.upp_limits.specs.upp_curve.specs.Curve.{SpecCurve, value_at, repeated}
-use Rattle.upp_limits.specs.min_plus.specs.Functions.{IsFinite}
-use Rattle.upp_limits.specs.upp_curve.specs.affine_segment.Pieces.{Each, StartsAtZero}
-use Rattle.curve_call.specs.upp_normal.specs.Normalising.{HasValues}
-use Rattle.upp_limits.specs.upp_curve.specs.Shapes.{IsNumber, IsLine, IsFinitePiece}
-use Rattle.upp_limits.specs.upp_curve.proofs.Finite.{level_of, number_of, read_number, repeated_number}
+use Rattle.rational.specs.Rational.{ℚ}
+use Rattle.rational.specs.Extended.{Ext, ◌≤ₑ◌}
+use Rattle.rational.proofs.Laws.{le_refl}
+use Rattle.upp_curve.specs.declared.affine_segment.line.Line.{Line}
+use Rattle.upp_curve.specs.declared.affine_segment.line.Piece.{Piece}
+use Rattle.upp_curve.specs.affine_segment.Reading.{read}
+use Rattle.upp_curve.specs.Curve.{SpecCurve, value_at, repeated}
+use Rattle.min_plus.specs.Functions.{IsFinite}
+use Rattle.upp_curve.specs.affine_segment.Pieces.{Each, StartsAtZero}
+use Rattle.upp_normal.specs.Normalising.{HasValues}
+use Rattle.upp_curve.specs.Shapes.{IsNumber, IsLine, IsFinitePiece}
+use Rattle.upp_curve.proofs.Finite.{level_of, number_of, read_number, repeated_number}
 use Rattle.plain_operators.specs.running.Made.{IsMade, IsScan}
 use Rattle.plain_operators.specs.running.Runs.{RunsFrom}
-use Rattle.upp_limits.specs.upp_curve.proofs.affine_segment.PieceIn.{read_is}
-use Rattle.upp_limits.specs.rational.proofs.ExtendedOrder.{finite_below}
+use Rattle.upp_curve.proofs.affine_segment.PieceIn.{read_is}
+use Rattle.rational.proofs.ExtendedOrder.{finite_below}
 
 -- ---- the supremum
 some_line : (line : Option Line) (l : Line) → line ≡ Some l → IsLine line

@@ -1,17 +1,17 @@
 -- The first of some pieces, up to a time: a list that is cut there keeps what holds of its pieces, and its readings before that time.
 use Rattle.std.specs.Prelude.{◌≡◌, ℕ, suc, Bool, ◌+◌, ◌<◌, pos, List, [], ◌∷◌, ◌++◌, length, drop}
 use Rattle.std.proofs.Common.{arith, get_or, drop-cons, sym, ap, ap₂, ◌∙◌, refl, subst, inl, inr}
-use Rattle.upp_limits.specs.rational.specs.Rational.{ℚ, ◌≤ℚ◌, ◌<ℚ◌, int}
-use Rattle.upp_limits.specs.rational.proofs.Laws.{le_or_lt, lt_irrefl, lt_le_trans, le_lt_trans}
-use Rattle.upp_limits.specs.upp_curve.specs.declared.affine_segment.line.Piece.{Piece}
-use Rattle.curve_call.specs.upp_normal.specs.Bends.{OnlyBend}
-use Rattle.upp_limits.specs.upp_curve.specs.affine_segment.Reading.{read, piece_in, piece_value}
-use Rattle.upp_limits.specs.upp_curve.specs.affine_segment.Pieces.{Each, StartsAtZero}
-use Rattle.upp_limits.specs.upp_curve.proofs.affine_segment.PieceIn.{piece_in_end, piece_in_go, piece_in_stop}
+use Rattle.rational.specs.Rational.{ℚ, ◌≤ℚ◌, ◌<ℚ◌, int}
+use Rattle.rational.proofs.Laws.{le_or_lt, lt_irrefl, lt_le_trans, le_lt_trans}
+use Rattle.upp_curve.specs.declared.affine_segment.line.Piece.{Piece}
+use Rattle.upp_normal.specs.Bends.{OnlyBend}
+use Rattle.upp_curve.specs.affine_segment.Reading.{read, piece_in, piece_value}
+use Rattle.upp_curve.specs.affine_segment.Pieces.{Each, StartsAtZero}
+use Rattle.upp_curve.proofs.affine_segment.PieceIn.{piece_in_end, piece_in_go, piece_in_stop}
 use Rattle.curve_call.proofs.Surgery.{one_more}
 use Rattle.plain_operators.specs.running.Runs.{IsFrontBefore}
-use Rattle.upp_limits.specs.upp_curve.proofs.affine_segment.PieceOrder.{heads_same, each_left, rises_left}
-use Rattle.curve_call.specs.upp_normal.proofs.Bends.{bend_front}
+use Rattle.upp_curve.proofs.affine_segment.PieceOrder.{heads_same, each_left, rises_left}
+use Rattle.upp_normal.proofs.Bends.{bend_front}
 
 -- ---- the loop
 pub record FrontLoop (ps : List Piece) (end : ℚ) (i : ℕ) (front : List Piece) : Type 0 where

@@ -1,19 +1,19 @@
 -- The supremum between two times, piece by piece.
 use Rattle.std.specs.Prelude.{◌≡◌, ℕ, ◌+◌, ◌≤◌, pos, List, length, drop, ◌⊎◌}
 use Rattle.std.proofs.Common.{drop_of_length-le, sym, ap, ap₂, ◌∙◌, refl, subst, inl, inr}
-use Rattle.upp_limits.specs.rational.specs.Rational.{ℚ, ◌≤ℚ◌, ◌<ℚ◌, int}
-use Rattle.upp_limits.specs.rational.specs.MinMax.{min_q, max_q}
-use Rattle.upp_limits.specs.rational.specs.Extended.{Ext, ◌≤ₑ◌, ◌<ₑ◌}
-use Rattle.upp_limits.specs.rational.specs.declared.Extended.TheVariants.{Fin}
-use Rattle.upp_limits.specs.rational.proofs.Laws.{antisym, le_refl, le_of_lt, le_or_lt, le_trans, lt_irrefl, lt_le_trans, le_lt_trans}
-use Rattle.upp_limits.specs.rational.proofs.ExtendedOrder.{le_ext_trans, same_le_ext, lt_le_ext}
-use Rattle.upp_limits.specs.rational.proofs.MinMax.{max_q_one, max_q_ge_left, max_q_ge_right, max_q_le, min_q_one, min_q_le_left, min_q_le_right, below_min_in}
-use Rattle.upp_limits.specs.rational.proofs.Stretch.{line_supremum}
-use Rattle.upp_limits.specs.upp_curve.specs.declared.affine_segment.line.Line.{Line}
-use Rattle.upp_limits.specs.upp_curve.specs.declared.affine_segment.line.Piece.{Piece}
-use Rattle.upp_limits.specs.upp_curve.specs.affine_segment.Values.{line_at}
-use Rattle.upp_limits.specs.upp_curve.specs.affine_segment.Reading.{read}
-use Rattle.upp_limits.specs.upp_curve.specs.affine_segment.Fits.{LineFits}
+use Rattle.rational.specs.Rational.{ℚ, ◌≤ℚ◌, ◌<ℚ◌, int}
+use Rattle.rational.specs.MinMax.{min_q, max_q}
+use Rattle.rational.specs.Extended.{Ext, ◌≤ₑ◌, ◌<ₑ◌}
+use Rattle.rational.specs.declared.Extended.TheVariants.{Fin}
+use Rattle.rational.proofs.Laws.{antisym, le_refl, le_of_lt, le_or_lt, le_trans, lt_irrefl, lt_le_trans, le_lt_trans}
+use Rattle.rational.proofs.ExtendedOrder.{le_ext_trans, same_le_ext, lt_le_ext}
+use Rattle.rational.proofs.MinMax.{max_q_one, max_q_ge_left, max_q_ge_right, max_q_le, min_q_one, min_q_le_left, min_q_le_right, below_min_in}
+use Rattle.rational.proofs.Stretch.{line_supremum}
+use Rattle.upp_curve.specs.declared.affine_segment.line.Line.{Line}
+use Rattle.upp_curve.specs.declared.affine_segment.line.Piece.{Piece}
+use Rattle.upp_curve.specs.affine_segment.Values.{line_at}
+use Rattle.upp_curve.specs.affine_segment.Reading.{read}
+use Rattle.upp_curve.specs.affine_segment.Fits.{LineFits}
 use Rattle.plain_operators.specs.declared.running.stretch.Stretch.{Stretch}
 use Rattle.plain_operators.specs.running.Scans.{start_or, Until, IsStretch, IsWindow, IsLevel, IsSupremumIn}
 use Rattle.plain_operators.specs.running.Between.{FitsAtBoth, IsLevelBetween, Above, IsHighestIn}

@@ -2,18 +2,18 @@
 -- value: the limit at the end, which no time there takes.
 use Rattle.std.specs.Prelude.{◌≡◌, ◌⊎◌}
 use Rattle.std.proofs.Common.{sym, ap, ◌∙◌, subst, inl, inr}
-use Rattle.upp_limits.specs.rational.specs.Rational.{ℚ, ◌≤ℚ◌, ◌<ℚ◌}
-use Rattle.upp_limits.specs.rational.specs.MinMax.{min_q, max_q}
-use Rattle.upp_limits.specs.rational.specs.Extended.{Ext, ◌≤ₑ◌, ◌<ₑ◌}
-use Rattle.upp_limits.specs.rational.specs.Bounds.{IsInfimum}
-use Rattle.upp_limits.specs.rational.specs.Stretch.{Between}
-use Rattle.upp_limits.specs.rational.specs.declared.Extended.TheVariants.{Fin}
-use Rattle.upp_limits.specs.rational.proofs.Laws.{antisym, le_refl, le_of_lt, le_or_lt, le_trans, lt_irrefl, lt_le_trans, le_lt_trans}
-use Rattle.upp_limits.specs.rational.proofs.ExtendedOrder.{le_ext_trans, same_le_ext}
-use Rattle.upp_limits.specs.rational.proofs.MinMax.{min_q_one, min_q_le_left, min_q_le_right, max_q_ge_left, max_q_ge_right, max_q_lt}
-use Rattle.upp_limits.specs.rational.proofs.Stretch.{line_infimum}
-use Rattle.upp_limits.specs.upp_curve.specs.declared.affine_segment.line.Line.{Line}
-use Rattle.upp_limits.specs.upp_curve.specs.affine_segment.Values.{line_at}
+use Rattle.rational.specs.Rational.{ℚ, ◌≤ℚ◌, ◌<ℚ◌}
+use Rattle.rational.specs.MinMax.{min_q, max_q}
+use Rattle.rational.specs.Extended.{Ext, ◌≤ₑ◌, ◌<ₑ◌}
+use Rattle.rational.specs.Bounds.{IsInfimum}
+use Rattle.rational.specs.Stretch.{Between}
+use Rattle.rational.specs.declared.Extended.TheVariants.{Fin}
+use Rattle.rational.proofs.Laws.{antisym, le_refl, le_of_lt, le_or_lt, le_trans, lt_irrefl, lt_le_trans, le_lt_trans}
+use Rattle.rational.proofs.ExtendedOrder.{le_ext_trans, same_le_ext}
+use Rattle.rational.proofs.MinMax.{min_q_one, min_q_le_left, min_q_le_right, max_q_ge_left, max_q_ge_right, max_q_lt}
+use Rattle.rational.proofs.Stretch.{line_infimum}
+use Rattle.upp_curve.specs.declared.affine_segment.line.Line.{Line}
+use Rattle.upp_curve.specs.affine_segment.Values.{line_at}
 use Rattle.plain_operators.specs.running.Scans.{Until, IsInfimumUntil}
 use Rattle.plain_operators.specs.running.Bends.{sunk}
 use Rattle.plain_operators.proofs.running.Levels.{line_bottom}

@@ -2,16 +2,16 @@
 use Rattle.std.specs.Prelude.{◌≡◌, ℕ, false, ◌+◌, ◌-◌, ◌*◌, ◌<◌, ◌≤◌, pos, List, [], ◌∷◌, ◌++◌, length, drop, Option, Some, None, reverse}
 use Rattle.std.proofs.Common.{arith, length-append, drop_of_length-le, sym, ap, ap₂, ◌∙◌, refl, subst}
 use Rattle.std.proofs.lemmas.List.{reverse-append, length-reverse}
-use Rattle.upp_limits.specs.rational.specs.Rational.{ℚ, ◌≤ℚ◌, ◌<ℚ◌, int}
-use Rattle.upp_limits.specs.rational.specs.MinMax.{min_q}
-use Rattle.upp_limits.specs.rational.specs.Extended.{Ext}
-use Rattle.upp_limits.specs.rational.specs.declared.Extended.TheVariants.{Fin}
-use Rattle.upp_limits.specs.rational.proofs.Laws.{lt_irrefl, lt_le_trans, lt_trans, le_of_lt, le_trans}
-use Rattle.upp_limits.specs.upp_curve.specs.declared.affine_segment.line.Line.{Line}
-use Rattle.upp_limits.specs.upp_curve.specs.declared.affine_segment.line.Piece.{Piece}
-use Rattle.upp_limits.specs.upp_curve.specs.affine_segment.Values.{line_at}
-use Rattle.upp_limits.specs.upp_curve.specs.affine_segment.Reading.{read}
-use Rattle.upp_limits.specs.upp_curve.specs.affine_segment.Pieces.{Each}
+use Rattle.rational.specs.Rational.{ℚ, ◌≤ℚ◌, ◌<ℚ◌, int}
+use Rattle.rational.specs.MinMax.{min_q}
+use Rattle.rational.specs.Extended.{Ext}
+use Rattle.rational.specs.declared.Extended.TheVariants.{Fin}
+use Rattle.rational.proofs.Laws.{lt_irrefl, lt_le_trans, lt_trans, le_of_lt, le_trans}
+use Rattle.upp_curve.specs.declared.affine_segment.line.Line.{Line}
+use Rattle.upp_curve.specs.declared.affine_segment.line.Piece.{Piece}
+use Rattle.upp_curve.specs.affine_segment.Values.{line_at}
+use Rattle.upp_curve.specs.affine_segment.Reading.{read}
+use Rattle.upp_curve.specs.affine_segment.Pieces.{Each}
 use Rattle.plain_operators.specs.declared.running.stretch.Stretch.{Stretch}
 use Rattle.plain_operators.specs.declared.running.bend.Bend.{Bend}
 use Rattle.plain_operators.specs.running.Scans.{start_or, IsWindow, IsLevel, IsStretch, IsInfimumUntil}
@@ -21,7 +21,7 @@ use Rattle.plain_operators.proofs.running.Suprema.{IsLineOn}
 use Rattle.plain_operators.proofs.running.Infima.{IsLate, late_start, late_line, late_value, late_end}
 use Rattle.plain_operators.proofs.running.Building.{BuiltBack, back_more}
 use Rattle.plain_operators.proofs.running.Makings.{lesser_level, bent_made, bent_turns, turns_join}
-use Rattle.upp_limits.specs.upp_curve.proofs.affine_segment.PieceOrder.{each_append}
+use Rattle.upp_curve.proofs.affine_segment.PieceOrder.{each_append}
 use Rattle.plain_operators.proofs.running.SupremumLoop.{first_start}
 
 -- w is the limit at the end of the last line

@@ -1,32 +1,32 @@
 -- The running infimum of a curve: from its scan in the window to every time.
 use Rattle.std.specs.Prelude.{◌≡◌, false, pos, List, None}
 use Rattle.std.proofs.Common.{arith, sym, ap, ◌∙◌, subst}
-use Rattle.upp_limits.specs.rational.specs.Rational.{ℚ, ◌+ℚ◌, ◌*ℚ◌, ◌≤ℚ◌, ◌<ℚ◌, int}
-use Rattle.upp_limits.specs.rational.specs.Grid.{Whole, Within}
-use Rattle.upp_limits.specs.rational.specs.Extended.{Ext}
-use Rattle.upp_limits.specs.rational.proofs.Grid.{within_weaken}
-use Rattle.upp_limits.specs.rational.proofs.Integers.{nat_le, nat_nonneg}
-use Rattle.upp_limits.specs.rational.proofs.Laws.{le_of_lt, le_trans, lt_le_trans, mul_le_mul_right}
-use Rattle.upp_limits.specs.rational.proofs.Linear.{with2}
-use Rattle.upp_limits.specs.rational.proofs.Bounds.{same_infimum}
-use Rattle.upp_limits.specs.rational.proofs.ExtendedOrder.{same_le_ext}
-use Rattle.upp_limits.specs.upp_curve.specs.declared.affine_segment.line.Piece.{Piece}
+use Rattle.rational.specs.Rational.{ℚ, ◌+ℚ◌, ◌*ℚ◌, ◌≤ℚ◌, ◌<ℚ◌, int}
+use Rattle.rational.specs.Grid.{Whole, Within}
+use Rattle.rational.specs.Extended.{Ext}
+use Rattle.rational.proofs.Grid.{within_weaken}
+use Rattle.rational.proofs.Integers.{nat_le, nat_nonneg}
+use Rattle.rational.proofs.Laws.{le_of_lt, le_trans, lt_le_trans, mul_le_mul_right}
+use Rattle.rational.proofs.Linear.{with2}
+use Rattle.rational.proofs.Bounds.{same_infimum}
+use Rattle.rational.proofs.ExtendedOrder.{same_le_ext}
+use Rattle.upp_curve.specs.declared.affine_segment.line.Piece.{Piece}
 use Rattle.upp_limits.specs.declared.op_kind.OpKind.TheVariants.{RunInf}
-use Rattle.upp_limits.specs.upp_curve.specs.affine_segment.Reading.{read}
-use Rattle.upp_limits.specs.upp_curve.specs.Curve.{SpecCurve, value_at, repeated}
-use Rattle.upp_limits.specs.min_plus.specs.Functions.{zero_q, IsFinite, IsNonnegative}
-use Rattle.upp_limits.specs.upp_curve.specs.affine_segment.Pieces.{Each, StartsAtZero}
-use Rattle.curve_call.specs.upp_normal.specs.Normalising.{HasValues}
-use Rattle.curve_call.specs.upp_normal.specs.Room.{PieceHasRoom}
-use Rattle.upp_limits.specs.min_plus.specs.Running.{IsRunningInfimum}
-use Rattle.upp_limits.specs.upp_curve.specs.Steady.{Repeats, rise_over}
+use Rattle.upp_curve.specs.affine_segment.Reading.{read}
+use Rattle.upp_curve.specs.Curve.{SpecCurve, value_at, repeated}
+use Rattle.min_plus.specs.Functions.{zero_q, IsFinite, IsNonnegative}
+use Rattle.upp_curve.specs.affine_segment.Pieces.{Each, StartsAtZero}
+use Rattle.upp_normal.specs.Normalising.{HasValues}
+use Rattle.upp_normal.specs.Room.{PieceHasRoom}
+use Rattle.min_plus.specs.Running.{IsRunningInfimum}
+use Rattle.upp_curve.specs.Steady.{Repeats, rise_over}
 use Rattle.upp_limits.specs.Periods.{own_period, periods_after}
 use Rattle.upp_limits.specs.Limits.{Sizes}
 use Rattle.upp_limits.specs.Sized.{grid_of, times_largest}
-use Rattle.curve_call.specs.upp_normal.specs.Operand.{OperandPieces, answer_room}
-use Rattle.upp_limits.specs.upp_curve.specs.Unrolled.{unroll}
+use Rattle.upp_normal.specs.Operand.{OperandPieces, answer_room}
+use Rattle.upp_curve.specs.Unrolled.{unroll}
 use Rattle.upp_limits.specs.Windows.{window_at}
-use Rattle.curve_call.specs.upp_normal.proofs.Bends.{bends_on}
+use Rattle.upp_normal.proofs.Bends.{bends_on}
 use Rattle.curve_call.specs.declared.frame.Frame.{Frame}
 use Rattle.curve_call.specs.Answering.{IsAnswerWindow}
 use Rattle.curve_call.specs.Frames.{IsFrame, sizes_at}

@@ -1,30 +1,30 @@
 -- What is left, in a call within both limits: the steps to it fit, and its pieces are those of an answer.
 use Rattle.std.specs.Prelude.{◌≡◌, pos, List}
 use Rattle.std.proofs.Common.{arith, sym, ap, ◌∙◌, subst, inl, inr}
-use Rattle.upp_limits.specs.rational.specs.Rational.{ℚ, neg_ℚ, ◌+ℚ◌, ◌-ℚ◌, ◌≤ℚ◌, ◌<ℚ◌, int}
-use Rattle.upp_limits.specs.rational.specs.Ratio.{SumFits}
-use Rattle.upp_limits.specs.rational.specs.Grid.{Whole, Within}
-use Rattle.upp_limits.specs.rational.specs.Extended.{Ext, ◌≤ₑ◌}
-use Rattle.upp_limits.specs.rational.specs.declared.Extended.TheVariants.{Fin}
-use Rattle.upp_limits.specs.rational.proofs.Grid.{whole_add, whole_sub, within_sub}
-use Rattle.upp_limits.specs.rational.proofs.Linear.{with2, with3}
-use Rattle.upp_limits.specs.rational.proofs.Laws.{le_or_lt, le_refl, le_trans, le_of_lt}
-use Rattle.upp_limits.specs.upp_curve.specs.declared.affine_segment.line.Piece.{Piece}
-use Rattle.upp_limits.specs.upp_curve.specs.Curve.{SpecCurve, value_at, repeated}
-use Rattle.upp_limits.specs.min_plus.specs.Functions.{zero_q}
-use Rattle.upp_limits.specs.upp_curve.specs.affine_segment.Pieces.{Each, StartsAtZero}
-use Rattle.curve_call.specs.upp_normal.specs.Normalising.{HasValues}
-use Rattle.upp_limits.specs.upp_curve.specs.affine_segment.Reading.{read}
-use Rattle.upp_limits.specs.min_plus.specs.Running.{left_after, IsRunningInfimum, IsFifoLeftover}
-use Rattle.upp_limits.specs.upp_curve.specs.Steady.{Repeats, rise_over}
+use Rattle.rational.specs.Rational.{ℚ, neg_ℚ, ◌+ℚ◌, ◌-ℚ◌, ◌≤ℚ◌, ◌<ℚ◌, int}
+use Rattle.rational.specs.Ratio.{SumFits}
+use Rattle.rational.specs.Grid.{Whole, Within}
+use Rattle.rational.specs.Extended.{Ext, ◌≤ₑ◌}
+use Rattle.rational.specs.declared.Extended.TheVariants.{Fin}
+use Rattle.rational.proofs.Grid.{whole_add, whole_sub, within_sub}
+use Rattle.rational.proofs.Linear.{with2, with3}
+use Rattle.rational.proofs.Laws.{le_or_lt, le_refl, le_trans, le_of_lt}
+use Rattle.upp_curve.specs.declared.affine_segment.line.Piece.{Piece}
+use Rattle.upp_curve.specs.Curve.{SpecCurve, value_at, repeated}
+use Rattle.min_plus.specs.Functions.{zero_q}
+use Rattle.upp_curve.specs.affine_segment.Pieces.{Each, StartsAtZero}
+use Rattle.upp_normal.specs.Normalising.{HasValues}
+use Rattle.upp_curve.specs.affine_segment.Reading.{read}
+use Rattle.min_plus.specs.Running.{left_after, IsRunningInfimum, IsFifoLeftover}
+use Rattle.upp_curve.specs.Steady.{Repeats, rise_over}
 use Rattle.upp_limits.specs.Sized.{grid_of, times_largest}
-use Rattle.upp_limits.specs.upp_curve.specs.Unrolled.{unroll}
-use Rattle.curve_call.specs.upp_normal.specs.Unrolling.{IsOperandTo}
-use Rattle.curve_call.specs.upp_normal.specs.Operand.{OperandPieces}
-use Rattle.curve_call.specs.upp_normal.proofs.Below.{unroll_reads}
-use Rattle.upp_limits.specs.upp_curve.proofs.Finite.{number_of}
-use Rattle.upp_limits.specs.upp_curve.proofs.affine_segment.PieceOrder.{each_map}
-use Rattle.curve_call.specs.upp_normal.proofs.StretchSizes.{times_fit}
+use Rattle.upp_curve.specs.Unrolled.{unroll}
+use Rattle.upp_normal.specs.Unrolling.{IsOperandTo}
+use Rattle.upp_normal.specs.Operand.{OperandPieces}
+use Rattle.upp_normal.proofs.Below.{unroll_reads}
+use Rattle.upp_curve.proofs.Finite.{number_of}
+use Rattle.upp_curve.proofs.affine_segment.PieceOrder.{each_map}
+use Rattle.upp_normal.proofs.StretchSizes.{times_fit}
 use Rattle.curve_call.specs.declared.frame.Frame.{Frame}
 use Rattle.curve_call.specs.Answering.{IsAnswerWindow}
 use Rattle.curve_call.specs.Rises.{CurveRiseFits}
@@ -32,7 +32,7 @@ use Rattle.curve_call.proofs.Answering.{answer_relation}
 use Rattle.curve_call.specs.declared.stretch.Both.{Both}
 use Rattle.curve_call.specs.Pointwise.{mapped}
 use Rattle.curve_call.specs.Stretches.{IsOverlay}
-use Rattle.curve_call.specs.upp_normal.proofs.AnswerRoom.{many_more}
+use Rattle.upp_normal.proofs.AnswerRoom.{many_more}
 use Rattle.plain_operators.proofs.running.Shifts.{infimum_repeats}
 use Rattle.plain_operators.specs.running.Behind.{IsServed}
 use Rattle.plain_operators.specs.running.LeftCall.{IsLeftFrame, IsLeftWindow}
@@ -47,7 +47,7 @@ use Rattle.plain_operators.proofs.running.MovedStands.{moved_pieces}
 use Rattle.plain_operators.proofs.running.SumSizes.{sums_fit}
 use Rattle.curve_call.proofs.Excesses.{excess_nonneg}
 use Rattle.curve_call.proofs.FiniteAnswers.{early_left, late_left}
-use Rattle.curve_call.specs.upp_normal.specs.Ahead.{AnswerValue}
+use Rattle.upp_normal.specs.Ahead.{AnswerValue}
 
 -- ---- steps that fit
 pub rises_fit : (f g : SpecCurve) (theta : ℚ) (r : Frame) → IsLeftFrame f g theta r → SumFits (rise_over f r.period) (neg_ℚ (rise_over g r.period))

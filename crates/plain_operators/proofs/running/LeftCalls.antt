@@ -1,35 +1,35 @@
 -- The sizes and the times of a call for what is left, and how what is left repeats.
 use Rattle.std.specs.Prelude.{◌≡◌, ℕ, suc, ◌+◌, ◌<◌, ◌^◌, pos, ◌⊎◌}
 use Rattle.std.proofs.Common.{arith, sym, ap, ◌∙◌, refl, subst, inl, inr}
-use Rattle.upp_limits.specs.rational.specs.Rational.{ℚ, ◌+ℚ◌, ◌-ℚ◌, ◌*ℚ◌, ◌≤ℚ◌, ◌<ℚ◌, int}
-use Rattle.upp_limits.specs.rational.specs.Extended.{Ext, ◌≤ₑ◌, ◌<ₑ◌, ◌+ₑ◌}
-use Rattle.upp_limits.specs.rational.specs.declared.Extended.TheVariants.{Fin}
-use Rattle.upp_limits.specs.rational.proofs.Linear.{with2, with3, with4, with5}
-use Rattle.upp_limits.specs.rational.proofs.Laws.{le_trans, le_of_lt, lt_irrefl, lt_le_trans, le_lt_trans, mul_nonneg, mul_le_mul}
-use Rattle.upp_limits.specs.rational.proofs.Integers.{nat_nonneg}
-use Rattle.upp_limits.specs.rational.proofs.Whole.{one_more_times}
-use Rattle.upp_limits.specs.rational.proofs.MinMax.{max_q_ge_left, max_q_ge_right}
-use Rattle.upp_limits.specs.rational.proofs.ExtendedOrder.{add_le_ext}
+use Rattle.rational.specs.Rational.{ℚ, ◌+ℚ◌, ◌-ℚ◌, ◌*ℚ◌, ◌≤ℚ◌, ◌<ℚ◌, int}
+use Rattle.rational.specs.Extended.{Ext, ◌≤ₑ◌, ◌<ₑ◌, ◌+ₑ◌}
+use Rattle.rational.specs.declared.Extended.TheVariants.{Fin}
+use Rattle.rational.proofs.Linear.{with2, with3, with4, with5}
+use Rattle.rational.proofs.Laws.{le_trans, le_of_lt, lt_irrefl, lt_le_trans, le_lt_trans, mul_nonneg, mul_le_mul}
+use Rattle.rational.proofs.Integers.{nat_nonneg}
+use Rattle.rational.proofs.Whole.{one_more_times}
+use Rattle.rational.proofs.MinMax.{max_q_ge_left, max_q_ge_right}
+use Rattle.rational.proofs.ExtendedOrder.{add_le_ext}
 use Rattle.upp_limits.specs.declared.op_kind.OpKind.{OpKind}
 use Rattle.upp_limits.specs.declared.op_kind.OpKind.TheVariants.{FifoLeft}
-use Rattle.upp_limits.specs.upp_curve.specs.Curve.{SpecCurve, value_at}
-use Rattle.upp_limits.specs.upp_curve.specs.Curves.{IsCurve}
-use Rattle.upp_limits.specs.min_plus.specs.Functions.{zero_q}
-use Rattle.upp_limits.specs.upp_curve.specs.Steady.{Repeats, steady, rate, rise_over}
+use Rattle.upp_curve.specs.Curve.{SpecCurve, value_at}
+use Rattle.upp_curve.specs.Curves.{IsCurve}
+use Rattle.min_plus.specs.Functions.{zero_q}
+use Rattle.upp_curve.specs.Steady.{Repeats, steady, rate, rise_over}
 use Rattle.upp_limits.specs.Periods.{common_period, moved_steady, periods_after}
-use Rattle.upp_limits.specs.min_plus.specs.Pointwise.{excess}
-use Rattle.upp_limits.specs.min_plus.specs.Running.{left_after}
+use Rattle.min_plus.specs.Pointwise.{excess}
+use Rattle.min_plus.specs.Running.{left_after}
 use Rattle.upp_limits.specs.Windows.{window_at, IsBelowFor}
 use Rattle.upp_limits.specs.Limits.{Sizes, sizes_of}
 use Rattle.upp_limits.specs.Gauges.{numbers_over, gauge_over, gauge_at}
-use Rattle.upp_limits.specs.upp_curve.specs.Unrolled.{unroll}
-use Rattle.curve_call.specs.upp_normal.specs.Operand.{OperandPieces}
-use Rattle.curve_call.specs.upp_normal.proofs.Below.{unroll_reads}
+use Rattle.upp_curve.specs.Unrolled.{unroll}
+use Rattle.upp_normal.specs.Operand.{OperandPieces}
+use Rattle.upp_normal.proofs.Below.{unroll_reads}
 use Rattle.upp_limits.proofs.CurveStands.{are_sizes}
-use Rattle.upp_limits.specs.upp_curve.proofs.Repeats.{repeats_times}
+use Rattle.upp_curve.proofs.Repeats.{repeats_times}
 use Rattle.upp_limits.proofs.Stands.{sizes_stand}
-use Rattle.upp_limits.specs.upp_curve.proofs.Steady.{steady_rule}
-use Rattle.curve_call.specs.upp_normal.proofs.UnrolledPieces.{operand_pieces, unroll_starts}
+use Rattle.upp_curve.proofs.Steady.{steady_rule}
+use Rattle.upp_normal.proofs.UnrolledPieces.{operand_pieces, unroll_starts}
 use Rattle.curve_call.specs.Frames.{sizes_at}
 use Rattle.curve_call.proofs.CallTimes.{first_stands, second_stands, IsCall, start_on, period_on, window_is}
 use Rattle.curve_call.proofs.CallFits.{call_early}
@@ -46,8 +46,8 @@ use Rattle.plain_operators.proofs.running.Served.{no_faster, other_finite}
 use Rattle.plain_operators.proofs.pointwise.LatticeAnswers.{same_rises}
 use Rattle.plain_operators.proofs.pointwise.LatticeCalls.{earlier}
 use Rattle.curve_call.proofs.FiniteAnswers.{late_left}
-use Rattle.upp_limits.specs.upp_curve.proofs.SteadyTimes.{steady_nonneg}
-use Rattle.curve_call.specs.upp_normal.specs.Ahead.{AnswerValue}
+use Rattle.upp_curve.proofs.SteadyTimes.{steady_nonneg}
+use Rattle.upp_normal.specs.Ahead.{AnswerValue}
 
 -- ---- from a kind of call
 pub left_call : (f g : SpecCurve) (theta : ℚ) (k : ℕ) → IsCurve f → IsCurve g → zero_q ≤ℚ theta → gauge_at (FifoLeft (Fin theta)) f g k 0 < 2 ^ 120

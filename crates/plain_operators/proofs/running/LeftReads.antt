@@ -2,23 +2,23 @@
 -- difference is nowhere below 0.
 use Rattle.std.specs.Prelude.{◌≡◌, pos, cond, List, [], ◌∷◌, Option, Some, None}
 use Rattle.std.proofs.Common.{arith, sym, ap, ap₂, ◌∙◌, refl, subst, inl, inr}
-use Rattle.upp_limits.specs.rational.specs.Rational.{ℚ, ◌+ℚ◌, ◌-ℚ◌, ◌≤ℚ◌, ◌<ℚ◌, int}
-use Rattle.upp_limits.specs.rational.specs.MinMax.{min_q}
-use Rattle.upp_limits.specs.rational.specs.Extended.{Ext, ◌≤ₑ◌}
-use Rattle.upp_limits.specs.rational.specs.declared.Extended.TheVariants.{Fin, Inf}
-use Rattle.upp_limits.specs.rational.proofs.Linear.{with1, with2}
-use Rattle.upp_limits.specs.rational.proofs.Laws.{le_or_lt, le_refl, le_of_lt, le_trans, lt_le_trans, antisym, zero_mul, add_zero}
-use Rattle.upp_limits.specs.rational.proofs.MinMax.{le_q_not, min_q_le_left, min_q_le_right, below_min_in, max_q_right}
-use Rattle.upp_limits.specs.rational.proofs.Over.{le_q_out}
-use Rattle.upp_limits.specs.rational.proofs.ExtendedOrder.{same_le_ext, fin_same}
-use Rattle.upp_limits.specs.upp_curve.specs.declared.affine_segment.line.Line.{Line}
-use Rattle.upp_limits.specs.upp_curve.specs.declared.affine_segment.line.Piece.{Piece}
-use Rattle.upp_limits.specs.upp_curve.specs.affine_segment.Values.{line_at, line_value}
-use Rattle.upp_limits.specs.min_plus.specs.Functions.{zero_q}
-use Rattle.upp_limits.specs.min_plus.specs.Pointwise.{excess}
-use Rattle.upp_limits.specs.upp_curve.specs.affine_segment.Reading.{read, piece_value}
-use Rattle.upp_limits.specs.min_plus.specs.Running.{left_after}
-use Rattle.upp_limits.specs.upp_curve.proofs.affine_segment.PieceIn.{value_past, value_at_start}
+use Rattle.rational.specs.Rational.{ℚ, ◌+ℚ◌, ◌-ℚ◌, ◌≤ℚ◌, ◌<ℚ◌, int}
+use Rattle.rational.specs.MinMax.{min_q}
+use Rattle.rational.specs.Extended.{Ext, ◌≤ₑ◌}
+use Rattle.rational.specs.declared.Extended.TheVariants.{Fin, Inf}
+use Rattle.rational.proofs.Linear.{with1, with2}
+use Rattle.rational.proofs.Laws.{le_or_lt, le_refl, le_of_lt, le_trans, lt_le_trans, antisym, zero_mul, add_zero}
+use Rattle.rational.proofs.MinMax.{le_q_not, min_q_le_left, min_q_le_right, below_min_in, max_q_right}
+use Rattle.rational.proofs.Over.{le_q_out}
+use Rattle.rational.proofs.ExtendedOrder.{same_le_ext, fin_same}
+use Rattle.upp_curve.specs.declared.affine_segment.line.Line.{Line}
+use Rattle.upp_curve.specs.declared.affine_segment.line.Piece.{Piece}
+use Rattle.upp_curve.specs.affine_segment.Values.{line_at, line_value}
+use Rattle.min_plus.specs.Functions.{zero_q}
+use Rattle.min_plus.specs.Pointwise.{excess}
+use Rattle.upp_curve.specs.affine_segment.Reading.{read, piece_value}
+use Rattle.min_plus.specs.Running.{left_after}
+use Rattle.upp_curve.proofs.affine_segment.PieceIn.{value_past, value_at_start}
 use Rattle.curve_call.specs.declared.stretch.Both.{Both}
 use Rattle.curve_call.specs.Stretches.{IsBothOf, IsOverlay}
 use Rattle.curve_call.specs.Pointwise.{mapped}

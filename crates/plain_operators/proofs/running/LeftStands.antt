@@ -1,30 +1,30 @@
 -- The pieces of what is left are finite, and their numbers are sums of the operands' numbers.
 use Rattle.std.specs.Prelude.{◌≡◌, ℕ, pos, List, [], ◌∷◌, Option, Some, None}
 use Rattle.std.proofs.Common.{arith, sym, ap, ◌∙◌, refl, subst, inl, inr}
-use Rattle.upp_limits.specs.rational.specs.Rational.{ℚ, ◌-ℚ◌, ◌≤ℚ◌, ◌<ℚ◌, int}
-use Rattle.upp_limits.specs.rational.specs.MinMax.{max_q}
-use Rattle.upp_limits.specs.rational.specs.Extended.{Ext}
-use Rattle.upp_limits.specs.rational.specs.declared.Extended.TheVariants.{Fin, Inf}
-use Rattle.upp_limits.specs.rational.proofs.Grid.{whole_int, within_nonneg}
-use Rattle.upp_limits.specs.rational.proofs.Integers.{nat_nonneg}
-use Rattle.upp_limits.specs.rational.proofs.Laws.{le_refl, le_of_lt}
-use Rattle.upp_limits.specs.rational.proofs.MinMax.{max_q_one}
-use Rattle.upp_limits.specs.rational.proofs.ExtendedOrder.{fin_same}
-use Rattle.upp_limits.specs.upp_curve.specs.declared.affine_segment.line.Line.{Line}
-use Rattle.upp_limits.specs.upp_curve.specs.declared.affine_segment.line.Piece.{Piece}
-use Rattle.upp_limits.specs.upp_curve.specs.affine_segment.Values.{line_value}
-use Rattle.upp_limits.specs.min_plus.specs.Functions.{zero_q}
-use Rattle.upp_limits.specs.upp_curve.specs.affine_segment.Pieces.{Each, StartsAtZero}
-use Rattle.upp_limits.specs.min_plus.specs.Pointwise.{excess}
-use Rattle.upp_limits.specs.upp_curve.specs.affine_segment.Reading.{read, line_in}
-use Rattle.upp_limits.specs.upp_curve.specs.Shapes.{IsFinitePiece, IsNumber, IsLine}
-use Rattle.upp_limits.specs.upp_curve.specs.Steady.{last_line}
+use Rattle.rational.specs.Rational.{ℚ, ◌-ℚ◌, ◌≤ℚ◌, ◌<ℚ◌, int}
+use Rattle.rational.specs.MinMax.{max_q}
+use Rattle.rational.specs.Extended.{Ext}
+use Rattle.rational.specs.declared.Extended.TheVariants.{Fin, Inf}
+use Rattle.rational.proofs.Grid.{whole_int, within_nonneg}
+use Rattle.rational.proofs.Integers.{nat_nonneg}
+use Rattle.rational.proofs.Laws.{le_refl, le_of_lt}
+use Rattle.rational.proofs.MinMax.{max_q_one}
+use Rattle.rational.proofs.ExtendedOrder.{fin_same}
+use Rattle.upp_curve.specs.declared.affine_segment.line.Line.{Line}
+use Rattle.upp_curve.specs.declared.affine_segment.line.Piece.{Piece}
+use Rattle.upp_curve.specs.affine_segment.Values.{line_value}
+use Rattle.min_plus.specs.Functions.{zero_q}
+use Rattle.upp_curve.specs.affine_segment.Pieces.{Each, StartsAtZero}
+use Rattle.min_plus.specs.Pointwise.{excess}
+use Rattle.upp_curve.specs.affine_segment.Reading.{read, line_in}
+use Rattle.upp_curve.specs.Shapes.{IsFinitePiece, IsNumber, IsLine}
+use Rattle.upp_curve.specs.Steady.{last_line}
 use Rattle.upp_limits.specs.Limits.{Sizes}
 use Rattle.upp_limits.specs.Sized.{grid_of, times_largest}
-use Rattle.curve_call.specs.upp_normal.specs.Operand.{AreLimited, OperandLineAt, OperandPiece, OperandPieces}
-use Rattle.curve_call.specs.upp_normal.proofs.AnswerRoom.{difference_of_lines, value_difference_stands, values_fit, operand_lines_fit}
-use Rattle.upp_limits.specs.upp_curve.proofs.Finite.{pieces_finite, each_in}
-use Rattle.curve_call.specs.upp_normal.proofs.NormaliseLists.{last_in}
+use Rattle.upp_normal.specs.Operand.{AreLimited, OperandLineAt, OperandPiece, OperandPieces}
+use Rattle.upp_normal.proofs.AnswerRoom.{difference_of_lines, value_difference_stands, values_fit, operand_lines_fit}
+use Rattle.upp_curve.proofs.Finite.{pieces_finite, each_in}
+use Rattle.upp_normal.proofs.NormaliseLists.{last_in}
 use Rattle.curve_call.specs.declared.stretch.Both.{Both}
 use Rattle.curve_call.specs.Stretches.{EachBoth, IsBothOf, IsOverlay}
 use Rattle.curve_call.specs.Pointwise.{mapped}
@@ -34,9 +34,9 @@ use Rattle.curve_call.proofs.OperandWindows.{operand_both}
 use Rattle.plain_operators.specs.running.Lowest.{SumLine, SumPiece}
 use Rattle.plain_operators.specs.running.Parts.{left_piece, StretchLeftFits}
 use Rattle.plain_operators.proofs.running.SumSizes.{sum_weaken, near_of, value_near}
-use Rattle.upp_limits.specs.upp_curve.proofs.affine_segment.PieceIn.{read_is}
+use Rattle.upp_curve.proofs.affine_segment.PieceIn.{read_is}
 use Rattle.curve_call.proofs.MadeStands.{some_largest}
-use Rattle.curve_call.specs.upp_normal.specs.Ahead.{GridValue, AnswerValue}
+use Rattle.upp_normal.specs.Ahead.{GridValue, AnswerValue}
 
 -- ---- one stretch
 zero_sum : (z : Sizes) (k : ℕ) → AnswerValue z k zero_q

@@ -2,30 +2,30 @@
 use Rattle.std.specs.Prelude.{◌≡◌, ◌≢◌, Bool, ◌*◌, pos, List, [], ◌∷◌, Option, Some, None, ◌⊎◌}
 use Rattle.std.proofs.Common.{arith, sym, ap, ◌∙◌, subst, inl, inr}
 use native.Mathlib.Nat.{dvd-mul_left}
-use Rattle.upp_limits.specs.rational.specs.Rational.{ℚ, ◌-ℚ◌, ◌*ℚ◌, ◌/ℚ◌, ◌≤ℚ◌, ◌<ℚ◌, int}
-use Rattle.upp_limits.specs.rational.specs.Ratio.{IsSmall}
-use Rattle.upp_limits.specs.rational.specs.Grid.{Whole, Within}
-use Rattle.upp_limits.specs.rational.proofs.Grid.{whole_weaken, whole_int, whole_sub, within_weaken, within_sub, within_nonneg}
-use Rattle.upp_limits.specs.rational.proofs.Integers.{int_mul, nat_le, nat_nonneg}
-use Rattle.upp_limits.specs.rational.proofs.Laws.{le_refl, le_of_lt, lt_irrefl, mul_comm}
-use Rattle.upp_limits.specs.rational.proofs.Linear.{with1, with2, with3}
-use Rattle.upp_limits.specs.rational.proofs.Sizes.{quotient_on_grid}
-use Rattle.upp_limits.specs.upp_curve.specs.declared.affine_segment.line.Line.{Line}
-use Rattle.upp_limits.specs.upp_curve.specs.declared.affine_segment.line.Piece.{Piece}
-use Rattle.upp_limits.specs.upp_curve.specs.affine_segment.Values.{line_at, line_value}
-use Rattle.curve_call.specs.upp_normal.specs.Bends.{LineOn, NumbersOn, SlopeTurns, BendAfter, OnlyBend}
-use Rattle.upp_limits.specs.upp_curve.specs.affine_segment.Pieces.{Each, HasStart, StartsAtZero, RisesFrom, start_after}
-use Rattle.upp_limits.specs.upp_curve.specs.Readable.{EachFits, LineFitsTo}
+use Rattle.rational.specs.Rational.{ℚ, ◌-ℚ◌, ◌*ℚ◌, ◌/ℚ◌, ◌≤ℚ◌, ◌<ℚ◌, int}
+use Rattle.rational.specs.Ratio.{IsSmall}
+use Rattle.rational.specs.Grid.{Whole, Within}
+use Rattle.rational.proofs.Grid.{whole_weaken, whole_int, whole_sub, within_weaken, within_sub, within_nonneg}
+use Rattle.rational.proofs.Integers.{int_mul, nat_le, nat_nonneg}
+use Rattle.rational.proofs.Laws.{le_refl, le_of_lt, lt_irrefl, mul_comm}
+use Rattle.rational.proofs.Linear.{with1, with2, with3}
+use Rattle.rational.proofs.Sizes.{quotient_on_grid}
+use Rattle.upp_curve.specs.declared.affine_segment.line.Line.{Line}
+use Rattle.upp_curve.specs.declared.affine_segment.line.Piece.{Piece}
+use Rattle.upp_curve.specs.affine_segment.Values.{line_at, line_value}
+use Rattle.upp_normal.specs.Bends.{LineOn, NumbersOn, SlopeTurns, BendAfter, OnlyBend}
+use Rattle.upp_curve.specs.affine_segment.Pieces.{Each, HasStart, StartsAtZero, RisesFrom, start_after}
+use Rattle.upp_curve.specs.Readable.{EachFits, LineFitsTo}
 use Rattle.upp_limits.specs.Limits.{Sizes}
 use Rattle.upp_limits.specs.Sized.{grid_of, times_largest, IsSlope, AreSizes}
-use Rattle.curve_call.specs.upp_normal.specs.Operand.{AreLimited, OperandLine, OperandLineAt, OperandPiece, OperandPieces, answer_room}
-use Rattle.curve_call.specs.upp_normal.specs.Room.{top, LineHasRoom, PieceHasRoom, TimeHasRoom}
+use Rattle.upp_normal.specs.Operand.{AreLimited, OperandLine, OperandLineAt, OperandPiece, OperandPieces, answer_room}
+use Rattle.upp_normal.specs.Room.{top, LineHasRoom, PieceHasRoom, TimeHasRoom}
 use Rattle.upp_limits.proofs.NarrowSizes.{grid_pos}
-use Rattle.curve_call.specs.upp_normal.proofs.AnswerRoom.{tight, AnswerLine, line_in_room, operand_line_room, operand_line_fits, stands_operand_value, operand_line_value, values_fit, operand_value_room, operand_lines_fit, halves_apart, IsCrossing, crossing_from, crossing_room, room_at_start, many_more, more_largest}
+use Rattle.upp_normal.proofs.AnswerRoom.{tight, AnswerLine, line_in_room, operand_line_room, operand_line_fits, stands_operand_value, operand_line_value, values_fit, operand_value_room, operand_lines_fit, halves_apart, IsCrossing, crossing_from, crossing_room, room_at_start, many_more, more_largest}
 use Rattle.plain_operators.specs.running.Scans.{start_or, flat, IsLevel, HasLine, MeetingFits, ScanFits}
 use Rattle.plain_operators.specs.running.Made.{IsMeeting, IsMade, TurnsAfter, IsScan}
-use Rattle.curve_call.specs.upp_normal.specs.Ahead.{GridValue, IsGridValue}
-use Rattle.curve_call.specs.upp_normal.proofs.StretchSizes.{grid_value}
+use Rattle.upp_normal.specs.Ahead.{GridValue, IsGridValue}
+use Rattle.upp_normal.proofs.StretchSizes.{grid_value}
 
 -- ---- an operand's line against a level
 zero_slope : (z : Sizes) (end : ℚ) → AreSizes z end → IsSlope z (int (pos 0))

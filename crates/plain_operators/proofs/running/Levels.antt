@@ -1,18 +1,18 @@
 -- A line against a level on one stretch: which of the two is the greater, or the lesser, of all up to a time, or from it on.
 use Rattle.std.specs.Prelude.{◌≡◌, pos, Some}
 use Rattle.std.proofs.Common.{arith, sym, ap, ◌∙◌, subst, inl, inr}
-use Rattle.upp_limits.specs.rational.specs.Rational.{ℚ, ◌≤ℚ◌, ◌<ℚ◌, int}
-use Rattle.upp_limits.specs.rational.specs.MinMax.{min_q, max_q}
-use Rattle.upp_limits.specs.rational.specs.declared.Extended.TheVariants.{Fin}
-use Rattle.upp_limits.specs.rational.proofs.Linear.{with1}
-use Rattle.upp_limits.specs.rational.proofs.Laws.{antisym, le_refl, le_of_lt, le_or_lt, le_trans, zero_mul}
-use Rattle.upp_limits.specs.rational.proofs.Lines.{line_falls}
-use Rattle.upp_limits.specs.rational.proofs.MinMax.{max_q_le, max_q_ge_left, max_q_ge_right, min_q_ge, min_q_le_left, min_q_le_right}
-use Rattle.upp_limits.specs.upp_curve.specs.declared.affine_segment.line.Line.{Line}
-use Rattle.upp_limits.specs.upp_curve.specs.affine_segment.Values.{line_at}
+use Rattle.rational.specs.Rational.{ℚ, ◌≤ℚ◌, ◌<ℚ◌, int}
+use Rattle.rational.specs.MinMax.{min_q, max_q}
+use Rattle.rational.specs.declared.Extended.TheVariants.{Fin}
+use Rattle.rational.proofs.Linear.{with1}
+use Rattle.rational.proofs.Laws.{antisym, le_refl, le_of_lt, le_or_lt, le_trans, zero_mul}
+use Rattle.rational.proofs.Lines.{line_falls}
+use Rattle.rational.proofs.MinMax.{max_q_le, max_q_ge_left, max_q_ge_right, min_q_ge, min_q_le_left, min_q_le_right}
+use Rattle.upp_curve.specs.declared.affine_segment.line.Line.{Line}
+use Rattle.upp_curve.specs.affine_segment.Values.{line_at}
 use Rattle.plain_operators.specs.running.Scans.{flat}
 use Rattle.plain_operators.specs.running.Bends.{risen, sunk, IsOn, TakesOver}
-use Rattle.upp_limits.specs.upp_curve.proofs.affine_segment.LineValues.{value_later, value_rises}
+use Rattle.upp_curve.proofs.affine_segment.LineValues.{value_later, value_rises}
 
 pub flat_at : (v t : ℚ) → line_at (flat v) t ≡ v
 flat_at v t = rw (zero_mul t) (with1 v (λ c. omega (arith, c.le, c.lt, c.same)))

@@ -1,38 +1,38 @@
 -- The scans that find the lowest of some pieces: their steps fit, and the level that ends the second is one of the sums.
 use Rattle.std.specs.Prelude.{◌≡◌, List, [], ◌∷◌, ◌++◌}
 use Rattle.std.proofs.Common.{arith, sym, ap, ◌∙◌, refl, subst, inl, inr}
-use Rattle.upp_limits.specs.rational.specs.Rational.{ℚ, ◌+ℚ◌, ◌≤ℚ◌, ◌<ℚ◌}
-use Rattle.upp_limits.specs.rational.specs.MinMax.{min_q}
-use Rattle.upp_limits.specs.rational.specs.Ratio.{SumFits}
-use Rattle.upp_limits.specs.rational.specs.Extended.{◌≤ₑ◌}
-use Rattle.upp_limits.specs.rational.specs.declared.Extended.TheVariants.{Fin}
-use Rattle.upp_limits.specs.rational.proofs.Grid.{whole_add, within_nonneg}
-use Rattle.upp_limits.specs.rational.proofs.Linear.{with2}
-use Rattle.upp_limits.specs.rational.proofs.Laws.{le_or_lt, le_refl, le_of_lt, le_trans, lt_le_trans}
-use Rattle.upp_limits.specs.rational.proofs.MinMax.{min_q_one, min_q_le_right}
-use Rattle.upp_limits.specs.rational.proofs.ExtendedOrder.{fin_same, lt_ext_not_le}
-use Rattle.upp_limits.specs.upp_curve.specs.declared.affine_segment.line.Piece.{Piece}
-use Rattle.upp_limits.specs.upp_curve.specs.affine_segment.Values.{line_value}
-use Rattle.upp_limits.specs.min_plus.specs.Functions.{zero_q}
-use Rattle.upp_limits.specs.upp_curve.specs.affine_segment.Pieces.{Each, StartsAtZero}
-use Rattle.upp_limits.specs.upp_curve.specs.affine_segment.Reading.{read, piece_in, piece_value}
-use Rattle.upp_limits.specs.upp_curve.specs.affine_segment.Fits.{LineFitsAt}
-use Rattle.upp_limits.specs.upp_curve.specs.Shapes.{IsFinitePiece, IsNumber, IsLine}
-use Rattle.upp_limits.specs.upp_curve.specs.Steady.{last_line}
+use Rattle.rational.specs.Rational.{ℚ, ◌+ℚ◌, ◌≤ℚ◌, ◌<ℚ◌}
+use Rattle.rational.specs.MinMax.{min_q}
+use Rattle.rational.specs.Ratio.{SumFits}
+use Rattle.rational.specs.Extended.{◌≤ₑ◌}
+use Rattle.rational.specs.declared.Extended.TheVariants.{Fin}
+use Rattle.rational.proofs.Grid.{whole_add, within_nonneg}
+use Rattle.rational.proofs.Linear.{with2}
+use Rattle.rational.proofs.Laws.{le_or_lt, le_refl, le_of_lt, le_trans, lt_le_trans}
+use Rattle.rational.proofs.MinMax.{min_q_one, min_q_le_right}
+use Rattle.rational.proofs.ExtendedOrder.{fin_same, lt_ext_not_le}
+use Rattle.upp_curve.specs.declared.affine_segment.line.Piece.{Piece}
+use Rattle.upp_curve.specs.affine_segment.Values.{line_value}
+use Rattle.min_plus.specs.Functions.{zero_q}
+use Rattle.upp_curve.specs.affine_segment.Pieces.{Each, StartsAtZero}
+use Rattle.upp_curve.specs.affine_segment.Reading.{read, piece_in, piece_value}
+use Rattle.upp_curve.specs.affine_segment.Fits.{LineFitsAt}
+use Rattle.upp_curve.specs.Shapes.{IsFinitePiece, IsNumber, IsLine}
+use Rattle.upp_curve.specs.Steady.{last_line}
 use Rattle.upp_limits.specs.Limits.{Sizes}
 use Rattle.upp_limits.specs.Sized.{grid_of, times_largest}
-use Rattle.curve_call.specs.upp_normal.specs.Operand.{AreLimited}
-use Rattle.upp_limits.specs.upp_curve.proofs.Finite.{each_in}
-use Rattle.upp_limits.specs.upp_curve.proofs.affine_segment.PieceIn.{value_past, read_is, value_by}
-use Rattle.upp_limits.specs.upp_curve.proofs.affine_segment.PieceOrder.{each_append, each_map, rises_append}
-use Rattle.curve_call.specs.upp_normal.proofs.NormaliseLists.{last_in}
+use Rattle.upp_normal.specs.Operand.{AreLimited}
+use Rattle.upp_curve.proofs.Finite.{each_in}
+use Rattle.upp_curve.proofs.affine_segment.PieceIn.{value_past, read_is, value_by}
+use Rattle.upp_curve.proofs.affine_segment.PieceOrder.{each_append, each_map, rises_append}
+use Rattle.upp_normal.proofs.NormaliseLists.{last_in}
 use Rattle.plain_operators.specs.running.Scans.{IsWindow, ScanFits, IsInfimumUntil, flat}
 use Rattle.plain_operators.specs.running.Made.{IsMade, IsInfimumScan}
 use Rattle.plain_operators.specs.running.Runs.{IsFrontBefore}
 use Rattle.plain_operators.specs.running.Lowest.{SumPiece, level_piece, IsLowestCall, IsLowest}
 use Rattle.plain_operators.proofs.running.SumSizes.{EachSum, IsNear, near_of, sum_weaken, sums_fit, flat_line, line_near, value_near, level_value, made_sum, scan_fits, scan_lines}
 use Rattle.plain_operators.proofs.running.FiniteRuns.{list_number, made_finite}
-use Rattle.curve_call.specs.upp_normal.specs.Ahead.{AnswerValue}
+use Rattle.upp_normal.specs.Ahead.{AnswerValue}
 
 -- ---- finite pieces
 sum_finite : (z : Sizes) (end : ℚ) (p : Piece) → SumPiece z end p → IsFinitePiece p

@@ -1,40 +1,40 @@
 -- The scans read as the infimum over all later times of a function that repeats from `from` on; and their pieces are those of an answer.
 use Rattle.std.specs.Prelude.{◌≡◌, ℕ, false, pos, List, [], ◌∷◌, ◌++◌, Option, Some, None}
 use Rattle.std.proofs.Common.{arith, sym, ap, ◌∙◌, refl, subst, inl, inr}
-use Rattle.upp_limits.specs.rational.specs.Rational.{ℚ, ◌+ℚ◌, ◌-ℚ◌, ◌*ℚ◌, ◌≤ℚ◌, ◌<ℚ◌, int}
-use Rattle.upp_limits.specs.rational.specs.MinMax.{min_q, max_q}
-use Rattle.upp_limits.specs.rational.specs.Grid.{Whole}
-use Rattle.upp_limits.specs.rational.specs.Whole.{periods}
-use Rattle.upp_limits.specs.rational.specs.Extended.{Ext, ◌≤ₑ◌, ◌<ₑ◌, ◌+ₑ◌}
-use Rattle.upp_limits.specs.rational.specs.declared.Extended.TheVariants.{Fin, Inf}
-use Rattle.upp_limits.specs.rational.proofs.Bounds.{same_infimum}
-use Rattle.upp_limits.specs.rational.proofs.Grid.{within_weaken}
-use Rattle.upp_limits.specs.rational.proofs.Integers.{nat_nonneg}
-use Rattle.upp_limits.specs.rational.proofs.Linear.{with3, with4}
-use Rattle.upp_limits.specs.rational.proofs.Laws.{le_or_lt, le_refl, le_of_lt, le_trans, le_lt_trans, mul_nonneg, sub_add, zero_mul, add_zero}
-use Rattle.upp_limits.specs.rational.proofs.MinMax.{min_q_one, min_q_le_left, min_q_le_right, max_q_lt, max_q_ge_left, max_q_ge_right}
-use Rattle.upp_limits.specs.rational.proofs.Stretch.{line_infimum}
-use Rattle.upp_limits.specs.rational.proofs.Whole.{periods_low, periods_high}
-use Rattle.upp_limits.specs.rational.proofs.ExtendedOrder.{fin_same, le_ext_refl, le_ext_trans}
-use Rattle.upp_limits.specs.upp_curve.specs.declared.affine_segment.line.Line.{Line}
-use Rattle.upp_limits.specs.upp_curve.specs.declared.affine_segment.line.Piece.{Piece}
-use Rattle.upp_limits.specs.upp_curve.specs.affine_segment.Values.{line_at, line_value}
-use Rattle.upp_limits.specs.min_plus.specs.Functions.{zero_q, From}
-use Rattle.upp_limits.specs.upp_curve.specs.affine_segment.Pieces.{Each, StartsAtZero}
-use Rattle.upp_limits.specs.upp_curve.specs.affine_segment.Reading.{read, piece_value}
-use Rattle.curve_call.specs.upp_normal.specs.Room.{PieceHasRoom}
-use Rattle.upp_limits.specs.min_plus.specs.Running.{IsRunningInfimum}
-use Rattle.upp_limits.specs.upp_curve.specs.Steady.{Repeats, last_line, last_of}
+use Rattle.rational.specs.Rational.{ℚ, ◌+ℚ◌, ◌-ℚ◌, ◌*ℚ◌, ◌≤ℚ◌, ◌<ℚ◌, int}
+use Rattle.rational.specs.MinMax.{min_q, max_q}
+use Rattle.rational.specs.Grid.{Whole}
+use Rattle.rational.specs.Whole.{periods}
+use Rattle.rational.specs.Extended.{Ext, ◌≤ₑ◌, ◌<ₑ◌, ◌+ₑ◌}
+use Rattle.rational.specs.declared.Extended.TheVariants.{Fin, Inf}
+use Rattle.rational.proofs.Bounds.{same_infimum}
+use Rattle.rational.proofs.Grid.{within_weaken}
+use Rattle.rational.proofs.Integers.{nat_nonneg}
+use Rattle.rational.proofs.Linear.{with3, with4}
+use Rattle.rational.proofs.Laws.{le_or_lt, le_refl, le_of_lt, le_trans, le_lt_trans, mul_nonneg, sub_add, zero_mul, add_zero}
+use Rattle.rational.proofs.MinMax.{min_q_one, min_q_le_left, min_q_le_right, max_q_lt, max_q_ge_left, max_q_ge_right}
+use Rattle.rational.proofs.Stretch.{line_infimum}
+use Rattle.rational.proofs.Whole.{periods_low, periods_high}
+use Rattle.rational.proofs.ExtendedOrder.{fin_same, le_ext_refl, le_ext_trans}
+use Rattle.upp_curve.specs.declared.affine_segment.line.Line.{Line}
+use Rattle.upp_curve.specs.declared.affine_segment.line.Piece.{Piece}
+use Rattle.upp_curve.specs.affine_segment.Values.{line_at, line_value}
+use Rattle.min_plus.specs.Functions.{zero_q, From}
+use Rattle.upp_curve.specs.affine_segment.Pieces.{Each, StartsAtZero}
+use Rattle.upp_curve.specs.affine_segment.Reading.{read, piece_value}
+use Rattle.upp_normal.specs.Room.{PieceHasRoom}
+use Rattle.min_plus.specs.Running.{IsRunningInfimum}
+use Rattle.upp_curve.specs.Steady.{Repeats, last_line, last_of}
 use Rattle.upp_limits.specs.Limits.{Sizes}
 use Rattle.upp_limits.specs.Sized.{grid_of, times_largest}
-use Rattle.curve_call.specs.upp_normal.specs.Operand.{answer_room}
-use Rattle.curve_call.specs.upp_normal.proofs.Bends.{bends_on}
-use Rattle.upp_limits.specs.upp_curve.proofs.affine_segment.PieceIn.{value_past, piece_in_end, read_is, value_by}
-use Rattle.upp_limits.specs.upp_curve.proofs.affine_segment.PieceOrder.{each_map}
-use Rattle.curve_call.specs.upp_normal.proofs.NormaliseLists.{last_is_last, last_in}
-use Rattle.upp_limits.specs.upp_curve.proofs.Repeats.{repeats_times}
-use Rattle.upp_limits.specs.upp_curve.proofs.Steady.{read_past}
-use Rattle.curve_call.specs.upp_normal.proofs.UnrolledValues.{read_before, read_past_list}
+use Rattle.upp_normal.specs.Operand.{answer_room}
+use Rattle.upp_normal.proofs.Bends.{bends_on}
+use Rattle.upp_curve.proofs.affine_segment.PieceIn.{value_past, piece_in_end, read_is, value_by}
+use Rattle.upp_curve.proofs.affine_segment.PieceOrder.{each_map}
+use Rattle.upp_normal.proofs.NormaliseLists.{last_is_last, last_in}
+use Rattle.upp_curve.proofs.Repeats.{repeats_times}
+use Rattle.upp_curve.proofs.Steady.{read_past}
+use Rattle.upp_normal.proofs.UnrolledValues.{read_before, read_past_list}
 use Rattle.curve_call.specs.Answering.{IsAnswerWindow}
 use Rattle.plain_operators.specs.running.Scans.{Until, IsInfimumUntil}
 use Rattle.plain_operators.proofs.running.Fronts.{kept_each, kept_starts, kept_reads, kept_bends}
@@ -42,7 +42,7 @@ use Rattle.plain_operators.proofs.running.Shifts.{infimum_repeats, raised}
 use Rattle.curve_call.proofs.TailGrids.{grids_nest}
 use Rattle.plain_operators.specs.running.Lowest.{level_piece, IsLowestCall, IsLowest}
 use Rattle.plain_operators.proofs.running.SumSizes.{IsNear, EachSum, scan_room, only_bend}
-use Rattle.curve_call.specs.upp_normal.proofs.AnswerRoom.{more_largest}
+use Rattle.upp_normal.proofs.AnswerRoom.{more_largest}
 use Rattle.plain_operators.proofs.running.LowestCalls.{call_far, all_sums}
 use Rattle.plain_operators.proofs.running.InfimumRuns.{same_until}
 

@@ -1,14 +1,14 @@
 -- That the pieces of a bend are made of levels and lines of the scanned pieces.
 use Rattle.std.specs.Prelude.{◌≡◌, ℕ, Bool, List, [], ◌∷◌, ◌++◌, Option, Some, None, IfSome, ◌⊎◌}
 use Rattle.std.proofs.Common.{sym, ap, refl, subst, inl, inr}
-use Rattle.upp_limits.specs.rational.specs.Rational.{ℚ}
-use Rattle.upp_limits.specs.rational.specs.MinMax.{min_q, max_q}
-use Rattle.upp_limits.specs.rational.specs.declared.Extended.TheVariants.{Fin}
-use Rattle.upp_limits.specs.rational.proofs.MinMax.{max_q_one, min_q_one}
-use Rattle.upp_limits.specs.upp_curve.specs.declared.affine_segment.line.Line.{Line}
-use Rattle.upp_limits.specs.upp_curve.specs.declared.affine_segment.line.Piece.{Piece}
-use Rattle.curve_call.specs.upp_normal.specs.Bends.{SlopeTurns}
-use Rattle.upp_limits.specs.upp_curve.specs.affine_segment.Pieces.{Each, HasStart}
+use Rattle.rational.specs.Rational.{ℚ}
+use Rattle.rational.specs.MinMax.{min_q, max_q}
+use Rattle.rational.specs.declared.Extended.TheVariants.{Fin}
+use Rattle.rational.proofs.MinMax.{max_q_one, min_q_one}
+use Rattle.upp_curve.specs.declared.affine_segment.line.Line.{Line}
+use Rattle.upp_curve.specs.declared.affine_segment.line.Piece.{Piece}
+use Rattle.upp_normal.specs.Bends.{SlopeTurns}
+use Rattle.upp_curve.specs.affine_segment.Pieces.{Each, HasStart}
 use Rattle.plain_operators.specs.declared.running.stretch.Stretch.{Stretch}
 use Rattle.plain_operators.specs.declared.running.bend.Bend.{Bend}
 use Rattle.plain_operators.specs.running.Scans.{flat, IsLevel, HasLine, IsStretch}

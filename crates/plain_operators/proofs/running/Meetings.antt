@@ -1,12 +1,12 @@
 -- What the meeting of a line that rises with a level line gives.
 use Rattle.std.specs.Prelude.{◌≡◌, ◌↔◌, pos, Option, Some, None, Result, Ok, Err, IfOk, IfErr, IfSome}
 use Rattle.std.proofs.Common.{ap, ◌∙◌, subst}
-use Rattle.upp_limits.specs.rational.specs.Rational.{ℚ, ◌<ℚ◌, int}
-use Rattle.upp_limits.specs.rational.proofs.Laws.{lt_irrefl}
-use Rattle.upp_limits.specs.fraction128.specs.declared.fault.Wide.{Wide}
-use Rattle.upp_limits.specs.upp_curve.specs.declared.affine_segment.line.Line.{Line}
-use Rattle.upp_limits.specs.upp_curve.specs.affine_segment.Values.{line_at}
-use Rattle.upp_limits.specs.upp_curve.specs.affine_segment.Steps.{IsWideCross}
+use Rattle.rational.specs.Rational.{ℚ, ◌<ℚ◌, int}
+use Rattle.rational.proofs.Laws.{lt_irrefl}
+use Rattle.fraction128.specs.declared.fault.Wide.{Wide}
+use Rattle.upp_curve.specs.declared.affine_segment.line.Line.{Line}
+use Rattle.upp_curve.specs.affine_segment.Values.{line_at}
+use Rattle.upp_curve.specs.affine_segment.Steps.{IsWideCross}
 use Rattle.plain_operators.specs.running.Scans.{flat, MeetingFits}
 use Rattle.plain_operators.proofs.running.Levels.{flat_at}
 

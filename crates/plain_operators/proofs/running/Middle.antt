@@ -1,21 +1,21 @@
 -- One piece in the middle of a window: how it is read, where it ends, and that its steps fit.
 use Rattle.std.specs.Prelude.{◌≡◌, ℕ, suc, ◌+◌, ◌<◌, List, [], ◌∷◌, ◌++◌, length, take, drop, Option, Some}
 use Rattle.std.proofs.Common.{arith, get_or, drop-cons, take-append-drop, sym, ap, ◌∙◌, subst, inl, inr}
-use Rattle.upp_limits.specs.rational.specs.Rational.{ℚ, ◌≤ℚ◌, ◌<ℚ◌}
-use Rattle.upp_limits.specs.rational.specs.declared.Extended.TheVariants.{Fin}
-use Rattle.upp_limits.specs.rational.proofs.Laws.{le_refl, le_of_lt}
-use Rattle.upp_limits.specs.upp_curve.specs.declared.affine_segment.line.Line.{Line}
-use Rattle.upp_limits.specs.upp_curve.specs.declared.affine_segment.line.Piece.{Piece}
-use Rattle.upp_limits.specs.upp_curve.specs.affine_segment.Values.{line_at, line_value}
-use Rattle.upp_limits.specs.upp_curve.specs.affine_segment.Reading.{read}
-use Rattle.upp_limits.specs.upp_curve.specs.affine_segment.Pieces.{Each, HasStart, RisesFrom, StartsAtZero, start_after}
-use Rattle.upp_limits.specs.upp_curve.specs.Readable.{EachFits, LineFitsTo}
-use Rattle.upp_limits.specs.upp_curve.specs.affine_segment.Fits.{LineFitsAt, LineFits}
-use Rattle.upp_limits.specs.upp_curve.specs.Shapes.{IsFinitePiece}
-use Rattle.upp_limits.specs.upp_curve.proofs.affine_segment.PieceIn.{value_past, value_at_start}
+use Rattle.rational.specs.Rational.{ℚ, ◌≤ℚ◌, ◌<ℚ◌}
+use Rattle.rational.specs.declared.Extended.TheVariants.{Fin}
+use Rattle.rational.proofs.Laws.{le_refl, le_of_lt}
+use Rattle.upp_curve.specs.declared.affine_segment.line.Line.{Line}
+use Rattle.upp_curve.specs.declared.affine_segment.line.Piece.{Piece}
+use Rattle.upp_curve.specs.affine_segment.Values.{line_at, line_value}
+use Rattle.upp_curve.specs.affine_segment.Reading.{read}
+use Rattle.upp_curve.specs.affine_segment.Pieces.{Each, HasStart, RisesFrom, StartsAtZero, start_after}
+use Rattle.upp_curve.specs.Readable.{EachFits, LineFitsTo}
+use Rattle.upp_curve.specs.affine_segment.Fits.{LineFitsAt, LineFits}
+use Rattle.upp_curve.specs.Shapes.{IsFinitePiece}
+use Rattle.upp_curve.proofs.affine_segment.PieceIn.{value_past, value_at_start}
 use Rattle.curve_call.proofs.Surgery.{BeforeNext, read_middle, rest_rises, start_nonneg, before_own}
 use Rattle.plain_operators.specs.running.Scans.{start_or, IsWindow, ScanFits, IsLevel, HasLine, IsStretch}
-use Rattle.upp_limits.specs.upp_curve.proofs.affine_segment.PieceOrder.{each_mid, has_mid}
+use Rattle.upp_curve.proofs.affine_segment.PieceOrder.{each_mid, has_mid}
 
 -- the list falls into what comes before the i-th piece, that piece, and what comes after it
 pub record Parts (ps : List Piece) (i : ℕ) (p : Piece) : Type 0 where

@@ -3,28 +3,28 @@
 use Rattle.std.specs.Prelude.{◌≡◌, ℕ, zero, suc, ◌<◌, pos}
 use Rattle.std.proofs.Common.{arith, sym, ◌∙◌, refl, subst, inl, inr}
 use Rattle.std.proofs.lemmas.Bool.{cases_lt}
-use Rattle.upp_limits.specs.rational.specs.Rational.{ℚ, ◌+ℚ◌, ◌-ℚ◌, ◌*ℚ◌, ◌/ℚ◌, ◌≤ℚ◌, ◌<ℚ◌, int}
-use Rattle.upp_limits.specs.rational.specs.MinMax.{max_q}
-use Rattle.upp_limits.specs.rational.specs.Ratio.{IsSmall}
-use Rattle.upp_limits.specs.rational.specs.Gauge.{size_up}
-use Rattle.upp_limits.specs.rational.specs.Extended.{◌≤ₑ◌, ◌+ₑ◌}
-use Rattle.upp_limits.specs.rational.specs.declared.Extended.TheVariants.{Fin}
-use Rattle.upp_limits.specs.rational.proofs.Linear.{with2, with4}
-use Rattle.upp_limits.specs.rational.proofs.Laws.{le_or_lt, le_trans, le_of_lt, lt_irrefl, lt_le_trans}
-use Rattle.upp_limits.specs.rational.proofs.Grid.{whole_sub}
-use Rattle.upp_limits.specs.rational.proofs.Quotients.{div_le}
+use Rattle.rational.specs.Rational.{ℚ, ◌+ℚ◌, ◌-ℚ◌, ◌*ℚ◌, ◌/ℚ◌, ◌≤ℚ◌, ◌<ℚ◌, int}
+use Rattle.rational.specs.MinMax.{max_q}
+use Rattle.rational.specs.Ratio.{IsSmall}
+use Rattle.rational.specs.Gauge.{size_up}
+use Rattle.rational.specs.Extended.{◌≤ₑ◌, ◌+ₑ◌}
+use Rattle.rational.specs.declared.Extended.TheVariants.{Fin}
+use Rattle.rational.proofs.Linear.{with2, with4}
+use Rattle.rational.proofs.Laws.{le_or_lt, le_trans, le_of_lt, lt_irrefl, lt_le_trans}
+use Rattle.rational.proofs.Grid.{whole_sub}
+use Rattle.rational.proofs.Quotients.{div_le}
 use Rattle.upp_limits.proofs.CommonDen.{size_up_within}
-use Rattle.upp_limits.specs.rational.proofs.ExtendedOrder.{add_le_ext, le_ext_refl, le_ext_trans}
+use Rattle.rational.proofs.ExtendedOrder.{add_le_ext, le_ext_refl, le_ext_trans}
 use Rattle.upp_limits.specs.declared.op_kind.OpKind.TheVariants.{FifoLeft}
-use Rattle.upp_limits.specs.upp_curve.specs.Curve.{SpecCurve, value_at}
-use Rattle.upp_limits.specs.min_plus.specs.Functions.{zero_q}
-use Rattle.upp_limits.specs.upp_curve.specs.Steady.{steady, rise_over}
-use Rattle.upp_limits.specs.upp_curve.proofs.Steady.{steady_rule}
+use Rattle.upp_curve.specs.Curve.{SpecCurve, value_at}
+use Rattle.min_plus.specs.Functions.{zero_q}
+use Rattle.upp_curve.specs.Steady.{steady, rise_over}
+use Rattle.upp_curve.proofs.Steady.{steady_rule}
 use Rattle.upp_limits.specs.Limits.{Sizes, curve_numbers}
 use Rattle.upp_limits.specs.Sized.{Stands}
 use Rattle.upp_limits.specs.Windows.{IsLeast, Meets}
-use Rattle.curve_call.specs.upp_normal.specs.Operand.{AreLimited}
-use Rattle.curve_call.specs.upp_normal.proofs.AnswerRoom.{value_difference_stands}
+use Rattle.upp_normal.specs.Operand.{AreLimited}
+use Rattle.upp_normal.proofs.AnswerRoom.{value_difference_stands}
 use Rattle.curve_call.specs.Rises.{CurveRiseFits}
 use Rattle.curve_call.specs.declared.windows.CallWindow.{CallWindow}
 use Rattle.curve_call.proofs.CurveRises.{IsRise, rise_is}

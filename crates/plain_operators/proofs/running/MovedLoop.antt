@@ -1,12 +1,12 @@
 -- A loop that moves pieces right.
 use Rattle.std.specs.Prelude.{◌≡◌, ℕ, ◌+◌, ◌<◌, ◌≤◌, List, [], ◌∷◌, ◌++◌, length, map}
 use Rattle.std.proofs.Common.{get_or, drop, drop_of_length-le, append-nil, sym, ap, ◌∙◌, subst}
-use Rattle.upp_limits.specs.rational.specs.Rational.{ℚ, ◌≤ℚ◌, ◌<ℚ◌}
-use Rattle.upp_limits.specs.upp_curve.specs.declared.affine_segment.line.Piece.{Piece}
-use Rattle.upp_limits.specs.upp_curve.specs.affine_segment.Pieces.{Each}
-use Rattle.upp_limits.specs.upp_curve.specs.Unrolled.{upto}
-use Rattle.upp_limits.specs.upp_curve.proofs.affine_segment.NextPiece.{next_piece}
-use Rattle.upp_limits.specs.upp_curve.proofs.Unique.{upto_none, upto_some, upto_end}
+use Rattle.rational.specs.Rational.{ℚ, ◌≤ℚ◌, ◌<ℚ◌}
+use Rattle.upp_curve.specs.declared.affine_segment.line.Piece.{Piece}
+use Rattle.upp_curve.specs.affine_segment.Pieces.{Each}
+use Rattle.upp_curve.specs.Unrolled.{upto}
+use Rattle.upp_curve.proofs.affine_segment.NextPiece.{next_piece}
+use Rattle.upp_curve.proofs.Unique.{upto_none, upto_some, upto_end}
 use Rattle.curve_call.proofs.Surgery.{one_more}
 use Rattle.plain_operators.specs.running.Moved.{moved_piece, moved_right, PieceMoves}
 

@@ -1,22 +1,22 @@
 -- Pieces moved right by theta read as they did theta earlier, past theta; up to theta they are infinite.
 use Rattle.std.specs.Prelude.{◌≡◌, cond, List, [], ◌∷◌, ◌++◌, map, Option, Some, None}
 use Rattle.std.proofs.Common.{arith, sym, ap, ◌∙◌, refl, subst, inl, inr}
-use Rattle.upp_limits.specs.rational.specs.Rational.{ℚ, ◌+ℚ◌, ◌-ℚ◌, ◌*ℚ◌, ◌≤ℚ◌, ◌<ℚ◌}
-use Rattle.upp_limits.specs.rational.specs.declared.Extended.TheVariants.{Fin, Inf}
-use Rattle.upp_limits.specs.rational.proofs.Linear.{with2, with3, with4}
-use Rattle.upp_limits.specs.rational.proofs.Laws.{le_or_lt, le_refl, le_of_lt, le_trans, le_lt_trans, antisym, mul_sub}
-use Rattle.upp_limits.specs.rational.proofs.MinMax.{le_q_not, lt_q_not}
-use Rattle.upp_limits.specs.rational.proofs.Over.{le_q_out, lt_q_out}
-use Rattle.upp_limits.specs.upp_curve.specs.declared.affine_segment.line.Line.{Line}
-use Rattle.upp_limits.specs.upp_curve.specs.declared.affine_segment.line.Piece.{Piece}
-use Rattle.upp_limits.specs.upp_curve.specs.affine_segment.Values.{line_value}
-use Rattle.upp_limits.specs.min_plus.specs.Functions.{zero_q}
-use Rattle.upp_limits.specs.upp_curve.specs.affine_segment.Pieces.{RisesFrom, StartsAtZero}
-use Rattle.upp_limits.specs.upp_curve.specs.affine_segment.Reading.{read, piece_in, piece_value}
-use Rattle.upp_limits.specs.upp_curve.specs.Unrolled.{upto}
-use Rattle.upp_limits.specs.upp_curve.proofs.affine_segment.PieceIn.{value_past, piece_in_end, piece_in_go, piece_in_stop, read_is, value_by}
-use Rattle.curve_call.specs.upp_normal.proofs.NormaliseLists.{rises_upto}
-use Rattle.upp_limits.specs.upp_curve.proofs.Unique.{upto_none, upto_some, upto_end}
+use Rattle.rational.specs.Rational.{ℚ, ◌+ℚ◌, ◌-ℚ◌, ◌*ℚ◌, ◌≤ℚ◌, ◌<ℚ◌}
+use Rattle.rational.specs.declared.Extended.TheVariants.{Fin, Inf}
+use Rattle.rational.proofs.Linear.{with2, with3, with4}
+use Rattle.rational.proofs.Laws.{le_or_lt, le_refl, le_of_lt, le_trans, le_lt_trans, antisym, mul_sub}
+use Rattle.rational.proofs.MinMax.{le_q_not, lt_q_not}
+use Rattle.rational.proofs.Over.{le_q_out, lt_q_out}
+use Rattle.upp_curve.specs.declared.affine_segment.line.Line.{Line}
+use Rattle.upp_curve.specs.declared.affine_segment.line.Piece.{Piece}
+use Rattle.upp_curve.specs.affine_segment.Values.{line_value}
+use Rattle.min_plus.specs.Functions.{zero_q}
+use Rattle.upp_curve.specs.affine_segment.Pieces.{RisesFrom, StartsAtZero}
+use Rattle.upp_curve.specs.affine_segment.Reading.{read, piece_in, piece_value}
+use Rattle.upp_curve.specs.Unrolled.{upto}
+use Rattle.upp_curve.proofs.affine_segment.PieceIn.{value_past, piece_in_end, piece_in_go, piece_in_stop, read_is, value_by}
+use Rattle.upp_normal.proofs.NormaliseLists.{rises_upto}
+use Rattle.upp_curve.proofs.Unique.{upto_none, upto_some, upto_end}
 use Rattle.plain_operators.specs.running.Moved.{moved_line, moved_piece, silence, moved_right}
 
 -- ---- one piece

@@ -1,35 +1,35 @@
 -- The pieces of an operand moved right are those of an operand too; the steps to them fit.
 use Rattle.std.specs.Prelude.{◌≡◌, pos, cond, Bool, true, false, List, [], ◌∷◌, map, Option, Some, None}
 use Rattle.std.proofs.Common.{arith, sym, ap, ◌∙◌, subst}
-use Rattle.upp_limits.specs.rational.specs.Rational.{ℚ, ◌+ℚ◌, ◌*ℚ◌, ◌≤ℚ◌, ◌<ℚ◌, int, neg_ℚ, lt_q}
-use Rattle.upp_limits.specs.rational.specs.Grid.{Whole, Within}
-use Rattle.upp_limits.specs.rational.specs.Extended.{Ext}
-use Rattle.upp_limits.specs.rational.specs.declared.Extended.TheVariants.{Inf}
-use Rattle.upp_limits.specs.rational.proofs.Grid.{whole_add, whole_int, whole_neg, within_neg}
-use Rattle.upp_limits.specs.rational.proofs.Linear.{with2}
-use Rattle.upp_limits.specs.rational.proofs.Laws.{le_refl, le_of_lt, mul_comm, mul_one}
-use Rattle.upp_limits.specs.upp_curve.specs.declared.affine_segment.line.Line.{Line}
-use Rattle.upp_limits.specs.upp_curve.specs.declared.affine_segment.line.Piece.{Piece}
-use Rattle.upp_limits.specs.upp_curve.specs.affine_segment.Values.{line_value}
-use Rattle.upp_limits.specs.upp_curve.specs.Curve.{SpecCurve}
-use Rattle.upp_limits.specs.upp_curve.specs.Curves.{IsCurve}
-use Rattle.upp_limits.specs.min_plus.specs.Functions.{zero_q}
-use Rattle.upp_limits.specs.upp_curve.specs.affine_segment.Pieces.{Each}
+use Rattle.rational.specs.Rational.{ℚ, ◌+ℚ◌, ◌*ℚ◌, ◌≤ℚ◌, ◌<ℚ◌, int, neg_ℚ, lt_q}
+use Rattle.rational.specs.Grid.{Whole, Within}
+use Rattle.rational.specs.Extended.{Ext}
+use Rattle.rational.specs.declared.Extended.TheVariants.{Inf}
+use Rattle.rational.proofs.Grid.{whole_add, whole_int, whole_neg, within_neg}
+use Rattle.rational.proofs.Linear.{with2}
+use Rattle.rational.proofs.Laws.{le_refl, le_of_lt, mul_comm, mul_one}
+use Rattle.upp_curve.specs.declared.affine_segment.line.Line.{Line}
+use Rattle.upp_curve.specs.declared.affine_segment.line.Piece.{Piece}
+use Rattle.upp_curve.specs.affine_segment.Values.{line_value}
+use Rattle.upp_curve.specs.Curve.{SpecCurve}
+use Rattle.upp_curve.specs.Curves.{IsCurve}
+use Rattle.min_plus.specs.Functions.{zero_q}
+use Rattle.upp_curve.specs.affine_segment.Pieces.{Each}
 use Rattle.upp_limits.specs.Limits.{Sizes, curve_numbers}
 use Rattle.upp_limits.specs.Sized.{Stands, ValueStands, LineStands, grid_of, times_largest}
-use Rattle.curve_call.specs.upp_normal.specs.Operand.{AreLimited, OperandLineAt, OperandPiece, OperandPieces}
-use Rattle.upp_limits.specs.upp_curve.specs.Unrolled.{unroll, upto}
-use Rattle.curve_call.specs.upp_normal.proofs.AnswerRoom.{wide_narrow}
+use Rattle.upp_normal.specs.Operand.{AreLimited, OperandLineAt, OperandPiece, OperandPieces}
+use Rattle.upp_curve.specs.Unrolled.{unroll, upto}
+use Rattle.upp_normal.proofs.AnswerRoom.{wide_narrow}
 use Rattle.upp_limits.proofs.NarrowSizes.{small_number, small_sum, run_whole, run_within}
-use Rattle.upp_limits.specs.upp_curve.proofs.affine_segment.PieceOrder.{each_append, each_map}
-use Rattle.curve_call.specs.upp_normal.proofs.NormaliseLists.{each_upto}
+use Rattle.upp_curve.proofs.affine_segment.PieceOrder.{each_append, each_map}
+use Rattle.upp_normal.proofs.NormaliseLists.{each_upto}
 use Rattle.upp_limits.proofs.PieceLists.{starts_nonneg}
-use Rattle.curve_call.specs.upp_normal.proofs.UnrolledPieces.{each_with, each_nonneg, unroll_each, unroll_starts, PieceStands, pieces_stand, operand_line, operand_pieces}
-use Rattle.curve_call.specs.upp_normal.proofs.UnrollSteps.{time_within}
+use Rattle.upp_normal.proofs.UnrolledPieces.{each_with, each_nonneg, unroll_each, unroll_starts, PieceStands, pieces_stand, operand_line, operand_pieces}
+use Rattle.upp_normal.proofs.UnrollSteps.{time_within}
 use Rattle.plain_operators.specs.running.Moved.{moved_line, moved_piece, silence, moved_right, LineMoves, PieceMoves}
 use Rattle.plain_operators.proofs.running.MovedReads.{moved_line_value, moved_starts}
 use Rattle.upp_limits.proofs.PieceCounts.{upto_early}
-use Rattle.curve_call.specs.upp_normal.proofs.StretchSizes.{time_whole}
+use Rattle.upp_normal.proofs.StretchSizes.{time_whole}
 
 -- ---- where they stand
 at_stands : (z : Sizes) (b : Bool) (v : Ext) → ValueStands z v → ValueStands z (cond b v Inf)

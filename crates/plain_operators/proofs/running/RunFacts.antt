@@ -1,40 +1,40 @@
 -- What the limits of a call for a running bound give: sizes that hold the curve's numbers, its pieces in the window, and how it repeats.
 use Rattle.std.specs.Prelude.{◌≡◌, ℕ, ◌<◌, ◌^◌, List, [], ◌∷◌, Some}
 use Rattle.std.proofs.Common.{arith, sym, ◌∙◌, refl, subst}
-use Rattle.upp_limits.specs.rational.specs.Rational.{ℚ, ◌+ℚ◌, neg_ℚ, ◌≤ℚ◌, ◌<ℚ◌}
-use Rattle.upp_limits.specs.rational.specs.Ratio.{SumFits}
-use Rattle.upp_limits.specs.rational.specs.Grid.{Whole}
-use Rattle.upp_limits.specs.rational.specs.declared.Extended.TheVariants.{Inf}
-use Rattle.upp_limits.specs.rational.proofs.Grid.{whole_neg, within_neg}
-use Rattle.upp_limits.specs.rational.proofs.Laws.{le_refl, le_of_lt, le_trans}
-use Rattle.upp_limits.specs.rational.proofs.Linear.{with3}
-use Rattle.upp_limits.specs.upp_curve.specs.declared.affine_segment.line.Piece.{Piece}
+use Rattle.rational.specs.Rational.{ℚ, ◌+ℚ◌, neg_ℚ, ◌≤ℚ◌, ◌<ℚ◌}
+use Rattle.rational.specs.Ratio.{SumFits}
+use Rattle.rational.specs.Grid.{Whole}
+use Rattle.rational.specs.declared.Extended.TheVariants.{Inf}
+use Rattle.rational.proofs.Grid.{whole_neg, within_neg}
+use Rattle.rational.proofs.Laws.{le_refl, le_of_lt, le_trans}
+use Rattle.rational.proofs.Linear.{with3}
+use Rattle.upp_curve.specs.declared.affine_segment.line.Piece.{Piece}
 use Rattle.upp_limits.specs.declared.op_kind.OpKind.{OpKind}
 use Rattle.upp_limits.specs.declared.op_kind.OpKind.TheVariants.{RunSup, RunInf}
-use Rattle.upp_limits.specs.upp_curve.specs.affine_segment.Reading.{read}
-use Rattle.upp_limits.specs.upp_curve.specs.Curve.{SpecCurve, value_at}
-use Rattle.upp_limits.specs.upp_curve.specs.Curves.{IsCurve}
-use Rattle.upp_limits.specs.min_plus.specs.Functions.{zero_q, IsFinite, IsNonnegative}
+use Rattle.upp_curve.specs.affine_segment.Reading.{read}
+use Rattle.upp_curve.specs.Curve.{SpecCurve, value_at}
+use Rattle.upp_curve.specs.Curves.{IsCurve}
+use Rattle.min_plus.specs.Functions.{zero_q, IsFinite, IsNonnegative}
 use Rattle.upp_limits.specs.Gauges.{numbers_over, gauge_at}
-use Rattle.upp_limits.specs.upp_curve.specs.affine_segment.Pieces.{Each, StartsAtZero}
-use Rattle.upp_limits.specs.upp_curve.specs.Shapes.{IsFinitePiece, IsNumber}
-use Rattle.upp_limits.specs.upp_curve.specs.Steady.{Repeats, steady, rise_over, IsWholePeriods}
+use Rattle.upp_curve.specs.affine_segment.Pieces.{Each, StartsAtZero}
+use Rattle.upp_curve.specs.Shapes.{IsFinitePiece, IsNumber}
+use Rattle.upp_curve.specs.Steady.{Repeats, steady, rise_over, IsWholePeriods}
 use Rattle.upp_limits.specs.Periods.{own_period}
 use Rattle.upp_limits.specs.Limits.{Sizes, curve_numbers}
 use Rattle.upp_limits.specs.Sized.{Stands, grid_of, times_largest}
-use Rattle.curve_call.specs.upp_normal.specs.Operand.{AreLimited, OperandPieces}
-use Rattle.upp_limits.specs.upp_curve.specs.Unrolled.{unroll}
-use Rattle.curve_call.specs.upp_normal.specs.Unrolling.{IsOperandTo}
+use Rattle.upp_normal.specs.Operand.{AreLimited, OperandPieces}
+use Rattle.upp_curve.specs.Unrolled.{unroll}
+use Rattle.upp_normal.specs.Unrolling.{IsOperandTo}
 use Rattle.upp_limits.specs.Windows.{window_at}
-use Rattle.curve_call.specs.upp_normal.proofs.AnswerRoom.{wide_narrow}
-use Rattle.curve_call.specs.upp_normal.proofs.Below.{unroll_reads}
-use Rattle.upp_limits.specs.upp_curve.proofs.Finite.{pieces_finite, number_of}
-use Rattle.curve_call.specs.upp_normal.proofs.GaugeRises.{limited_over}
+use Rattle.upp_normal.proofs.AnswerRoom.{wide_narrow}
+use Rattle.upp_normal.proofs.Below.{unroll_reads}
+use Rattle.upp_curve.proofs.Finite.{pieces_finite, number_of}
+use Rattle.upp_normal.proofs.GaugeRises.{limited_over}
 use Rattle.upp_limits.proofs.NarrowSizes.{small_sum}
 use Rattle.upp_limits.proofs.Stands.{sizes_stand}
-use Rattle.upp_limits.specs.upp_curve.proofs.Steady.{steady_rule}
-use Rattle.curve_call.specs.upp_normal.proofs.UnrolledPieces.{operand_pieces, unroll_starts, unroll_before}
-use Rattle.curve_call.specs.upp_normal.proofs.UnrollSteps.{time_within}
+use Rattle.upp_curve.proofs.Steady.{steady_rule}
+use Rattle.upp_normal.proofs.UnrolledPieces.{operand_pieces, unroll_starts, unroll_before}
+use Rattle.upp_normal.proofs.UnrollSteps.{time_within}
 use Rattle.curve_call.specs.declared.frame.Frame.{Frame}
 use Rattle.curve_call.specs.declared.windows.CallWindow.{CallWindow}
 use Rattle.curve_call.specs.CallWindows.{IsWindow as IsCallWindow}
@@ -47,8 +47,8 @@ use Rattle.plain_operators.specs.running.Scans.{IsWindow, ScanFits}
 use Rattle.plain_operators.specs.running.Periods.{IsSupremumCall}
 use Rattle.plain_operators.proofs.running.Covers.{no_fall}
 use Rattle.plain_operators.proofs.running.LevelSizes.{scan_fits}
-use Rattle.upp_limits.specs.upp_curve.proofs.affine_segment.PieceIn.{read_is}
-use Rattle.curve_call.specs.upp_normal.proofs.StretchSizes.{time_whole}
+use Rattle.upp_curve.proofs.affine_segment.PieceIn.{read_is}
+use Rattle.upp_normal.proofs.StretchSizes.{time_whole}
 
 pub record RunFacts (f : SpecCurve) (start period end : ℚ) (z : Sizes) : Type 0 where
   pub curve : IsCurve f

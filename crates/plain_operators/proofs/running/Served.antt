@@ -2,22 +2,22 @@
 -- faster, and theta later the service has caught up with it wherever the service goes on from its own value.
 use Rattle.std.specs.Prelude.{◌≡◌, ℕ, pos, Option, Some, None}
 use Rattle.std.proofs.Common.{arith, sym, ◌∙◌, subst, inl, inr}
-use Rattle.upp_limits.specs.rational.specs.Rational.{ℚ, ◌+ℚ◌, ◌-ℚ◌, ◌*ℚ◌, ◌≤ℚ◌, ◌<ℚ◌, int}
-use Rattle.upp_limits.specs.rational.specs.MinMax.{min_q}
-use Rattle.upp_limits.specs.rational.specs.Extended.{Ext, ◌≤ₑ◌, ◌+ₑ◌}
-use Rattle.upp_limits.specs.rational.specs.declared.Extended.TheVariants.{Fin}
-use Rattle.upp_limits.specs.rational.proofs.Linear.{with1, with2, with3, with4}
-use Rattle.upp_limits.specs.rational.proofs.Laws.{le_or_lt, le_refl, le_trans, le_of_lt, lt_irrefl, le_lt_trans, mul_sub, mul_nonneg}
-use Rattle.upp_limits.specs.rational.proofs.MinMax.{min_q_le_left}
-use Rattle.upp_limits.specs.rational.proofs.Integers.{nat_nonneg}
-use Rattle.upp_limits.specs.rational.proofs.Quotients.{times_above}
-use Rattle.upp_limits.specs.rational.proofs.Stretch.{line_infimum}
-use Rattle.upp_limits.specs.rational.proofs.ExtendedOrder.{le_ext_trans, le_lt_ext, same_le_ext, fin_same, finite_below}
-use Rattle.upp_limits.specs.upp_curve.specs.declared.affine_segment.line.Line.{Line}
-use Rattle.upp_limits.specs.upp_curve.specs.affine_segment.Values.{line_at, line_value}
-use Rattle.upp_limits.specs.min_plus.specs.Functions.{zero_q, IsFinite, Time}
-use Rattle.upp_limits.specs.min_plus.specs.Deviations.{Lag}
-use Rattle.upp_limits.specs.upp_curve.specs.Steady.{Repeats}
+use Rattle.rational.specs.Rational.{ℚ, ◌+ℚ◌, ◌-ℚ◌, ◌*ℚ◌, ◌≤ℚ◌, ◌<ℚ◌, int}
+use Rattle.rational.specs.MinMax.{min_q}
+use Rattle.rational.specs.Extended.{Ext, ◌≤ₑ◌, ◌+ₑ◌}
+use Rattle.rational.specs.declared.Extended.TheVariants.{Fin}
+use Rattle.rational.proofs.Linear.{with1, with2, with3, with4}
+use Rattle.rational.proofs.Laws.{le_or_lt, le_refl, le_trans, le_of_lt, lt_irrefl, le_lt_trans, mul_sub, mul_nonneg}
+use Rattle.rational.proofs.MinMax.{min_q_le_left}
+use Rattle.rational.proofs.Integers.{nat_nonneg}
+use Rattle.rational.proofs.Quotients.{times_above}
+use Rattle.rational.proofs.Stretch.{line_infimum}
+use Rattle.rational.proofs.ExtendedOrder.{le_ext_trans, le_lt_ext, same_le_ext, fin_same, finite_below}
+use Rattle.upp_curve.specs.declared.affine_segment.line.Line.{Line}
+use Rattle.upp_curve.specs.affine_segment.Values.{line_at, line_value}
+use Rattle.min_plus.specs.Functions.{zero_q, IsFinite, Time}
+use Rattle.min_plus.specs.Deviations.{Lag}
+use Rattle.upp_curve.specs.Steady.{Repeats}
 use Rattle.curve_call.proofs.Shifts.{later_value}
 use Rattle.plain_operators.specs.running.Behind.{IsServed}
 

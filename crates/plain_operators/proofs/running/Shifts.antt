@@ -1,19 +1,19 @@
 -- How the running bounds of a function repeat that repeats itself, and what lies past the second period.
 use Rattle.std.specs.Prelude.{◌≡◌, ℕ, zero, suc, pos}
 use Rattle.std.proofs.Common.{arith, sym, ap, ◌∙◌, subst, inl, inr}
-use Rattle.upp_limits.specs.rational.specs.Rational.{ℚ, ◌+ℚ◌, ◌-ℚ◌, ◌*ℚ◌, ◌≤ℚ◌, ◌<ℚ◌, int}
-use Rattle.upp_limits.specs.rational.specs.Extended.{Ext, ◌≤ₑ◌, ◌<ₑ◌, ◌+ₑ◌}
-use Rattle.upp_limits.specs.rational.specs.declared.Extended.TheVariants.{Fin, Inf}
-use Rattle.upp_limits.specs.rational.proofs.Linear.{with1, with2, with3, with4}
-use Rattle.upp_limits.specs.rational.proofs.Laws.{le_refl, le_of_lt, le_or_lt, le_trans, add_mul, one_mul}
-use Rattle.upp_limits.specs.rational.proofs.Integers.{nat_next}
-use Rattle.upp_limits.specs.rational.proofs.ExtendedOrder.{le_ext_refl, le_ext_trans, lt_le_ext, same_le_ext, add_le_ext, add_zero_ext, gt_add_in, gt_add_out}
-use Rattle.upp_limits.specs.rational.proofs.Bounds.{infimum_shift, same_infimum, supremum_shift}
-use Rattle.upp_limits.specs.upp_curve.specs.Steady.{Repeats}
-use Rattle.upp_limits.specs.min_plus.specs.Functions.{zero_q, UpTo, From}
-use Rattle.upp_limits.specs.min_plus.specs.Running.{IsRunningSupremum, IsRunningInfimum}
-use Rattle.upp_limits.specs.min_plus.proofs.Rates.{enough}
-use Rattle.upp_limits.specs.upp_curve.proofs.Repeats.{repeats_times}
+use Rattle.rational.specs.Rational.{ℚ, ◌+ℚ◌, ◌-ℚ◌, ◌*ℚ◌, ◌≤ℚ◌, ◌<ℚ◌, int}
+use Rattle.rational.specs.Extended.{Ext, ◌≤ₑ◌, ◌<ₑ◌, ◌+ₑ◌}
+use Rattle.rational.specs.declared.Extended.TheVariants.{Fin, Inf}
+use Rattle.rational.proofs.Linear.{with1, with2, with3, with4}
+use Rattle.rational.proofs.Laws.{le_refl, le_of_lt, le_or_lt, le_trans, add_mul, one_mul}
+use Rattle.rational.proofs.Integers.{nat_next}
+use Rattle.rational.proofs.ExtendedOrder.{le_ext_refl, le_ext_trans, lt_le_ext, same_le_ext, add_le_ext, add_zero_ext, gt_add_in, gt_add_out}
+use Rattle.rational.proofs.Bounds.{infimum_shift, same_infimum, supremum_shift}
+use Rattle.upp_curve.specs.Steady.{Repeats}
+use Rattle.min_plus.specs.Functions.{zero_q, UpTo, From}
+use Rattle.min_plus.specs.Running.{IsRunningSupremum, IsRunningInfimum}
+use Rattle.min_plus.proofs.Rates.{enough}
+use Rattle.upp_curve.proofs.Repeats.{repeats_times}
 use Rattle.plain_operators.specs.running.Scans.{Until, IsInfimumUntil, IsSupremumIn}
 
 pub raised : (v : Ext) (c : ℚ) → zero_q ≤ℚ c → v ≤ₑ v +ₑ Fin c

@@ -2,40 +2,40 @@
 use Rattle.std.specs.Prelude.{◌≡◌, ℕ, Bool, ◌+◌, ◌*◌, ◌≤◌, pos, List, [], ◌∷◌, Option, Some, None, ◌⊎◌}
 use Rattle.std.proofs.Common.{arith, sym, ap, ◌∙◌, subst, inl, inr}
 use native.Mathlib.Nat.{mul-le-mul_right}
-use Rattle.upp_limits.specs.rational.specs.Rational.{ℚ, ◌+ℚ◌, ◌-ℚ◌, ◌*ℚ◌, ◌≤ℚ◌, ◌<ℚ◌, neg_ℚ, int}
-use Rattle.upp_limits.specs.rational.specs.Ratio.{SumFits}
-use Rattle.upp_limits.specs.rational.specs.Grid.{Whole, Within}
-use Rattle.upp_limits.specs.rational.specs.Extended.{Ext}
-use Rattle.upp_limits.specs.rational.specs.declared.Extended.TheVariants.{Fin}
-use Rattle.upp_limits.specs.rational.proofs.Grid.{whole_weaken, whole_int, whole_add, whole_sub, whole_neg, whole_mul, within_weaken, within_add, within_sub, within_neg, within_mul, within_nonneg}
-use Rattle.upp_limits.specs.rational.proofs.Integers.{int_add, int_mul, nat_le, nat_nonneg}
-use Rattle.upp_limits.specs.rational.proofs.Laws.{le_refl, le_trans, mul_comm, mul_assoc, mul_le_mul}
-use Rattle.upp_limits.specs.rational.proofs.Linear.{with2}
-use Rattle.upp_limits.specs.rational.proofs.Sizes.{sum_on_grid}
-use Rattle.upp_limits.specs.rational.proofs.ExtendedOrder.{fin_same}
-use Rattle.upp_limits.specs.upp_curve.specs.declared.affine_segment.line.Line.{Line}
-use Rattle.upp_limits.specs.upp_curve.specs.declared.affine_segment.line.Piece.{Piece}
-use Rattle.upp_limits.specs.upp_curve.specs.affine_segment.Values.{line_at, line_value}
-use Rattle.curve_call.specs.upp_normal.specs.Bends.{LineOn, NumbersOn, SlopeTurns, BendAfter, OnlyBend}
-use Rattle.upp_limits.specs.min_plus.specs.Functions.{zero_q}
-use Rattle.upp_limits.specs.upp_curve.specs.affine_segment.Pieces.{Each, HasStart, start_after}
-use Rattle.upp_limits.specs.upp_curve.specs.Readable.{EachFits, LineFitsTo}
-use Rattle.upp_limits.specs.upp_curve.specs.affine_segment.Fits.{LineFits, LineFitsAt}
+use Rattle.rational.specs.Rational.{ℚ, ◌+ℚ◌, ◌-ℚ◌, ◌*ℚ◌, ◌≤ℚ◌, ◌<ℚ◌, neg_ℚ, int}
+use Rattle.rational.specs.Ratio.{SumFits}
+use Rattle.rational.specs.Grid.{Whole, Within}
+use Rattle.rational.specs.Extended.{Ext}
+use Rattle.rational.specs.declared.Extended.TheVariants.{Fin}
+use Rattle.rational.proofs.Grid.{whole_weaken, whole_int, whole_add, whole_sub, whole_neg, whole_mul, within_weaken, within_add, within_sub, within_neg, within_mul, within_nonneg}
+use Rattle.rational.proofs.Integers.{int_add, int_mul, nat_le, nat_nonneg}
+use Rattle.rational.proofs.Laws.{le_refl, le_trans, mul_comm, mul_assoc, mul_le_mul}
+use Rattle.rational.proofs.Linear.{with2}
+use Rattle.rational.proofs.Sizes.{sum_on_grid}
+use Rattle.rational.proofs.ExtendedOrder.{fin_same}
+use Rattle.upp_curve.specs.declared.affine_segment.line.Line.{Line}
+use Rattle.upp_curve.specs.declared.affine_segment.line.Piece.{Piece}
+use Rattle.upp_curve.specs.affine_segment.Values.{line_at, line_value}
+use Rattle.upp_normal.specs.Bends.{LineOn, NumbersOn, SlopeTurns, BendAfter, OnlyBend}
+use Rattle.min_plus.specs.Functions.{zero_q}
+use Rattle.upp_curve.specs.affine_segment.Pieces.{Each, HasStart, start_after}
+use Rattle.upp_curve.specs.Readable.{EachFits, LineFitsTo}
+use Rattle.upp_curve.specs.affine_segment.Fits.{LineFits, LineFitsAt}
 use Rattle.upp_limits.specs.Limits.{Sizes}
 use Rattle.upp_limits.specs.Sized.{grid_of, times_largest}
-use Rattle.curve_call.specs.upp_normal.specs.Operand.{AreLimited, answer_room}
-use Rattle.curve_call.specs.upp_normal.specs.Room.{top, LineInRoom, LineHasRoom, PieceHasRoom, TimeHasRoom, ValueHasRoom}
+use Rattle.upp_normal.specs.Operand.{AreLimited, answer_room}
+use Rattle.upp_normal.specs.Room.{top, LineInRoom, LineHasRoom, PieceHasRoom, TimeHasRoom, ValueHasRoom}
 use Rattle.upp_limits.proofs.NarrowSizes.{small_sum, slope_time_divides}
-use Rattle.curve_call.specs.upp_normal.proofs.NormaliseRoom.{line_fits}
-use Rattle.curve_call.specs.upp_normal.proofs.AnswerRoom.{tight, wide_narrow, answer_is_room, AnswerLine, line_in_room, answer_value_room, IsCrossing, crossing_room, room_at_start, more_largest}
+use Rattle.upp_normal.proofs.NormaliseRoom.{line_fits}
+use Rattle.upp_normal.proofs.AnswerRoom.{tight, wide_narrow, answer_is_room, AnswerLine, line_in_room, answer_value_room, IsCrossing, crossing_room, room_at_start, more_largest}
 use Rattle.plain_operators.specs.running.Scans.{start_or, flat, IsLevel, HasLine, MeetingFits, ScanFits}
 use Rattle.plain_operators.specs.running.Made.{IsMeeting, IsMade, TurnsAfter, IsScan}
 use Rattle.plain_operators.proofs.running.LevelSizes.{Apart, level_small, less_zero, meeting_crossing, all_low, not_flat, some_none}
-use Rattle.curve_call.specs.upp_normal.proofs.AnswerRoom.{many_more}
+use Rattle.upp_normal.proofs.AnswerRoom.{many_more}
 use Rattle.plain_operators.specs.running.Lowest.{SumLine, SumPiece}
 use Rattle.plain_operators.proofs.running.Makings.{LineIsMade}
-use Rattle.curve_call.specs.upp_normal.proofs.NormaliseGrids.{some_same}
-use Rattle.curve_call.specs.upp_normal.specs.Ahead.{AnswerValue}
+use Rattle.upp_normal.proofs.NormaliseGrids.{some_same}
+use Rattle.upp_normal.specs.Ahead.{AnswerValue}
 
 -- ---- values
 

@@ -3,52 +3,52 @@ use Rattle.std.specs.Prelude.{◌≡◌, ℕ, ◌*◌, ◌≤◌, pos, List, [],
 use Rattle.std.proofs.Common.{arith, sym, ap, ◌∙◌, refl, subst, inl, inr}
 use Rattle.std.specs.List.{AllByRecursion}
 use native.Mathlib.Nat.{mul-le-mul_right}
-use Rattle.upp_limits.specs.rational.specs.Rational.{ℚ, ◌+ℚ◌, ◌-ℚ◌, ◌*ℚ◌, ◌≤ℚ◌, ◌<ℚ◌, int}
-use Rattle.upp_limits.specs.rational.specs.Grid.{Whole, Within}
-use Rattle.upp_limits.specs.rational.specs.Extended.{Ext, ◌≤ₑ◌}
-use Rattle.upp_limits.specs.rational.specs.declared.Extended.TheVariants.{Fin}
-use Rattle.upp_limits.specs.rational.proofs.Grid.{whole_int, whole_sub, within_sub, within_nonneg, whole_add}
-use Rattle.upp_limits.specs.rational.proofs.Integers.{int_mul, nat_le, nat_nonneg}
-use Rattle.upp_limits.specs.rational.proofs.Laws.{antisym, le_refl, le_of_lt, le_trans, lt_le_trans, not_zero}
-use Rattle.upp_limits.specs.rational.proofs.Linear.{with2}
-use Rattle.upp_limits.specs.rational.proofs.Sizes.{quotient_on_grid}
-use Rattle.upp_limits.specs.rational.proofs.Bounds.{same_supremum}
-use Rattle.upp_limits.specs.rational.proofs.ExtendedOrder.{same_le_ext}
-use Rattle.upp_limits.specs.upp_curve.specs.declared.affine_segment.line.Line.{Line}
-use Rattle.upp_limits.specs.upp_curve.specs.declared.affine_segment.line.Piece.{Piece}
-use Rattle.upp_limits.specs.upp_curve.specs.affine_segment.Values.{line_at, line_value}
-use Rattle.upp_limits.specs.upp_curve.specs.declared.curve.Tail.{Tail}
-use Rattle.upp_limits.specs.upp_curve.specs.declared.curve.Tail.TheVariants.{Periodic, Affine, Infinite}
-use Rattle.upp_limits.specs.upp_curve.specs.affine_segment.Reading.{read}
-use Rattle.upp_limits.specs.upp_curve.specs.Curve.{SpecCurve, value_at}
-use Rattle.upp_limits.specs.min_plus.specs.Functions.{zero_q, IsFinite}
-use Rattle.upp_limits.specs.upp_curve.specs.affine_segment.Pieces.{Each}
-use Rattle.upp_limits.specs.upp_curve.specs.Normal.{IsNormal}
+use Rattle.rational.specs.Rational.{ℚ, ◌+ℚ◌, ◌-ℚ◌, ◌*ℚ◌, ◌≤ℚ◌, ◌<ℚ◌, int}
+use Rattle.rational.specs.Grid.{Whole, Within}
+use Rattle.rational.specs.Extended.{Ext, ◌≤ₑ◌}
+use Rattle.rational.specs.declared.Extended.TheVariants.{Fin}
+use Rattle.rational.proofs.Grid.{whole_int, whole_sub, within_sub, within_nonneg, whole_add}
+use Rattle.rational.proofs.Integers.{int_mul, nat_le, nat_nonneg}
+use Rattle.rational.proofs.Laws.{antisym, le_refl, le_of_lt, le_trans, lt_le_trans, not_zero}
+use Rattle.rational.proofs.Linear.{with2}
+use Rattle.rational.proofs.Sizes.{quotient_on_grid}
+use Rattle.rational.proofs.Bounds.{same_supremum}
+use Rattle.rational.proofs.ExtendedOrder.{same_le_ext}
+use Rattle.upp_curve.specs.declared.affine_segment.line.Line.{Line}
+use Rattle.upp_curve.specs.declared.affine_segment.line.Piece.{Piece}
+use Rattle.upp_curve.specs.affine_segment.Values.{line_at, line_value}
+use Rattle.upp_curve.specs.declared.curve.Tail.{Tail}
+use Rattle.upp_curve.specs.declared.curve.Tail.TheVariants.{Periodic, Affine, Infinite}
+use Rattle.upp_curve.specs.affine_segment.Reading.{read}
+use Rattle.upp_curve.specs.Curve.{SpecCurve, value_at}
+use Rattle.min_plus.specs.Functions.{zero_q, IsFinite}
+use Rattle.upp_curve.specs.affine_segment.Pieces.{Each}
+use Rattle.upp_curve.specs.Normal.{IsNormal}
 use Rattle.upp_limits.specs.Spans.{spans}
-use Rattle.upp_limits.specs.upp_curve.specs.Steady.{Repeats, steady, rise_over, IsWholePeriods}
+use Rattle.upp_curve.specs.Steady.{Repeats, steady, rise_over, IsWholePeriods}
 use Rattle.upp_limits.specs.declared.op_kind.OpKind.TheVariants.{RunSup}
 use Rattle.upp_limits.specs.Periods.{own_period}
 use Rattle.upp_limits.specs.Windows.{IsLeast, Meets}
 use Rattle.upp_limits.specs.Limits.{Sizes, own_end}
 use Rattle.upp_limits.specs.Sized.{grid_of, times_largest, AreSizes, SpanStands, ValueStands, LineStands}
-use Rattle.curve_call.specs.upp_normal.specs.Operand.{AreLimited, OperandLine, OperandLineAt, OperandPieces}
-use Rattle.curve_call.specs.upp_normal.specs.Room.{top}
+use Rattle.upp_normal.specs.Operand.{AreLimited, OperandLine, OperandLineAt, OperandPieces}
+use Rattle.upp_normal.specs.Room.{top}
 use Rattle.upp_limits.proofs.CurveStands.{curve_stands, starts_below_own_end}
 use Rattle.upp_limits.proofs.NarrowSizes.{grid_pos, line_parts}
 use Rattle.upp_limits.proofs.PieceLists.{starts_nonneg}
-use Rattle.upp_limits.specs.upp_curve.proofs.Repeats.{repeated_first}
-use Rattle.upp_limits.specs.upp_curve.proofs.RisingCurves.{GoesOn, finite_pieces_by_tail, infinite_is_not_finite}
-use Rattle.upp_limits.specs.upp_curve.proofs.Steady.{steady_rule}
-use Rattle.curve_call.specs.upp_normal.proofs.AnswerRoom.{tight, operand_line_fits, operand_line_value, values_fit}
+use Rattle.upp_curve.proofs.Repeats.{repeated_first}
+use Rattle.upp_curve.proofs.RisingCurves.{GoesOn, finite_pieces_by_tail, infinite_is_not_finite}
+use Rattle.upp_curve.proofs.Steady.{steady_rule}
+use Rattle.upp_normal.proofs.AnswerRoom.{tight, operand_line_fits, operand_line_value, values_fit}
 use Rattle.curve_call.proofs.CurveRises.{IsRise, rise_is, own_whole}
 use Rattle.curve_call.proofs.OwnPeriods.{limited_less}
 use Rattle.plain_operators.specs.running.Scans.{IsWindow, IsSupremumIn, Until}
 use Rattle.plain_operators.specs.running.Between.{FitsAtBoth, IsLevelBetween}
 use Rattle.plain_operators.specs.running.Periods.{CoverFits, IsFirstPeriod, IsCovering, IsSupremumCall, IsCoveredAfter}
 use Rattle.plain_operators.proofs.running.LevelSizes.{EachOperand, level_value, line_operand, scan_fits}
-use Rattle.curve_call.specs.upp_normal.proofs.AnswerRoom.{many_more}
+use Rattle.upp_normal.proofs.AnswerRoom.{many_more}
 use Rattle.plain_operators.proofs.running.Covers.{no_fall, least_by_cover, covered_by_cover, least_flat, least_from_zero}
-use Rattle.curve_call.specs.upp_normal.specs.Ahead.{IsGridValue}
+use Rattle.upp_normal.specs.Ahead.{IsGridValue}
 
 -- ---- the tail of a finite curve
 finite_goes_on : (ps : List Piece) (tail : Tail) → IsNormal record { pieces = ps; tail = tail } → IsFinite (value_at record { pieces = ps; tail = tail }) → GoesOn tail

@@ -1,16 +1,16 @@
 -- The scan for the supremum: what holds after each piece.
 use Rattle.std.specs.Prelude.{◌≡◌, ℕ, true, ◌+◌, ◌*◌, ◌≤◌, pos, List, [], ◌∷◌, ◌++◌, length, drop, Option, Some, None}
 use Rattle.std.proofs.Common.{arith, length-append, drop_of_length-le, sym, ap, ap₂, ◌∙◌, refl, subst}
-use Rattle.upp_limits.specs.rational.specs.Rational.{ℚ, ◌<ℚ◌, int}
-use Rattle.upp_limits.specs.rational.specs.MinMax.{max_q}
-use Rattle.upp_limits.specs.rational.specs.Extended.{Ext}
-use Rattle.upp_limits.specs.rational.specs.declared.Extended.TheVariants.{Fin}
-use Rattle.upp_limits.specs.rational.proofs.Laws.{lt_trans}
-use Rattle.upp_limits.specs.upp_curve.specs.declared.affine_segment.line.Line.{Line}
-use Rattle.upp_limits.specs.upp_curve.specs.declared.affine_segment.line.Piece.{Piece}
-use Rattle.upp_limits.specs.upp_curve.specs.affine_segment.Reading.{read}
-use Rattle.upp_limits.specs.upp_curve.specs.affine_segment.Pieces.{Each, StartsAtZero}
-use Rattle.upp_limits.specs.min_plus.specs.Running.{IsRunningSupremum}
+use Rattle.rational.specs.Rational.{ℚ, ◌<ℚ◌, int}
+use Rattle.rational.specs.MinMax.{max_q}
+use Rattle.rational.specs.Extended.{Ext}
+use Rattle.rational.specs.declared.Extended.TheVariants.{Fin}
+use Rattle.rational.proofs.Laws.{lt_trans}
+use Rattle.upp_curve.specs.declared.affine_segment.line.Line.{Line}
+use Rattle.upp_curve.specs.declared.affine_segment.line.Piece.{Piece}
+use Rattle.upp_curve.specs.affine_segment.Reading.{read}
+use Rattle.upp_curve.specs.affine_segment.Pieces.{Each, StartsAtZero}
+use Rattle.min_plus.specs.Running.{IsRunningSupremum}
 use Rattle.curve_call.proofs.Surgery.{one_more}
 use Rattle.plain_operators.specs.declared.running.stretch.Stretch.{Stretch}
 use Rattle.plain_operators.specs.declared.running.bend.Bend.{Bend}
@@ -20,7 +20,7 @@ use Rattle.plain_operators.specs.running.Made.{IsMadeOf, IsMade, TurnsAfter, IsS
 use Rattle.plain_operators.proofs.running.Suprema.{IsEarly, IsUpTo, early_start, upto_value, upto_line, early_line}
 use Rattle.plain_operators.proofs.running.Building.{Built, built_none, built_more, built_whole}
 use Rattle.plain_operators.proofs.running.Makings.{greater_level, bent_made, bent_turns, turns_join}
-use Rattle.upp_limits.specs.upp_curve.proofs.affine_segment.PieceOrder.{each_append}
+use Rattle.upp_curve.proofs.affine_segment.PieceOrder.{each_append}
 
 -- the pieces before the i-th are scanned: `level` is the supremum before its start
 pub record SupremumLoop (ps : List Piece) (end : ℚ) (i : ℕ) (level : ℚ) (out : List Piece) : Type 0 where

@@ -1,18 +1,18 @@
 -- The waits of the tests: of a flow of burst 6000 in a service of rate 100 and latency 10.
 use Rattle.std.specs.Prelude.{◌≡◌, pos}
 use Rattle.std.proofs.Common.{arith, sym, ap, ◌∙◌, subst, inl}
-use Rattle.upp_limits.specs.rational.specs.Rational.{ℚ, ◌+ℚ◌, ◌-ℚ◌, ◌*ℚ◌, ◌/ℚ◌, ◌≤ℚ◌, ◌<ℚ◌, int}
-use Rattle.upp_limits.specs.rational.specs.MinMax.{max_q}
-use Rattle.upp_limits.specs.rational.specs.Extended.{Ext, ◌≤ₑ◌}
-use Rattle.upp_limits.specs.rational.specs.declared.Extended.TheVariants.{Fin, Inf}
-use Rattle.upp_limits.specs.rational.proofs.Integers.{int_add, int_mul, nat_le, nat_lt, nat_nonneg}
-use Rattle.upp_limits.specs.rational.proofs.Laws.{mul_nonneg, not_zero}
-use Rattle.upp_limits.specs.rational.proofs.MinMax.{max_q_ge_left}
-use Rattle.upp_limits.specs.rational.proofs.Quotients.{div_unique}
-use Rattle.upp_limits.specs.min_plus.specs.Deviations.{IsHorizontalDeviation}
-use Rattle.upp_limits.specs.min_plus.specs.Functions.{zero_q, IsFinite, IsNonnegative}
-use Rattle.upp_limits.specs.min_plus.specs.Formulas.{bucket_value, rate_latency_value}
-use Rattle.upp_limits.specs.min_plus.proofs.BucketDelay.{horizontal_finite, horizontal_infinite}
+use Rattle.rational.specs.Rational.{ℚ, ◌+ℚ◌, ◌-ℚ◌, ◌*ℚ◌, ◌/ℚ◌, ◌≤ℚ◌, ◌<ℚ◌, int}
+use Rattle.rational.specs.MinMax.{max_q}
+use Rattle.rational.specs.Extended.{Ext, ◌≤ₑ◌}
+use Rattle.rational.specs.declared.Extended.TheVariants.{Fin, Inf}
+use Rattle.rational.proofs.Integers.{int_add, int_mul, nat_le, nat_lt, nat_nonneg}
+use Rattle.rational.proofs.Laws.{mul_nonneg, not_zero}
+use Rattle.rational.proofs.MinMax.{max_q_ge_left}
+use Rattle.rational.proofs.Quotients.{div_unique}
+use Rattle.min_plus.specs.Deviations.{IsHorizontalDeviation}
+use Rattle.min_plus.specs.Functions.{zero_q, IsFinite, IsNonnegative}
+use Rattle.min_plus.specs.Formulas.{bucket_value, rate_latency_value}
+use Rattle.min_plus.proofs.BucketDelay.{horizontal_finite, horizontal_infinite}
 
 -- ---- the service and the flow
 abbrev pub IsTestService : (ℚ → Ext) → Type 0

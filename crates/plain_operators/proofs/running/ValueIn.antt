@@ -1,15 +1,15 @@
 -- The value of pieces at a time, by the piece that is found there.
 use Rattle.std.specs.Prelude.{◌≡◌, List, [], ◌∷◌}
 use Rattle.std.proofs.Common.{sym, ◌∙◌, refl, subst}
-use Rattle.upp_limits.specs.rational.specs.Rational.{ℚ}
-use Rattle.upp_limits.specs.rational.specs.Extended.{Ext}
-use Rattle.upp_limits.specs.upp_curve.specs.declared.affine_segment.line.Piece.{Piece}
-use Rattle.upp_limits.specs.upp_curve.specs.affine_segment.Pieces.{Each, StartsAtZero}
-use Rattle.upp_limits.specs.upp_curve.specs.affine_segment.Fits.{LineFitsAt}
-use Rattle.upp_limits.specs.upp_curve.specs.affine_segment.Reading.{read, piece_in, piece_value}
-use Rattle.upp_limits.specs.upp_curve.specs.Shapes.{IsNumber}
-use Rattle.upp_limits.specs.upp_curve.proofs.Finite.{each_in}
-use Rattle.upp_limits.specs.upp_curve.proofs.affine_segment.PieceIn.{read_found}
+use Rattle.rational.specs.Rational.{ℚ}
+use Rattle.rational.specs.Extended.{Ext}
+use Rattle.upp_curve.specs.declared.affine_segment.line.Piece.{Piece}
+use Rattle.upp_curve.specs.affine_segment.Pieces.{Each, StartsAtZero}
+use Rattle.upp_curve.specs.affine_segment.Fits.{LineFitsAt}
+use Rattle.upp_curve.specs.affine_segment.Reading.{read, piece_in, piece_value}
+use Rattle.upp_curve.specs.Shapes.{IsNumber}
+use Rattle.upp_curve.proofs.Finite.{each_in}
+use Rattle.upp_curve.proofs.affine_segment.PieceIn.{read_found}
 
 abbrev IsFound : List Piece → ℚ → Piece → Type 0
 IsFound pieces t found = (p : Piece) (ps : List Piece) → pieces ≡ p ∷ ps → found ≡ piece_in p ps t

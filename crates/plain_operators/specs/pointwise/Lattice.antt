@@ -2,14 +2,14 @@
 -- two values, and by how much it rises over a common period. (Bouillard, Boyer and Le Corronc: from some time on the
 -- slower of two curves is below the faster.)
 use Rattle.std.specs.Prelude.{◌≡◌, Bool, true, false, pos}
-use Rattle.upp_limits.specs.rational.specs.Rational.{ℚ, ◌-ℚ◌, int}
-use Rattle.upp_limits.specs.rational.specs.Extended.{Ext, ◌<ₑ◌, min_ext, max_ext}
+use Rattle.rational.specs.Rational.{ℚ, ◌-ℚ◌, int}
+use Rattle.rational.specs.Extended.{Ext, ◌<ₑ◌, min_ext, max_ext}
 use Rattle.upp_limits.specs.declared.op_kind.OpKind.{OpKind}
 use Rattle.upp_limits.specs.declared.op_kind.OpKind.TheVariants.{Min, Max, PosDiff}
-use Rattle.upp_limits.specs.upp_curve.specs.Curve.{SpecCurve}
-use Rattle.upp_limits.specs.min_plus.specs.Functions.{IsFinite}
-use Rattle.upp_limits.specs.min_plus.specs.Pointwise.{excess}
-use Rattle.upp_limits.specs.upp_curve.specs.Steady.{rate}
+use Rattle.upp_curve.specs.Curve.{SpecCurve}
+use Rattle.min_plus.specs.Functions.{IsFinite}
+use Rattle.min_plus.specs.Pointwise.{excess}
+use Rattle.upp_curve.specs.Steady.{rate}
 use Rattle.plain_operators.specs.declared.pointwise.lattice.Lattice.{Lattice}
 use Rattle.plain_operators.specs.declared.pointwise.lattice.Lattice.TheVariants.{Lower, Upper, Excess}
 

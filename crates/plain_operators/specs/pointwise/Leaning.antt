@@ -1,13 +1,13 @@
 -- Lines that a function lies under, or over, over some times. (Le Boudec and Thiran: a curve that repeats lies between two
 -- lines of its rate.)
 use Rattle.std.specs.Prelude.{ℕ}
-use Rattle.upp_limits.specs.rational.specs.Rational.{ℚ, ◌+ℚ◌, ◌*ℚ◌, ◌≤ℚ◌}
-use Rattle.upp_limits.specs.rational.specs.Grid.{Whole}
-use Rattle.upp_limits.specs.rational.specs.Extended.{Ext, ◌≤ₑ◌}
-use Rattle.upp_limits.specs.rational.specs.declared.Extended.TheVariants.{Fin}
-use Rattle.upp_limits.specs.upp_curve.specs.Curve.{SpecCurve, value_at}
+use Rattle.rational.specs.Rational.{ℚ, ◌+ℚ◌, ◌*ℚ◌, ◌≤ℚ◌}
+use Rattle.rational.specs.Grid.{Whole}
+use Rattle.rational.specs.Extended.{Ext, ◌≤ₑ◌}
+use Rattle.rational.specs.declared.Extended.TheVariants.{Fin}
+use Rattle.upp_curve.specs.Curve.{SpecCurve, value_at}
 use Rattle.upp_limits.specs.Limits.{Sizes}
-use Rattle.curve_call.specs.upp_normal.specs.Ahead.{TimesStand, HasWindow, IsTimeIn}
+use Rattle.upp_normal.specs.Ahead.{TimesStand, HasWindow, IsTimeIn}
 use Rattle.curve_call.specs.Gaps.{InWindow}
 use Rattle.plain_operators.specs.declared.pointwise.leaning.Reached.{Reached}
 

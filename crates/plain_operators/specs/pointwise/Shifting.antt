@@ -1,15 +1,15 @@
 -- Pieces of a window read from a time on, and moved left by it. Own choice.
 use Rattle.std.specs.Prelude.{List, ◌∷◌, map, Option, Some, None}
-use Rattle.upp_limits.specs.rational.specs.Rational.{ℚ, ◌-ℚ◌, ◌≤ℚ◌, neg_ℚ}
-use Rattle.upp_limits.specs.rational.specs.Ratio.{SumFits}
-use Rattle.upp_limits.specs.rational.specs.Extended.{Ext}
-use Rattle.upp_limits.specs.rational.specs.declared.Extended.TheVariants.{Fin, Inf}
-use Rattle.upp_limits.specs.upp_curve.specs.declared.affine_segment.line.Line.{Line}
-use Rattle.upp_limits.specs.upp_curve.specs.declared.affine_segment.line.Piece.{Piece}
-use Rattle.upp_limits.specs.upp_curve.specs.affine_segment.Values.{line_at}
-use Rattle.upp_limits.specs.min_plus.specs.Functions.{zero_q}
-use Rattle.upp_limits.specs.upp_curve.specs.affine_segment.Fits.{LineFitsAt}
-use Rattle.curve_call.specs.upp_normal.specs.Normalising.{cut_at, past}
+use Rattle.rational.specs.Rational.{ℚ, ◌-ℚ◌, ◌≤ℚ◌, neg_ℚ}
+use Rattle.rational.specs.Ratio.{SumFits}
+use Rattle.rational.specs.Extended.{Ext}
+use Rattle.rational.specs.declared.Extended.TheVariants.{Fin, Inf}
+use Rattle.upp_curve.specs.declared.affine_segment.line.Line.{Line}
+use Rattle.upp_curve.specs.declared.affine_segment.line.Piece.{Piece}
+use Rattle.upp_curve.specs.affine_segment.Values.{line_at}
+use Rattle.min_plus.specs.Functions.{zero_q}
+use Rattle.upp_curve.specs.affine_segment.Fits.{LineFitsAt}
+use Rattle.upp_normal.specs.Normalising.{cut_at, past}
 
 -- a line moved left by x
 abbrev pub left_line : ℚ → Option Line → Option Line

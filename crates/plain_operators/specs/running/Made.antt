@@ -1,15 +1,15 @@
 -- What the pieces of a scan are made of: levels, lines of the scanned pieces, and the times at which the two meet.
 -- Own choice.
 use Rattle.std.specs.Prelude.{◌≡◌, ◌*◌, ◌≤◌, Bool, true, false, List, [], ◌∷◌, length, Option, Some, None, IfSome, ◌⊎◌, pos}
-use Rattle.upp_limits.specs.rational.specs.Rational.{ℚ, ◌≤ℚ◌, ◌<ℚ◌, int}
-use Rattle.upp_limits.specs.rational.specs.declared.Extended.TheVariants.{Fin}
-use Rattle.upp_limits.specs.upp_curve.specs.declared.affine_segment.line.Line.{Line}
-use Rattle.upp_limits.specs.upp_curve.specs.declared.affine_segment.line.Piece.{Piece}
-use Rattle.upp_limits.specs.upp_curve.specs.affine_segment.Values.{line_at}
-use Rattle.curve_call.specs.upp_normal.specs.Bends.{SlopeTurns}
-use Rattle.upp_limits.specs.upp_curve.specs.affine_segment.Reading.{read}
-use Rattle.upp_limits.specs.upp_curve.specs.affine_segment.Pieces.{Each, HasStart, StartsAtZero}
-use Rattle.upp_limits.specs.min_plus.specs.Running.{IsRunningSupremum}
+use Rattle.rational.specs.Rational.{ℚ, ◌≤ℚ◌, ◌<ℚ◌, int}
+use Rattle.rational.specs.declared.Extended.TheVariants.{Fin}
+use Rattle.upp_curve.specs.declared.affine_segment.line.Line.{Line}
+use Rattle.upp_curve.specs.declared.affine_segment.line.Piece.{Piece}
+use Rattle.upp_curve.specs.affine_segment.Values.{line_at}
+use Rattle.upp_normal.specs.Bends.{SlopeTurns}
+use Rattle.upp_curve.specs.affine_segment.Reading.{read}
+use Rattle.upp_curve.specs.affine_segment.Pieces.{Each, HasStart, StartsAtZero}
+use Rattle.min_plus.specs.Running.{IsRunningSupremum}
 use Rattle.plain_operators.specs.declared.running.stretch.Stretch.{Stretch}
 use Rattle.plain_operators.specs.declared.running.bend.Bend.{Bend}
 use Rattle.plain_operators.specs.running.Scans.{flat, IsLevel, HasLine, IsInfimumUntil}

@@ -1,14 +1,14 @@
 -- The running bounds of a curve as curves, and the number of periods that the supremum needs. Own choice.
 use Rattle.std.specs.Prelude.{◌≡◌, ℕ, List, ◌∷◌, ◌++◌}
-use Rattle.upp_limits.specs.rational.specs.Rational.{ℚ, ◌≤ℚ◌, ◌<ℚ◌}
-use Rattle.upp_limits.specs.upp_curve.specs.declared.affine_segment.line.Piece.{Piece}
+use Rattle.rational.specs.Rational.{ℚ, ◌≤ℚ◌, ◌<ℚ◌}
+use Rattle.upp_curve.specs.declared.affine_segment.line.Piece.{Piece}
 use Rattle.upp_limits.specs.declared.op_kind.OpKind.TheVariants.{RunSup}
-use Rattle.upp_limits.specs.upp_curve.specs.Curve.{SpecCurve, value_at}
-use Rattle.upp_limits.specs.min_plus.specs.Functions.{zero_q}
-use Rattle.upp_limits.specs.upp_curve.specs.affine_segment.Pieces.{Each}
+use Rattle.upp_curve.specs.Curve.{SpecCurve, value_at}
+use Rattle.min_plus.specs.Functions.{zero_q}
+use Rattle.upp_curve.specs.affine_segment.Pieces.{Each}
 use Rattle.upp_limits.specs.Periods.{own_period}
-use Rattle.upp_limits.specs.min_plus.specs.Running.{IsRunningSupremum, IsRunningInfimum}
-use Rattle.upp_limits.specs.upp_curve.specs.Steady.{steady, rise_over}
+use Rattle.min_plus.specs.Running.{IsRunningSupremum, IsRunningInfimum}
+use Rattle.upp_curve.specs.Steady.{steady, rise_over}
 use Rattle.upp_limits.specs.Windows.{IsLeast, Meets}
 use Rattle.plain_operators.specs.running.Periods.{IsCoveredAfter}
 

@@ -1,20 +1,20 @@
 -- Finite pieces scanned one by one, up to an end: the stretches between their starts, the levels that are compared on
 -- the way, and the bounds that come out. Own choice.
 use Rattle.std.specs.Prelude.{◌≡◌, ℕ, ◌+◌, List, [], ◌∷◌, drop, Some, ◌⊎◌, pos}
-use Rattle.upp_limits.specs.rational.specs.Rational.{ℚ, ◌≤ℚ◌, ◌<ℚ◌, int}
-use Rattle.upp_limits.specs.rational.specs.Extended.{Ext}
-use Rattle.upp_limits.specs.rational.specs.Bounds.{IsInfimum, IsSupremum}
-use Rattle.upp_limits.specs.rational.specs.declared.Extended.TheVariants.{Fin}
-use Rattle.upp_limits.specs.upp_curve.specs.declared.affine_segment.line.Line.{Line}
-use Rattle.upp_limits.specs.upp_curve.specs.declared.affine_segment.line.Piece.{Piece}
-use Rattle.upp_limits.specs.fraction128.specs.declared.fault.Wide.{Wide}
-use Rattle.upp_limits.specs.upp_curve.specs.affine_segment.Values.{line_at, line_value}
-use Rattle.upp_limits.specs.upp_curve.specs.affine_segment.Steps.{IsWideCross}
-use Rattle.upp_limits.specs.upp_curve.specs.affine_segment.Reading.{read}
-use Rattle.upp_limits.specs.upp_curve.specs.affine_segment.Pieces.{Each, HasStart, StartsAtZero}
-use Rattle.upp_limits.specs.upp_curve.specs.Readable.{EachFits}
-use Rattle.upp_limits.specs.upp_curve.specs.affine_segment.Fits.{LineFits}
-use Rattle.upp_limits.specs.upp_curve.specs.Shapes.{IsFinitePiece}
+use Rattle.rational.specs.Rational.{ℚ, ◌≤ℚ◌, ◌<ℚ◌, int}
+use Rattle.rational.specs.Extended.{Ext}
+use Rattle.rational.specs.Bounds.{IsInfimum, IsSupremum}
+use Rattle.rational.specs.declared.Extended.TheVariants.{Fin}
+use Rattle.upp_curve.specs.declared.affine_segment.line.Line.{Line}
+use Rattle.upp_curve.specs.declared.affine_segment.line.Piece.{Piece}
+use Rattle.fraction128.specs.declared.fault.Wide.{Wide}
+use Rattle.upp_curve.specs.affine_segment.Values.{line_at, line_value}
+use Rattle.upp_curve.specs.affine_segment.Steps.{IsWideCross}
+use Rattle.upp_curve.specs.affine_segment.Reading.{read}
+use Rattle.upp_curve.specs.affine_segment.Pieces.{Each, HasStart, StartsAtZero}
+use Rattle.upp_curve.specs.Readable.{EachFits}
+use Rattle.upp_curve.specs.affine_segment.Fits.{LineFits}
+use Rattle.upp_curve.specs.Shapes.{IsFinitePiece}
 use Rattle.plain_operators.specs.declared.running.stretch.Stretch.{Stretch}
 
 -- where the first of some pieces starts, and `end` where there is none

@@ -1,10 +1,10 @@
 //! The minimum, the maximum and the positive difference of two curves.
 
 ghost use Rattle.std.specs.Prelude.{◌≡◌, ◌+◌, pos, IfOk};
-ghost use Rattle.upp_limits.specs.rational.specs.Rational.{ℚ, int, ◌≤ℚ◌};
-ghost use Rattle.upp_limits.specs.upp_curve.specs.Curve.{value_at};
-ghost use Rattle.upp_limits.specs.min_plus.specs.Functions.{IsFinite};
-ghost use Rattle.upp_limits.specs.min_plus.specs.Pointwise.{IsMinimum, IsMaximum, IsPositiveDifference};
+ghost use Rattle.rational.specs.Rational.{ℚ, int, ◌≤ℚ◌};
+ghost use Rattle.upp_curve.specs.Curve.{value_at};
+ghost use Rattle.min_plus.specs.Functions.{IsFinite};
+ghost use Rattle.min_plus.specs.Pointwise.{IsMinimum, IsMaximum, IsPositiveDifference};
 ghost use Rattle.upp_limits.specs.Outcome.{KeepsLimits};
 ghost use Rattle.upp_limits.specs.declared.op_kind.OpKind.TheVariants.{Min, Max, PosDiff};
 
@@ -13,7 +13,7 @@ use curve_call::Answered;
 use outcomes::Steps;
 use std::alloc::Global;
 use std::sync::ledger::Ledger;
-use upp_limits::upp_curve::Curve;
+use upp_curve::Curve;
 
 /// The lesser of two curves at each time from 0 on (Le Boudec and Thiran, chapter 3). One step is counted. Refused
 /// with TooWide or TooMany exactly where the call's gauge or tally is over that limit, or no number of periods orders

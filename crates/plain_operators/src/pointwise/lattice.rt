@@ -1,13 +1,13 @@
 //! What is made of two curves at each time: the lower, the upper, and what the first has above the second.
 
 ghost use Rattle.std.specs.Prelude.{ℕ, ◌≡◌, ◌+◌, ◌↔◌, pos, true, IsTrue, IfOk, IfErr};
-ghost use Rattle.upp_limits.specs.rational.specs.Rational.{ℚ, int, ◌-ℚ◌, ◌≤ℚ◌, ◌<ℚ◌, neg_ℚ};
-ghost use Rattle.upp_limits.specs.rational.specs.Ratio.{SumFits};
-ghost use Rattle.upp_limits.specs.rational.specs.Extended.{◌<ₑ◌};
-ghost use Rattle.upp_limits.specs.upp_curve.specs.Curve.{value_at};
-ghost use Rattle.upp_limits.specs.upp_curve.specs.Steady.{rate, rise_over};
-ghost use Rattle.upp_limits.specs.upp_curve.specs.Unrolled.{unroll};
-ghost use Rattle.upp_limits.specs.upp_curve.specs.Curves.{IsCurve};
+ghost use Rattle.rational.specs.Rational.{ℚ, int, ◌-ℚ◌, ◌≤ℚ◌, ◌<ℚ◌, neg_ℚ};
+ghost use Rattle.rational.specs.Ratio.{SumFits};
+ghost use Rattle.rational.specs.Extended.{◌<ₑ◌};
+ghost use Rattle.upp_curve.specs.Curve.{value_at};
+ghost use Rattle.upp_curve.specs.Steady.{rate, rise_over};
+ghost use Rattle.upp_curve.specs.Unrolled.{unroll};
+ghost use Rattle.upp_curve.specs.Curves.{IsCurve};
 ghost use Rattle.upp_limits.specs.Outcome.{KeepsLimits, IsCauseOf, IsWithin};
 ghost use Rattle.curve_call.specs.Operands.{HaveSizes, IsMadeOf};
 ghost use Rattle.curve_call.specs.FirstWindows.{IsFirstWindow};
@@ -16,18 +16,18 @@ ghost use Rattle.plain_operators.specs.pointwise.Lattice.{kind_of, made_of, rise
 ghost use Rattle.plain_operators.specs.pointwise.LatticeCall.{IsLatticeFrame};
 
 use crate::pointwise::leaning::{bounds_by_lines, is_slower};
-use curve_call::upp_normal::unrolled;
 use curve_call::{
     CallWindow, Frame, first_window, framed_answer, least_periods, period_bounds, refuse_between,
     rise_over, window_excess, window_max, window_min, within,
 };
+use fraction128::{Frac, difference};
 use outcomes::Steps;
 use std::alloc::{AllocError, Global};
 use std::sync::ledger::Ledger;
-use upp_limits::fraction128::{Frac, difference};
-use upp_limits::upp_curve::Curve;
-use upp_limits::upp_curve::affine_segment::Piece;
+use upp_curve::Curve;
+use upp_curve::affine_segment::Piece;
 use upp_limits::{OpFault, OpKind, is_few};
+use upp_normal::unrolled;
 
 /// What is made of two curves.
 #[derive(Debug, Clone, Copy)]

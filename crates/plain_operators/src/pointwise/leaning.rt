@@ -1,12 +1,12 @@
 //! Lines of a curve's own rate that it lies under, or over, and how many periods are enough by them. No memory is taken.
 
 ghost use Rattle.std.specs.Prelude.{◌≡◌, ◌↔◌, pos, IfSome, IsTrue};
-ghost use Rattle.upp_limits.specs.rational.specs.Rational.{int, ◌+ℚ◌, ◌-ℚ◌, ◌*ℚ◌, ◌≤ℚ◌, ◌<ℚ◌};
-ghost use Rattle.upp_limits.specs.rational.specs.Extended.{◌≤ₑ◌, ◌<ₑ◌};
-ghost use Rattle.upp_limits.specs.rational.specs.declared.Extended.TheVariants.{Fin};
-ghost use Rattle.upp_limits.specs.upp_curve.specs.Curve.{value_at};
-ghost use Rattle.upp_limits.specs.upp_curve.specs.Steady.{rate};
-ghost use Rattle.upp_limits.specs.upp_curve.specs.affine_segment.Values.{line_value};
+ghost use Rattle.rational.specs.Rational.{int, ◌+ℚ◌, ◌-ℚ◌, ◌*ℚ◌, ◌≤ℚ◌, ◌<ℚ◌};
+ghost use Rattle.rational.specs.Extended.{◌≤ₑ◌, ◌<ₑ◌};
+ghost use Rattle.rational.specs.declared.Extended.TheVariants.{Fin};
+ghost use Rattle.upp_curve.specs.Curve.{value_at};
+ghost use Rattle.upp_curve.specs.Steady.{rate};
+ghost use Rattle.upp_curve.specs.affine_segment.Values.{line_value};
 ghost use Rattle.upp_limits.specs.Limits.{Sizes};
 ghost use Rattle.upp_limits.specs.Periods.{periods_after};
 ghost use Rattle.upp_limits.specs.Windows.{IsBelowFor, IsSlowerBelow};
@@ -14,12 +14,12 @@ ghost use Rattle.curve_call.specs.Bounds.{AreBounds, own_or};
 ghost use Rattle.curve_call.specs.Compared.{AreCompared};
 ghost use Rattle.plain_operators.specs.pointwise.Leaning.{IsUnder, IsOver, IsSpan, IsUnderUntil, IsOverUntil};
 
-use curve_call::upp_normal::stretch_at;
 use curve_call::{Bounds, Side, earlier, period_or};
-use upp_limits::fraction128::{Ext, Frac, greater, is_less, lesser};
-use upp_limits::rational::Extended;
-use upp_limits::upp_curve::Curve;
-use upp_limits::upp_curve::affine_segment::{Line, value};
+use fraction128::{Ext, Frac, greater, is_less, lesser};
+use rational::Extended;
+use upp_curve::Curve;
+use upp_curve::affine_segment::{Line, value};
+use upp_normal::stretch_at;
 
 /// So many steps are looked at; of a curve that has more, nothing is told.
 const MOST_STEPS: u32 = 262144;

@@ -1,15 +1,15 @@
 //! What a curve has above a level.
 
 ghost use Rattle.std.specs.Prelude.{◌≡◌, ◌+◌, ◌↔◌, pos, IsTrue, IfOk, IfErr};
-ghost use Rattle.upp_limits.specs.rational.specs.Rational.{ℚ, int, ◌≤ℚ◌};
-ghost use Rattle.upp_limits.specs.rational.specs.declared.Extended.TheVariants.{Fin};
-ghost use Rattle.upp_limits.specs.rational.specs.Extended.{◌<ₑ◌};
-ghost use Rattle.upp_limits.specs.upp_curve.specs.Curve.{value_at};
-ghost use Rattle.upp_limits.specs.min_plus.specs.Functions.{IsFinite};
-ghost use Rattle.upp_limits.specs.upp_curve.specs.Steady.{rate, rise_over};
-ghost use Rattle.upp_limits.specs.upp_curve.specs.Unrolled.{unroll};
+ghost use Rattle.rational.specs.Rational.{ℚ, int, ◌≤ℚ◌};
+ghost use Rattle.rational.specs.declared.Extended.TheVariants.{Fin};
+ghost use Rattle.rational.specs.Extended.{◌<ₑ◌};
+ghost use Rattle.upp_curve.specs.Curve.{value_at};
+ghost use Rattle.min_plus.specs.Functions.{IsFinite};
+ghost use Rattle.upp_curve.specs.Steady.{rate, rise_over};
+ghost use Rattle.upp_curve.specs.Unrolled.{unroll};
 ghost use Rattle.curve_call.specs.Operands.{IsMadeOf};
-ghost use Rattle.upp_limits.specs.min_plus.specs.Pointwise.{IsPositiveMinus};
+ghost use Rattle.min_plus.specs.Pointwise.{IsPositiveMinus};
 ghost use Rattle.upp_limits.specs.Outcome.{KeepsLimits, IsCauseOf, IsWithin};
 ghost use Rattle.upp_limits.specs.declared.op_kind.OpKind.TheVariants.{PosMinus};
 ghost use Rattle.curve_call.specs.Rises.{CurveRiseFits};
@@ -18,19 +18,19 @@ ghost use Rattle.plain_operators.specs.declared.pointwise.lattice.Lattice.TheVar
 ghost use Rattle.plain_operators.specs.pointwise.Lattice.{RisesBy, made_of, rises_of};
 ghost use Rattle.plain_operators.specs.pointwise.LatticeCall.{IsLatticeFrame};
 
-use curve_call::upp_normal::unrolled;
 use curve_call::{
     Frame, Side, first_window, framed_answer, is_slower, rise_over, side_periods, window_excess,
     within,
 };
+use fraction128::{Frac, difference};
 use outcomes::Steps;
+use rational::Extended;
 use std::alloc::{AllocError, Global};
 use std::sync::ledger::Ledger;
-use upp_limits::fraction128::{Frac, difference};
-use upp_limits::rational::Extended;
-use upp_limits::upp_curve::Curve;
-use upp_limits::upp_curve::affine_segment::{Line, Piece};
+use upp_curve::Curve;
+use upp_curve::affine_segment::{Line, Piece};
 use upp_limits::{OpFault, OpKind};
+use upp_normal::unrolled;
 
 // The piece of a level.
 fn level_pieces(alloc: Global, l: Frac) -> Result<Vec<Piece>, AllocError>

@@ -1,24 +1,24 @@
 //! A curve times a number.
 
 ghost use Rattle.std.specs.Prelude.{◌≡◌, ◌+◌, pos, map, IfOk};
-ghost use Rattle.upp_limits.specs.rational.specs.Rational.{ℚ, int, ◌≤ℚ◌};
-ghost use Rattle.upp_limits.specs.upp_curve.specs.Curve.{value_at};
-ghost use Rattle.upp_limits.specs.upp_curve.specs.affine_segment.Pieces.{Each};
-ghost use Rattle.upp_limits.specs.min_plus.specs.Pointwise.{IsScaled};
+ghost use Rattle.rational.specs.Rational.{ℚ, int, ◌≤ℚ◌};
+ghost use Rattle.upp_curve.specs.Curve.{value_at};
+ghost use Rattle.upp_curve.specs.affine_segment.Pieces.{Each};
+ghost use Rattle.min_plus.specs.Pointwise.{IsScaled};
 ghost use Rattle.upp_limits.specs.Gauges.{scaled_piece, scaled_tail};
 ghost use Rattle.upp_limits.specs.ClosedOperands.{PieceScales, TailScales};
 ghost use Rattle.upp_limits.specs.Outcome.{KeepsLimits};
 ghost use Rattle.curve_call.specs.Frames.{IsFrame};
 
-use curve_call::upp_normal::{RawCurve, normalise_on};
 use curve_call::{Frame, within};
+use fraction128::Frac;
 use outcomes::Steps;
 use std::alloc::{AllocError, Global};
 use std::sync::ledger::Ledger;
-use upp_limits::fraction128::Frac;
-use upp_limits::upp_curve::affine_segment::Piece;
-use upp_limits::upp_curve::{Curve, Tail};
+use upp_curve::affine_segment::Piece;
+use upp_curve::{Curve, Tail};
 use upp_limits::{OpFault, OpKind, scaled_piece, scaled_tail};
+use upp_normal::{RawCurve, normalise_on};
 
 // A piece times a number, where the products fit.
 fn fitting_piece(piece: &Piece, factor: Frac) -> Piece

@@ -1,30 +1,30 @@
 //! A curve as it is some time later.
 
 ghost use Rattle.std.specs.Prelude.{◌≡◌, ◌+◌, pos, List, ◌∷◌, IfOk, IfErr};
-ghost use Rattle.upp_limits.specs.rational.specs.Rational.{ℚ, int, ◌-ℚ◌, ◌≤ℚ◌, le_q, neg_ℚ};
-ghost use Rattle.upp_limits.specs.rational.specs.Ratio.{SumFits};
-ghost use Rattle.upp_limits.specs.rational.specs.declared.Extended.TheVariants.{Fin, Inf};
-ghost use Rattle.upp_limits.specs.upp_curve.specs.affine_segment.Values.{line_value};
-ghost use Rattle.upp_limits.specs.upp_curve.specs.affine_segment.Reading.{piece_in, piece_value};
-ghost use Rattle.upp_limits.specs.upp_curve.specs.Curve.{value_at};
-ghost use Rattle.upp_limits.specs.upp_curve.specs.affine_segment.Pieces.{Each, StartsAtZero};
-ghost use Rattle.upp_limits.specs.upp_curve.specs.affine_segment.Fits.{LineFitsAt};
-ghost use Rattle.upp_limits.specs.min_plus.specs.Pointwise.{IsShift};
+ghost use Rattle.rational.specs.Rational.{ℚ, int, ◌-ℚ◌, ◌≤ℚ◌, le_q, neg_ℚ};
+ghost use Rattle.rational.specs.Ratio.{SumFits};
+ghost use Rattle.rational.specs.declared.Extended.TheVariants.{Fin, Inf};
+ghost use Rattle.upp_curve.specs.affine_segment.Values.{line_value};
+ghost use Rattle.upp_curve.specs.affine_segment.Reading.{piece_in, piece_value};
+ghost use Rattle.upp_curve.specs.Curve.{value_at};
+ghost use Rattle.upp_curve.specs.affine_segment.Pieces.{Each, StartsAtZero};
+ghost use Rattle.upp_curve.specs.affine_segment.Fits.{LineFitsAt};
+ghost use Rattle.min_plus.specs.Pointwise.{IsShift};
 ghost use Rattle.upp_limits.specs.Outcome.{KeepsLimits};
 ghost use Rattle.curve_call.specs.Frames.{IsFrame};
 ghost use Rattle.plain_operators.specs.pointwise.Shifting.{left_line, left_piece, moved_left, LeftFits, IsAhead};
 
-use curve_call::upp_normal::unrolled;
 use curve_call::{Frame, framed_answer, rise_over, within};
+use fraction128::{Ext, Frac, difference};
 use outcomes::Steps;
+use rational::Extended;
 use std::alloc::{AllocError, Global};
 use std::cmp::Ordering;
 use std::sync::ledger::Ledger;
-use upp_limits::fraction128::{Ext, Frac, difference};
-use upp_limits::rational::Extended;
-use upp_limits::upp_curve::affine_segment::{Line, Piece, piece_at, piece_value, value};
-use upp_limits::upp_curve::{Curve, Tail};
+use upp_curve::affine_segment::{Line, Piece, piece_at, piece_value, value};
+use upp_curve::{Curve, Tail};
 use upp_limits::{OpFault, OpKind};
+use upp_normal::unrolled;
 
 // A line that may be missing, moved left by x.
 fn left_line(line: Option<Line>, x: Frac) -> Option<Line>

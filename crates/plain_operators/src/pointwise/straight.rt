@@ -1,21 +1,21 @@
 //! Curves of one line each, and their sum without a window.
 
 ghost use Rattle.std.specs.Prelude.{◌≡◌, ◌∷◌, [], pos, IfOk, IfErr, IfSome, IsTrue};
-ghost use Rattle.upp_limits.specs.rational.specs.Rational.{ℚ, int, ◌≤ℚ◌};
-ghost use Rattle.upp_limits.specs.upp_curve.specs.affine_segment.Pieces.{StartsAtZero};
-ghost use Rattle.upp_limits.specs.upp_curve.specs.Curve.{value_at};
-ghost use Rattle.upp_limits.specs.upp_curve.specs.Curves.{IsCurve};
-ghost use Rattle.upp_limits.specs.min_plus.specs.Pointwise.{IsSum};
+ghost use Rattle.rational.specs.Rational.{ℚ, int, ◌≤ℚ◌};
+ghost use Rattle.upp_curve.specs.affine_segment.Pieces.{StartsAtZero};
+ghost use Rattle.upp_curve.specs.Curve.{value_at};
+ghost use Rattle.upp_curve.specs.Curves.{IsCurve};
+ghost use Rattle.min_plus.specs.Pointwise.{IsSum};
 ghost use Rattle.upp_limits.specs.Outcome.{KeepsLimits};
 ghost use Rattle.curve_call.specs.Frames.{IsRefusedAt};
 ghost use Rattle.plain_operators.specs.pointwise.Straight.{straight_piece, straight_curve, total, TotalFits, IsSumWithin, IsLittle, AreLittle};
 
 use curve_call::within;
+use fraction128::Frac;
+use rational::Extended;
 use std::alloc::{AllocError, Global};
-use upp_limits::fraction128::Frac;
-use upp_limits::rational::Extended;
-use upp_limits::upp_curve::affine_segment::{Line, Piece};
-use upp_limits::upp_curve::{Curve, Tail};
+use upp_curve::affine_segment::{Line, Piece};
+use upp_curve::{Curve, Tail};
 use upp_limits::{OpFault, OpKind};
 
 /// A curve of one piece: a value at 0, and after it one line for ever.
@@ -77,9 +77,9 @@ fn total_of(alloc: Global, f: &Straight, g: &Straight) -> Result<Curve, AllocErr
     requires { TotalFits f.now g.now }
     ensures { IfOk result (λ c. c ≡ straight_curve (total f.now g.now)) }
 {
-    let at = upp_limits::fraction128::sum(f.at, g.at);
-    let icept = upp_limits::fraction128::sum(f.line.icept, g.line.icept);
-    let slope = upp_limits::fraction128::sum(f.line.slope, g.line.slope);
+    let at = fraction128::sum(f.at, g.at);
+    let icept = fraction128::sum(f.line.icept, g.line.icept);
+    let slope = fraction128::sum(f.line.slope, g.line.slope);
     let both = Straight {
         at,
         line: Line { icept, slope },

@@ -1,24 +1,24 @@
 //! The sum of two curves.
 
 ghost use Rattle.std.specs.Prelude.{◌≡◌, ◌+◌, pos, IfOk};
-ghost use Rattle.upp_limits.specs.rational.specs.Rational.{ℚ, int, ◌+ℚ◌, ◌≤ℚ◌};
-ghost use Rattle.upp_limits.specs.rational.specs.Ratio.{SumFits};
-ghost use Rattle.upp_limits.specs.upp_curve.specs.Curve.{value_at};
-ghost use Rattle.upp_limits.specs.min_plus.specs.Pointwise.{IsSum};
+ghost use Rattle.rational.specs.Rational.{ℚ, int, ◌+ℚ◌, ◌≤ℚ◌};
+ghost use Rattle.rational.specs.Ratio.{SumFits};
+ghost use Rattle.upp_curve.specs.Curve.{value_at};
+ghost use Rattle.min_plus.specs.Pointwise.{IsSum};
 ghost use Rattle.upp_limits.specs.Outcome.{KeepsLimits};
-ghost use Rattle.upp_limits.specs.upp_curve.specs.Unrolled.{unroll};
+ghost use Rattle.upp_curve.specs.Unrolled.{unroll};
 ghost use Rattle.curve_call.specs.Pointwise.{IsWindowSum};
 ghost use Rattle.curve_call.specs.Frames.{IsFrame};
 
 use crate::pointwise::straight::{straight_of, sum_straight};
-use curve_call::upp_normal::unrolled;
 use curve_call::{Answered, Frame, framed_answer, rise_over, window_sum, within};
 use outcomes::Steps;
 use std::alloc::{AllocError, Global};
 use std::sync::ledger::Ledger;
+use upp_curve::Curve;
+use upp_curve::affine_segment::Piece;
 use upp_limits::OpKind;
-use upp_limits::upp_curve::Curve;
-use upp_limits::upp_curve::affine_segment::Piece;
+use upp_normal::unrolled;
 
 // The pieces of a sum below the end of its call's window. Those of the operands are let go here, before the normal form
 // takes memory.
@@ -44,7 +44,7 @@ fn sum_within(alloc: Global, f: &Curve, g: &Curve, frame: &Frame) -> Result<Curv
     let pieces = pieces_of_sum(alloc, f, g, frame)?;
     let first = rise_over(f, frame.period);
     let second = rise_over(g, frame.period);
-    let rise = upp_limits::fraction128::sum(first, second);
+    let rise = fraction128::sum(first, second);
     framed_answer(alloc, pieces, frame.start, rise, frame)
 }
 

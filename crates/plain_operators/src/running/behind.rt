@@ -1,12 +1,12 @@
 //! How many periods pass before a service is ahead of what it serves some time later.
 
 ghost use Rattle.std.specs.Prelude.{ℕ, ◌≡◌, pos};
-ghost use Rattle.upp_limits.specs.rational.specs.Rational.{int, ◌-ℚ◌, neg_ℚ};
-ghost use Rattle.upp_limits.specs.rational.specs.Ratio.{SumFits};
-ghost use Rattle.upp_limits.specs.rational.specs.declared.Extended.TheVariants.{Fin};
+ghost use Rattle.rational.specs.Rational.{int, ◌-ℚ◌, neg_ℚ};
+ghost use Rattle.rational.specs.Ratio.{SumFits};
+ghost use Rattle.rational.specs.declared.Extended.TheVariants.{Fin};
 ghost use Rattle.upp_limits.specs.declared.op_kind.OpKind.TheVariants.{FifoLeft};
-ghost use Rattle.upp_limits.specs.upp_curve.specs.Curve.{value_at};
-ghost use Rattle.upp_limits.specs.upp_curve.specs.Steady.{rise_over};
+ghost use Rattle.upp_curve.specs.Curve.{value_at};
+ghost use Rattle.upp_curve.specs.Steady.{rise_over};
 ghost use Rattle.upp_limits.specs.Limits.{Sizes};
 ghost use Rattle.upp_limits.specs.Windows.{IsLeast, Meets};
 ghost use Rattle.curve_call.specs.Bounds.{AreBounds};
@@ -16,10 +16,10 @@ ghost use Rattle.plain_operators.specs.running.Behind.{moved, IsBehindCall, IsMo
 ghost use Rattle.plain_operators.specs.running.LeftCall.{IsLeftGate};
 
 use crate::running::numbers::number_of;
-use curve_call::upp_normal::stretch_at;
 use curve_call::{Bounds, CallWindow, earlier, period_or, rise_over};
-use upp_limits::fraction128::{Frac, difference, greater, is_less, quotient};
-use upp_limits::upp_curve::Curve;
+use fraction128::{Frac, difference, greater, is_less, quotient};
+use upp_curve::Curve;
+use upp_normal::stretch_at;
 
 /// By how much cross, served theta later, is above beta at its worst over [from, end); 0 where it never is. Only the
 /// starts of beta's pieces are looked at: elsewhere beta goes on from its value, and has caught up by then.

@@ -1,18 +1,18 @@
 //! The greatest and the least of a level and of a line, on one stretch.
 
 ghost use Rattle.std.specs.Prelude.{◌≡◌, pos, ◌++◌, true, false, IfOk};
-ghost use Rattle.upp_limits.specs.rational.specs.Rational.{◌<ℚ◌, int};
-ghost use Rattle.upp_limits.specs.upp_curve.specs.affine_segment.Values.{line_at};
+ghost use Rattle.rational.specs.Rational.{◌<ℚ◌, int};
+ghost use Rattle.upp_curve.specs.affine_segment.Values.{line_at};
 ghost use Rattle.plain_operators.specs.running.Scans.{flat, MeetingFits};
 ghost use Rattle.plain_operators.specs.running.Bends.{risen, sunk, Follows, bent, bent_back};
 ghost use Rattle.plain_operators.specs.running.Made.{IsMeeting, IsMadeOf};
 
 use crate::running::stretch::Stretch;
+use fraction128::{Frac, greater, lesser};
+use rational::Extended;
 use std::alloc::AllocError;
 use std::cmp::Ordering;
-use upp_limits::fraction128::{Frac, greater, lesser};
-use upp_limits::rational::Extended;
-use upp_limits::upp_curve::affine_segment::{Line, Piece, cross};
+use upp_curve::affine_segment::{Line, Piece, cross};
 
 /// The line just after the start of a stretch, and the piece that takes over from it, if one does.
 #[derive(Debug, Clone, Copy)]

@@ -1,17 +1,17 @@
 //! The supremum of a window between two times.
 
 ghost use Rattle.std.specs.Prelude.{◌≡◌, ◌+◌, ◌<◌, pos, length, drop};
-ghost use Rattle.upp_limits.specs.rational.specs.Rational.{ℚ, int, ◌≤ℚ◌, ◌<ℚ◌};
-ghost use Rattle.upp_limits.specs.rational.specs.Extended.{◌≤ₑ◌};
-ghost use Rattle.upp_limits.specs.rational.specs.declared.Extended.TheVariants.{Fin};
-ghost use Rattle.upp_limits.specs.upp_curve.specs.affine_segment.Reading.{read};
+ghost use Rattle.rational.specs.Rational.{ℚ, int, ◌≤ℚ◌, ◌<ℚ◌};
+ghost use Rattle.rational.specs.Extended.{◌≤ₑ◌};
+ghost use Rattle.rational.specs.declared.Extended.TheVariants.{Fin};
+ghost use Rattle.upp_curve.specs.affine_segment.Reading.{read};
 ghost use Rattle.plain_operators.specs.running.Scans.{start_or, IsWindow, ScanFits, IsSupremumIn};
 ghost use Rattle.plain_operators.specs.running.Between.{FitsAtBoth, IsLevelBetween, IsHighestIn};
 
 use crate::running::stretch::stretch_at;
+use fraction128::{Frac, greater, lesser};
 use std::cmp::Ordering;
-use upp_limits::fraction128::{Frac, greater, lesser};
-use upp_limits::upp_curve::affine_segment::{Piece, line_at};
+use upp_curve::affine_segment::{Piece, line_at};
 
 // What the i-th piece has between two times: 0 where it has none of them.
 fn highest_in(ps: &[Piece], i: usize, end: Frac, from: Frac, to: Frac) -> Frac

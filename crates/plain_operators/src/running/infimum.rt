@@ -6,9 +6,9 @@ ghost use Rattle.plain_operators.specs.running.Made.{IsInfimumScan};
 
 use crate::running::bend::{lowest, push_back};
 use crate::running::stretch::stretch_at;
+use fraction128::{Frac, lesser};
 use std::alloc::{AllocError, Global};
-use upp_limits::fraction128::{Frac, lesser};
-use upp_limits::upp_curve::affine_segment::Piece;
+use upp_curve::affine_segment::Piece;
 
 /// The infimum of a window over the times from each time on that are before `end`. A limit that is not taken counts.
 pub fn infimum_scan(alloc: Global, ps: &[Piece], end: Frac) -> Result<Vec<Piece>, AllocError>

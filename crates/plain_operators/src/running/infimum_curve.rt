@@ -2,23 +2,23 @@
 
 ghost use Rattle.std.specs.Prelude.{◌≡◌, ◌+◌, IfOk};
 ghost use Rattle.upp_limits.specs.declared.op_kind.OpKind.TheVariants.{RunInf};
-ghost use Rattle.upp_limits.specs.upp_curve.specs.Curve.{value_at};
-ghost use Rattle.upp_limits.specs.min_plus.specs.Functions.{IsFinite, IsNonnegative};
+ghost use Rattle.upp_curve.specs.Curve.{value_at};
+ghost use Rattle.min_plus.specs.Functions.{IsFinite, IsNonnegative};
 ghost use Rattle.upp_limits.specs.Outcome.{KeepsLimits};
 ghost use Rattle.curve_call.specs.Frames.{IsFrame};
 ghost use Rattle.plain_operators.specs.running.Runs.{RunsFrom, IsFrontBefore};
 
 use crate::running::infimum::infimum_scan;
-use curve_call::upp_normal::unrolled;
 use curve_call::{Frame, framed_answer, rise_over, within};
+use fraction128::{Frac, sum};
 use outcomes::Steps;
 use std::alloc::{AllocError, Global};
 use std::cmp::Ordering;
 use std::sync::ledger::Ledger;
-use upp_limits::fraction128::{Frac, sum};
-use upp_limits::upp_curve::Curve;
-use upp_limits::upp_curve::affine_segment::Piece;
+use upp_curve::Curve;
+use upp_curve::affine_segment::Piece;
 use upp_limits::{OpFault, OpKind};
+use upp_normal::unrolled;
 
 /// The pieces up to the first that starts at `end` or later.
 pub fn front_before(alloc: Global, pieces: &[Piece], end: Frac) -> Result<Vec<Piece>, AllocError>

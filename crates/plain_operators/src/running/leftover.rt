@@ -1,16 +1,16 @@
 //! What first in, first out leaves of a service.
 
 ghost use Rattle.std.specs.Prelude.{◌≡◌, ◌+◌, pos, IfOk, IfErr};
-ghost use Rattle.upp_limits.specs.rational.specs.Rational.{ℚ, int, ◌≤ℚ◌};
-ghost use Rattle.upp_limits.specs.rational.specs.Extended.{Ext};
-ghost use Rattle.upp_limits.specs.rational.specs.declared.Extended.TheVariants.{Fin, Inf};
+ghost use Rattle.rational.specs.Rational.{ℚ, int, ◌≤ℚ◌};
+ghost use Rattle.rational.specs.Extended.{Ext};
+ghost use Rattle.rational.specs.declared.Extended.TheVariants.{Fin, Inf};
 ghost use Rattle.upp_limits.specs.declared.op_kind.OpKind.TheVariants.{FifoLeft};
-ghost use Rattle.upp_limits.specs.upp_curve.specs.affine_segment.Pieces.{Each};
-ghost use Rattle.upp_limits.specs.upp_curve.specs.Curve.{value_at};
-ghost use Rattle.upp_limits.specs.upp_curve.specs.Unrolled.{unroll};
-ghost use Rattle.curve_call.specs.upp_normal.specs.Unrolling.{IsOperandTo};
-ghost use Rattle.upp_limits.specs.min_plus.specs.Deviations.{IsHorizontalDeviation};
-ghost use Rattle.upp_limits.specs.min_plus.specs.Functions.{IsFinite, IsRising, IsNonnegative};
+ghost use Rattle.upp_curve.specs.affine_segment.Pieces.{Each};
+ghost use Rattle.upp_curve.specs.Curve.{value_at};
+ghost use Rattle.upp_curve.specs.Unrolled.{unroll};
+ghost use Rattle.upp_normal.specs.Unrolling.{IsOperandTo};
+ghost use Rattle.min_plus.specs.Deviations.{IsHorizontalDeviation};
+ghost use Rattle.min_plus.specs.Functions.{IsFinite, IsRising, IsNonnegative};
 ghost use Rattle.upp_limits.specs.Outcome.{KeepsLimits, IsCauseOf, IsWithin};
 ghost use Rattle.plain_operators.specs.running.Behind.{IsServed};
 ghost use Rattle.plain_operators.specs.running.Moved.{moved_right, PieceMoves};
@@ -20,16 +20,16 @@ use crate::running::behind::{behind_bounds, enough_periods, rises_apart};
 use crate::running::lowest::lowest_pieces;
 use crate::running::moved::moved_right;
 use crate::running::parts::left_pieces;
-use curve_call::upp_normal::unrolled;
 use curve_call::{Frame, first_window, framed_answer, overlay, refuse_between, within};
+use fraction128::{Ext, Frac, difference, sum};
 use outcomes::Steps;
+use rational::Extended;
 use std::alloc::{AllocError, Global};
 use std::sync::ledger::Ledger;
-use upp_limits::fraction128::{Ext, Frac, difference, sum};
-use upp_limits::rational::Extended;
-use upp_limits::upp_curve::affine_segment::{Line, Piece};
-use upp_limits::upp_curve::{Curve, Tail};
+use upp_curve::affine_segment::{Line, Piece};
+use upp_curve::{Curve, Tail};
 use upp_limits::{OpFault, OpKind};
+use upp_normal::unrolled;
 
 // The pieces of the cross traffic below `end`, theta later.
 fn moved_cross(

@@ -1,24 +1,24 @@
 //! The lowest of some pieces from each time on, where they go on for ever by repeating.
 
 ghost use Rattle.std.specs.Prelude.{◌≡◌, pos, IfOk};
-ghost use Rattle.upp_limits.specs.rational.specs.Rational.{int, ◌≤ℚ◌};
-ghost use Rattle.upp_limits.specs.rational.specs.declared.Extended.TheVariants.{Fin};
-ghost use Rattle.upp_limits.specs.upp_curve.specs.affine_segment.Values.{line_value};
+ghost use Rattle.rational.specs.Rational.{int, ◌≤ℚ◌};
+ghost use Rattle.rational.specs.declared.Extended.TheVariants.{Fin};
+ghost use Rattle.upp_curve.specs.affine_segment.Values.{line_value};
 ghost use Rattle.upp_limits.specs.Limits.{Sizes};
-ghost use Rattle.upp_limits.specs.upp_curve.specs.affine_segment.Pieces.{Each, StartsAtZero};
-ghost use Rattle.upp_limits.specs.upp_curve.specs.affine_segment.Fits.{LineFitsAt};
-ghost use Rattle.upp_limits.specs.upp_curve.specs.affine_segment.Reading.{read};
-ghost use Rattle.upp_limits.specs.upp_curve.specs.Shapes.{IsFinitePiece, IsLine, IsNumber};
-ghost use Rattle.upp_limits.specs.upp_curve.specs.Steady.{last_line};
+ghost use Rattle.upp_curve.specs.affine_segment.Pieces.{Each, StartsAtZero};
+ghost use Rattle.upp_curve.specs.affine_segment.Fits.{LineFitsAt};
+ghost use Rattle.upp_curve.specs.affine_segment.Reading.{read};
+ghost use Rattle.upp_curve.specs.Shapes.{IsFinitePiece, IsLine, IsNumber};
+ghost use Rattle.upp_curve.specs.Steady.{last_line};
 ghost use Rattle.plain_operators.specs.running.Scans.{IsWindow, ScanFits};
 ghost use Rattle.plain_operators.specs.running.Lowest.{level_piece, with_level, IsLowestBefore, IsLowestCall, IsLowest};
 
 use crate::running::numbers::number_of;
 use crate::running::{front_before, infimum_scan};
+use fraction128::{Ext, Frac, lesser, sum};
+use rational::Extended;
 use std::alloc::{AllocError, Global};
-use upp_limits::fraction128::{Ext, Frac, lesser, sum};
-use upp_limits::rational::Extended;
-use upp_limits::upp_curve::affine_segment::{Line, Piece, line_value, piece_at, piece_value};
+use upp_curve::affine_segment::{Line, Piece, line_value, piece_at, piece_value};
 
 // The value of finite pieces at t.
 fn value_in(pieces: &[Piece], t: Frac) -> Frac

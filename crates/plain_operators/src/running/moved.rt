@@ -1,14 +1,14 @@
 //! Pieces moved right.
 
 ghost use Rattle.std.specs.Prelude.{◌≡◌, pos, IfOk};
-ghost use Rattle.upp_limits.specs.rational.specs.Rational.{int};
-ghost use Rattle.upp_limits.specs.upp_curve.specs.affine_segment.Pieces.{Each};
+ghost use Rattle.rational.specs.Rational.{int};
+ghost use Rattle.upp_curve.specs.affine_segment.Pieces.{Each};
 ghost use Rattle.plain_operators.specs.running.Moved.{moved_line, moved_piece, silence, moved_right, LineMoves, PieceMoves};
 
+use fraction128::{Ext, Frac, difference, is_less, product, sum};
+use rational::Extended;
 use std::alloc::{AllocError, Global};
-use upp_limits::fraction128::{Ext, Frac, difference, is_less, product, sum};
-use upp_limits::rational::Extended;
-use upp_limits::upp_curve::affine_segment::{Line, Piece};
+use upp_curve::affine_segment::{Line, Piece};
 
 // A line that may be missing, moved right by theta.
 fn moved_line(line: Option<Line>, theta: Frac) -> Option<Line>

@@ -1,11 +1,11 @@
 //! A finite value.
 
 ghost use Rattle.std.specs.Prelude.{◌≡◌};
-ghost use Rattle.upp_limits.specs.rational.specs.declared.Extended.TheVariants.{Fin};
-ghost use Rattle.upp_limits.specs.upp_curve.specs.Shapes.{IsNumber};
+ghost use Rattle.rational.specs.declared.Extended.TheVariants.{Fin};
+ghost use Rattle.upp_curve.specs.Shapes.{IsNumber};
 
-use upp_limits::fraction128::{Ext, Frac};
-use upp_limits::rational::Extended;
+use fraction128::{Ext, Frac};
+use rational::Extended;
 
 /// A finite value.
 pub(crate) fn number_of(v: Ext) -> Frac

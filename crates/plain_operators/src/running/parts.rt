@@ -7,7 +7,7 @@ ghost use Rattle.plain_operators.specs.running.Parts.{left_piece, StretchLeftFit
 
 use curve_call::{Both, excess_value, lines_apart};
 use std::alloc::{AllocError, Global};
-use upp_limits::upp_curve::affine_segment::Piece;
+use upp_curve::affine_segment::Piece;
 
 fn left_piece(b: &Both) -> Piece
     requires { StretchLeftFits b.now }

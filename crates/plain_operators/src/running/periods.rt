@@ -1,18 +1,18 @@
 //! How many periods pass before the running supremum of a curve repeats.
 
 ghost use Rattle.std.specs.Prelude.{◌≡◌, ◌<◌, pos};
-ghost use Rattle.upp_limits.specs.rational.specs.Rational.{int, ◌<ℚ◌, ◌+ℚ◌};
-ghost use Rattle.upp_limits.specs.rational.specs.Ratio.{SumFits};
+ghost use Rattle.rational.specs.Rational.{int, ◌<ℚ◌, ◌+ℚ◌};
+ghost use Rattle.rational.specs.Ratio.{SumFits};
 ghost use Rattle.upp_limits.specs.declared.op_kind.OpKind.TheVariants.{RunSup};
-ghost use Rattle.upp_limits.specs.upp_curve.specs.affine_segment.Reading.{read};
+ghost use Rattle.upp_curve.specs.affine_segment.Reading.{read};
 ghost use Rattle.upp_limits.specs.Windows.{IsLeast, Meets};
 ghost use Rattle.plain_operators.specs.running.Periods.{IsCover, CoverFits, IsFirstPeriod, IsCovering, IsSupremumCall, IsCoveredAfter};
 
 use crate::running::between::supremum_between;
+use fraction128::{Frac, sum};
 use std::cmp::Ordering;
-use upp_limits::fraction128::{Frac, sum};
-use upp_limits::upp_curve::Curve;
-use upp_limits::upp_curve::affine_segment::Piece;
+use upp_curve::Curve;
+use upp_curve::affine_segment::Piece;
 
 // The least number of rises that take `once` up to `early`.
 fn cover(early: Frac, once: Frac, rise: Frac) -> u128

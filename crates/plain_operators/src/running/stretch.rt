@@ -1,15 +1,15 @@
 //! One finite piece of a window, with its end.
 
 ghost use Rattle.std.specs.Prelude.{◌≡◌, ◌<◌, length, drop, Some};
-ghost use Rattle.upp_limits.specs.rational.specs.declared.Extended.TheVariants.{Fin};
-ghost use Rattle.upp_limits.specs.upp_curve.specs.affine_segment.Values.{line_at};
-ghost use Rattle.upp_limits.specs.upp_curve.specs.affine_segment.Fits.{LineFits};
-ghost use Rattle.upp_limits.specs.upp_curve.specs.Shapes.{IsNumber, IsLine};
+ghost use Rattle.rational.specs.declared.Extended.TheVariants.{Fin};
+ghost use Rattle.upp_curve.specs.affine_segment.Values.{line_at};
+ghost use Rattle.upp_curve.specs.affine_segment.Fits.{LineFits};
+ghost use Rattle.upp_curve.specs.Shapes.{IsNumber, IsLine};
 ghost use Rattle.plain_operators.specs.running.Scans.{start_or, IsWindow, ScanFits, IsStretch};
 
-use upp_limits::fraction128::{Ext, Frac};
-use upp_limits::rational::Extended;
-use upp_limits::upp_curve::affine_segment::{Line, Piece, line_at};
+use fraction128::{Ext, Frac};
+use rational::Extended;
+use upp_curve::affine_segment::{Line, Piece, line_at};
 
 /// A piece with a number at its start and a line after it, the time at which it ends, and the limits of the line:
 /// the right one at its start, the left one at its end.

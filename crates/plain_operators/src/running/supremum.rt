@@ -6,9 +6,9 @@ ghost use Rattle.plain_operators.specs.running.Made.{IsSupremumScan};
 
 use crate::running::bend::{highest, push_bent};
 use crate::running::stretch::stretch_at;
+use fraction128::{Frac, greater};
 use std::alloc::{AllocError, Global};
-use upp_limits::fraction128::{Frac, greater};
-use upp_limits::upp_curve::affine_segment::Piece;
+use upp_curve::affine_segment::Piece;
 
 /// The supremum of a window over the times up to each time before `end`. A limit that is not taken counts.
 pub fn supremum_scan(alloc: Global, ps: &[Piece], end: Frac) -> Result<Vec<Piece>, AllocError>

@@ -1,12 +1,12 @@
 //! The running supremum of a curve.
 
 ghost use Rattle.std.specs.Prelude.{◌≡◌, ◌+◌, ◌≤◌, ◌^◌, IfOk, MatchOption};
-ghost use Rattle.upp_limits.specs.rational.specs.Rational.{◌-ℚ◌, neg_ℚ};
-ghost use Rattle.upp_limits.specs.rational.specs.Ratio.{SumFits};
+ghost use Rattle.rational.specs.Rational.{◌-ℚ◌, neg_ℚ};
+ghost use Rattle.rational.specs.Ratio.{SumFits};
 ghost use Rattle.upp_limits.specs.declared.op_kind.OpKind.TheVariants.{RunSup};
-ghost use Rattle.upp_limits.specs.upp_curve.specs.Curve.{value_at};
-ghost use Rattle.upp_limits.specs.upp_curve.specs.Curves.{IsCurve};
-ghost use Rattle.upp_limits.specs.min_plus.specs.Functions.{IsFinite, IsNonnegative};
+ghost use Rattle.upp_curve.specs.Curve.{value_at};
+ghost use Rattle.upp_curve.specs.Curves.{IsCurve};
+ghost use Rattle.min_plus.specs.Functions.{IsFinite, IsNonnegative};
 ghost use Rattle.upp_limits.specs.Gauges.{gauge_at};
 ghost use Rattle.upp_limits.specs.Outcome.{KeepsLimits};
 ghost use Rattle.curve_call.specs.Frames.{IsFrame};
@@ -14,14 +14,14 @@ ghost use Rattle.plain_operators.specs.running.Runs.{RunsUpTo, IsNumberOf};
 
 use crate::running::periods::supremum_periods;
 use crate::running::supremum::supremum_scan;
-use curve_call::upp_normal::unrolled;
 use curve_call::{Frame, first_window, framed_answer, rise_over, within};
+use fraction128::{Frac, difference};
 use outcomes::Steps;
 use std::alloc::{AllocError, Global};
 use std::sync::ledger::Ledger;
-use upp_limits::fraction128::{Frac, difference};
-use upp_limits::upp_curve::Curve;
+use upp_curve::Curve;
 use upp_limits::{OpFault, OpKind};
+use upp_normal::unrolled;
 
 // The least number of periods of the call; none where already the window without any period is too wide.
 fn least_number(f: &Curve) -> Option<u128>

@@ -7,7 +7,7 @@ use Rattle.std.proofs.lemmas.Fmt.{IsAscii-decimal_wide}
 use Rattle.std.proofs.lemmas.Str.{IsUtf8-from_ascii, IsAscii-append}
 use Rattle.rational.specs.Extended.{Ext}
 use Rattle.rational.specs.declared.Extended.TheVariants.{Fin, Inf}
-use Rattle.upp_curve.specs.fraction128.specs.Text.{text_over}
+use Rattle.fraction128.specs.Text.{text_over}
 use Rattle.input_texts.specs.plain_text.Numbers.{number_text}
 use Rattle.report_text.specs.Laws.{IsPrintable}
 

@@ -3,7 +3,7 @@ use Rattle.std.specs.Prelude.{ℕ, List, ◌++◌, codes}
 use Rattle.std.specs.Fmt.{decimal}
 use Rattle.std.specs.List.{flat_map}
 use Rattle.rational.specs.Rational.{ℚ}
-use Rattle.upp_curve.specs.fraction128.specs.Text.{text_of}
+use Rattle.fraction128.specs.Text.{text_of}
 use Rattle.upp_curve.specs.declared.affine_segment.line.Piece.{Piece}
 use Rattle.input_texts.specs.plain_text.Numbers.{number_text}
 

@@ -8,11 +8,11 @@ ghost use Rattle.report_text.specs.Laws.{IsPrintable};
 ghost use Rattle.report_text.specs.Shown.{shown};
 
 use crate::{ShownValue, push_number};
+use fraction128::Ext;
 use net_cells::cell_table::Table;
 use net_cells::{Cell, Kind};
 use rational::Extended;
 use std::alloc::{AllocError, Global};
-use upp_curve::fraction128::Ext;
 
 // The text of some bytes of ASCII.
 fn text_of(bytes: Vec<u8>) -> String

@@ -2,15 +2,15 @@
 
 ghost use Rattle.std.specs.Prelude.{◌≡◌, ◌++◌, codes, OnOk};
 ghost use Rattle.std.specs.Fmt.{decimal};
-ghost use Rattle.upp_curve.specs.fraction128.specs.Text.{text_of};
+ghost use Rattle.fraction128.specs.Text.{text_of};
 ghost use Rattle.input_texts.specs.plain_text.Numbers.{number_text};
 ghost use Rattle.report_text.specs.measure_report.MeasureReport.{head_line, step_line, burst_line};
 
 use crate::{push_after, push_decimal, push_text};
+use fraction128::{Ext, Frac};
 use rational::Extended;
 use std::alloc::AllocError;
 use upp_curve::affine_segment::Piece;
-use upp_curve::fraction128::{Ext, Frac};
 
 #[tactic(auto, unfolding(crate::specs::measure_report::MeasureReport::head_line))]
 pub(crate) fn push_head_line(

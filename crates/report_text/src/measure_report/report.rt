@@ -5,10 +5,10 @@ ghost use Rattle.std.specs.List.{flat_map};
 ghost use Rattle.report_text.specs.measure_report.MeasureReport.{step_line, measure_report_of};
 
 use crate::measure_report::lines::{push_burst_line, push_head_line, push_step_line};
+use fraction128::Frac;
 use std::alloc::{AllocError, Global};
 use upp_curve::Curve;
 use upp_curve::affine_segment::Piece;
-use upp_curve::fraction128::Frac;
 
 fn push_steps(into: &mut Vec<u8>, pieces: &[Piece]) -> Result<(), AllocError>
     ensures { OnOk result (into.new.items ≡ into.old.items ++ flat_map step_line pieces.now) }

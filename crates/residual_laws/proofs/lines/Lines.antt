@@ -2,14 +2,14 @@
 -- line in place of what others bring.
 use Rattle.std.specs.Prelude.{◌≡◌, ◌≤◌, ◌<◌, ℕ, List, get_or, sum}
 use Rattle.std.proofs.Common.{arith, sym, ap, ◌∙◌, subst}
-use Rattle.min_plus.specs.rational.specs.Rational.{ℚ, ◌+ℚ◌, ◌-ℚ◌, ◌*ℚ◌, ◌≤ℚ◌}
-use Rattle.min_plus.specs.rational.specs.Extended.{Ext}
-use Rattle.min_plus.specs.rational.specs.declared.Extended.TheVariants.{Fin}
-use Rattle.min_plus.specs.rational.proofs.Bounds.{same_supremum}
-use Rattle.min_plus.specs.rational.proofs.ExtendedOrder.{same_le_ext}
-use Rattle.min_plus.specs.rational.proofs.Laws.{le_refl, le_trans, mul_zero}
-use Rattle.min_plus.specs.rational.proofs.Linear.{with1, with2, sub_nonneg}
-use Rattle.min_plus.specs.rational.proofs.MinMax.{max_q_le}
+use Rattle.rational.specs.Rational.{ℚ, ◌+ℚ◌, ◌-ℚ◌, ◌*ℚ◌, ◌≤ℚ◌}
+use Rattle.rational.specs.Extended.{Ext}
+use Rattle.rational.specs.declared.Extended.TheVariants.{Fin}
+use Rattle.rational.proofs.Bounds.{same_supremum}
+use Rattle.rational.proofs.ExtendedOrder.{same_le_ext}
+use Rattle.rational.proofs.Laws.{le_refl, le_trans, mul_zero}
+use Rattle.rational.proofs.Linear.{with1, with2, sub_nonneg}
+use Rattle.rational.proofs.MinMax.{max_q_le}
 use Rattle.min_plus.specs.Functions.{zero_q, UpTo, IsRising}
 use Rattle.min_plus.specs.Formulas.{bucket_value}
 use Rattle.min_plus.specs.Pointwise.{excess}

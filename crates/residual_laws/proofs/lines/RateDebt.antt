@@ -1,12 +1,12 @@
 -- A rate with a debt: it never falls, and how two compare; less a line, and a share of it, are again one.
 use Rattle.std.specs.Prelude.{◌≡◌}
 use Rattle.std.proofs.Common.{arith, sym, ap, ◌∙◌, inl, inr}
-use Rattle.min_plus.specs.rational.specs.Rational.{ℚ, ◌+ℚ◌, ◌-ℚ◌, ◌*ℚ◌, ◌≤ℚ◌}
-use Rattle.min_plus.specs.rational.specs.MinMax.{max_q}
-use Rattle.min_plus.specs.rational.specs.declared.Extended.TheVariants.{Fin}
-use Rattle.min_plus.specs.rational.proofs.Laws.{le_refl, le_or_lt, le_of_lt, mul_le_mul, mul_le_mul_right, mul_nonneg, mul_sub, sub_mul, mul_zero, mul_assoc}
-use Rattle.min_plus.specs.rational.proofs.Linear.{with2, with3, with4, with5}
-use Rattle.min_plus.specs.rational.proofs.MinMax.{max_q_right, max_q_left, max_q_is_left, max_q_mono}
+use Rattle.rational.specs.Rational.{ℚ, ◌+ℚ◌, ◌-ℚ◌, ◌*ℚ◌, ◌≤ℚ◌}
+use Rattle.rational.specs.MinMax.{max_q}
+use Rattle.rational.specs.declared.Extended.TheVariants.{Fin}
+use Rattle.rational.proofs.Laws.{le_refl, le_or_lt, le_of_lt, mul_le_mul, mul_le_mul_right, mul_nonneg, mul_sub, sub_mul, mul_zero, mul_assoc}
+use Rattle.rational.proofs.Linear.{with2, with3, with4, with5}
+use Rattle.rational.proofs.MinMax.{max_q_right, max_q_left, max_q_is_left, max_q_mono}
 use Rattle.min_plus.specs.Functions.{zero_q}
 use Rattle.min_plus.specs.Formulas.{bucket_value}
 use Rattle.min_plus.specs.Pointwise.{excess, scaled}

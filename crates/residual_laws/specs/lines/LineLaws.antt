@@ -2,8 +2,8 @@
 -- bring is at most a line. (Le Boudec and Thiran, non-preemptive priority and, in section 6.2, blind multiplexing;
 -- Bouillard, Boyer and Le Corronc for deficit round robin. Lines in place of curves are own choice.)
 use Rattle.std.specs.Prelude.{◌≡◌, ◌≤◌, ◌<◌, ℕ, List, length, get_or, sum}
-use Rattle.min_plus.specs.rational.specs.Rational.{ℚ, ◌+ℚ◌, ◌-ℚ◌, ◌*ℚ◌, ◌≤ℚ◌}
-use Rattle.min_plus.specs.rational.specs.Extended.{Ext}
+use Rattle.rational.specs.Rational.{ℚ, ◌+ℚ◌, ◌-ℚ◌, ◌*ℚ◌, ◌≤ℚ◌}
+use Rattle.rational.specs.Extended.{Ext}
 use Rattle.min_plus.specs.Formulas.{bucket_value}
 use Rattle.run_laws.specs.Cards.{Class, whole, of_queue, before_queue, after_queue, ServerStep}
 use Rattle.run_laws.specs.Servers.{Fifo, Priority, Drr, Server}

@@ -1,10 +1,10 @@
 -- A rate with a debt: what a server gives by t that works at the rate and has to do so many bits of something else
 -- first. With a debt of rate times latency it is the rate after the latency. (Le Boudec and Thiran, rate-latency
 -- functions.)
-use Rattle.min_plus.specs.rational.specs.Rational.{ℚ, ◌*ℚ◌, ◌-ℚ◌, ◌≤ℚ◌}
-use Rattle.min_plus.specs.rational.specs.MinMax.{max_q}
-use Rattle.min_plus.specs.rational.specs.Extended.{Ext}
-use Rattle.min_plus.specs.rational.specs.declared.Extended.TheVariants.{Fin}
+use Rattle.rational.specs.Rational.{ℚ, ◌*ℚ◌, ◌-ℚ◌, ◌≤ℚ◌}
+use Rattle.rational.specs.MinMax.{max_q}
+use Rattle.rational.specs.Extended.{Ext}
+use Rattle.rational.specs.declared.Extended.TheVariants.{Fin}
 use Rattle.min_plus.specs.Functions.{zero_q, IsRising}
 use Rattle.min_plus.specs.Formulas.{bucket_value}
 use Rattle.run_laws.specs.Weaker.{IsNowhereAbove}

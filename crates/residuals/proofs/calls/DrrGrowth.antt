@@ -3,14 +3,14 @@
 use Rattle.std.specs.Prelude.{◌≡◌, ◌≤◌, ◌<◌, ℕ, get_or, sum}
 use Rattle.std.proofs.Common.{arith, refl}
 use Rattle.std.proofs.lemmas.List.Elements.{All-get_or}
-use Rattle.upp_limits.specs.rational.specs.Rational.{ℚ, ◌≤ℚ◌}
-use Rattle.upp_limits.specs.rational.specs.Extended.{Ext}
+use Rattle.rational.specs.Rational.{ℚ, ◌≤ℚ◌}
+use Rattle.rational.specs.Extended.{Ext}
 use Rattle.upp_limits.specs.declared.op_kind.OpKind.TheVariants.{Scale, PosMinus}
-use Rattle.upp_limits.specs.upp_curve.specs.Curve.{value_at}
-use Rattle.upp_limits.specs.min_plus.specs.Functions.{zero_q}
-use Rattle.upp_limits.specs.min_plus.specs.Pointwise.{scaled}
-use Rattle.plain_operators.specs.curve_call.specs.Growth.{GrowsFromZero}
-use Rattle.plain_operators.specs.curve_call.proofs.GrowingAnswers.{growing_answers}
+use Rattle.upp_curve.specs.Curve.{value_at}
+use Rattle.min_plus.specs.Functions.{zero_q}
+use Rattle.min_plus.specs.Pointwise.{scaled}
+use Rattle.curve_call.specs.Growth.{GrowsFromZero}
+use Rattle.curve_call.proofs.GrowingAnswers.{growing_answers}
 use Rattle.residuals.specs.calls.DrrCalls.{IsQuantum}
 use Rattle.residuals.specs.calls.DrrGrowth.{DrrServiceGrows, DrrCurveGrows}
 use Rattle.residual_laws.specs.DrrLaws.{share, owed, drr_left}

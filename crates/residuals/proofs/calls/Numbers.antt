@@ -3,15 +3,15 @@ use Rattle.std.specs.Prelude.{◌≡◌, ◌≢◌, ◌+◌, ◌-◌, ◌*◌, �
 use Rattle.std.proofs.Common.{arith, sym, ap, ap₂, ◌∙◌, refl}
 use Rattle.std.proofs.lemmas.List.Elements.{All-get_or, All-from_get_or}
 use Rattle.std.proofs.lemmas.List.Sums.{sum_by-le}
-use Rattle.upp_limits.specs.rational.specs.Rational.{ℚ, ◌+ℚ◌, ◌-ℚ◌, ◌*ℚ◌, ◌/ℚ◌}
-use Rattle.upp_limits.specs.rational.specs.Ratio.{ratio, IsSmall}
-use Rattle.upp_limits.specs.rational.proofs.Parts.{small_ratio}
-use Rattle.upp_limits.specs.rational.proofs.Linear.{with3}
-use Rattle.upp_limits.specs.rational.proofs.Quotients.{frac_is_div}
+use Rattle.rational.specs.Rational.{ℚ, ◌+ℚ◌, ◌-ℚ◌, ◌*ℚ◌, ◌/ℚ◌}
+use Rattle.rational.specs.Ratio.{ratio, IsSmall}
+use Rattle.rational.proofs.Parts.{small_ratio}
+use Rattle.rational.proofs.Linear.{with3}
+use Rattle.rational.proofs.Quotients.{frac_is_div}
 use Rattle.run_laws.specs.Cards.{whole}
 use Rattle.run_laws.proofs.Sizes.{whole_sum, whole_times}
-use Rattle.upp_limits.specs.fraction128.specs.declared.fault.FracFault.{FracFault}
-use Rattle.upp_limits.specs.fraction128.specs.declared.fault.FracFault.TheVariants.{ZeroDen, TooBig}
+use Rattle.fraction128.specs.declared.fault.FracFault.{FracFault}
+use Rattle.fraction128.specs.declared.fault.FracFault.TheVariants.{ZeroDen, TooBig}
 use Rattle.residuals.specs.calls.DrrCalls.{IsQuantum, AreQueues}
 use Rattle.residual_laws.specs.DrrLaws.{owed}
 use Rattle.residual_laws.proofs.Owed.{in_sum}

@@ -6,12 +6,12 @@ use Rattle.upp_limits.specs.declared.op_kind.OpKind.TheVariants.{PosDiff, PosMin
 use Rattle.upp_limits.specs.declared.op_kind.OpFault.{OpFault}
 use Rattle.upp_limits.specs.declared.op_kind.OpFault.TheVariants.{TooMany, TooWide, NoMemory}
 use Rattle.upp_limits.specs.Outcome.{IsWithin, IsCauseOf}
-use Rattle.upp_limits.specs.upp_curve.specs.Curve.{SpecCurve}
+use Rattle.upp_curve.specs.Curve.{SpecCurve}
 use Rattle.run_laws.specs.Cards.{whole}
-use Rattle.plain_operators.specs.curve_call.specs.Calls.{Applies, AppliesTo}
+use Rattle.curve_call.specs.Calls.{Applies, AppliesTo}
 use Rattle.outcomes.specs.Calls.{Then, goes_on, stops}
-use Rattle.plain_operators.specs.curve_call.specs.Determined.{IsDetermined}
-use Rattle.plain_operators.specs.curve_call.proofs.InTurn.{applies_determined}
+use Rattle.curve_call.specs.Determined.{IsDetermined}
+use Rattle.curve_call.proofs.InTurn.{applies_determined}
 use Rattle.outcomes.proofs.Calls.{then_determined}
 use Rattle.residuals.specs.calls.PriorityCalls.{LeavesPriority}
 use Rattle.residuals.specs.calls.DrrCalls.{share_in, owed_in}

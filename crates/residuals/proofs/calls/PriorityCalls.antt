@@ -2,23 +2,23 @@
 -- priority queue.
 use Rattle.std.specs.Prelude.{◌≡◌, ℕ, Result, Ok, Err, IfOk}
 use Rattle.std.proofs.Common.{sym, ap, ◌∙◌, subst}
-use Rattle.upp_limits.specs.rational.specs.Rational.{ℚ, ◌≤ℚ◌}
-use Rattle.upp_limits.specs.rational.specs.Extended.{Ext, ◌≤ₑ◌}
-use Rattle.upp_limits.specs.rational.specs.declared.Extended.TheVariants.{Fin}
-use Rattle.upp_limits.specs.rational.proofs.Bounds.{same_supremum}
-use Rattle.upp_limits.specs.rational.proofs.ExtendedOrder.{same_le_ext}
+use Rattle.rational.specs.Rational.{ℚ, ◌≤ℚ◌}
+use Rattle.rational.specs.Extended.{Ext, ◌≤ₑ◌}
+use Rattle.rational.specs.declared.Extended.TheVariants.{Fin}
+use Rattle.rational.proofs.Bounds.{same_supremum}
+use Rattle.rational.proofs.ExtendedOrder.{same_le_ext}
 use Rattle.upp_limits.specs.declared.op_kind.OpKind.TheVariants.{PosDiff, PosMinus, RunSup}
 use Rattle.upp_limits.specs.declared.op_kind.OpFault.{OpFault}
-use Rattle.upp_limits.specs.upp_curve.specs.Curve.{SpecCurve, value_at}
-use Rattle.upp_limits.specs.upp_curve.specs.Curves.{IsCurve}
-use Rattle.upp_limits.specs.min_plus.specs.Functions.{zero_q, UpTo, IsFinite, IsNonnegative}
-use Rattle.upp_limits.specs.min_plus.specs.Pointwise.{excess}
+use Rattle.upp_curve.specs.Curve.{SpecCurve, value_at}
+use Rattle.upp_curve.specs.Curves.{IsCurve}
+use Rattle.min_plus.specs.Functions.{zero_q, UpTo, IsFinite, IsNonnegative}
+use Rattle.min_plus.specs.Pointwise.{excess}
 use Rattle.run_laws.specs.Cards.{whole}
-use Rattle.plain_operators.specs.curve_call.specs.Answers.{IsMadeBy}
-use Rattle.plain_operators.specs.curve_call.specs.Calls.{Applies, AppliesTo}
+use Rattle.curve_call.specs.Answers.{IsMadeBy}
+use Rattle.curve_call.specs.Calls.{Applies, AppliesTo}
 use Rattle.outcomes.specs.Calls.{goes_on, stops}
-use Rattle.plain_operators.specs.curve_call.proofs.Excesses.{finite_excess, excess_nonneg}
-use Rattle.plain_operators.specs.curve_call.proofs.InTurn.{applies_determined}
+use Rattle.curve_call.proofs.Excesses.{finite_excess, excess_nonneg}
+use Rattle.curve_call.proofs.InTurn.{applies_determined}
 use Rattle.outcomes.proofs.Calls.{then_determined}
 use Rattle.residuals.specs.calls.PriorityCalls.{LeavesPriority, MakesPriority, PriorityCurveServes, PriorityIsDetermined}
 use Rattle.residual_laws.specs.PriorityLaws.{priority_left, IsPriorityService}

@@ -1,19 +1,19 @@
 -- What a queue of a priority server is served grows from zero where the service does: what is left is at most the
 -- service, and so at most the service at any later time.
 use Rattle.std.specs.Prelude.{ℕ}
-use Rattle.upp_limits.specs.rational.specs.Rational.{ℚ, ◌≤ℚ◌}
-use Rattle.upp_limits.specs.rational.specs.Extended.{Ext, ◌≤ₑ◌}
-use Rattle.upp_limits.specs.rational.specs.declared.Extended.TheVariants.{Fin}
-use Rattle.upp_limits.specs.rational.proofs.ExtendedOrder.{le_ext_trans, same_le_ext}
-use Rattle.upp_limits.specs.rational.proofs.Laws.{le_refl}
-use Rattle.upp_limits.specs.upp_curve.specs.Curve.{value_at}
-use Rattle.upp_limits.specs.min_plus.specs.Functions.{zero_q, IsNonnegative}
-use Rattle.upp_limits.specs.min_plus.specs.Pointwise.{excess}
+use Rattle.rational.specs.Rational.{ℚ, ◌≤ℚ◌}
+use Rattle.rational.specs.Extended.{Ext, ◌≤ₑ◌}
+use Rattle.rational.specs.declared.Extended.TheVariants.{Fin}
+use Rattle.rational.proofs.ExtendedOrder.{le_ext_trans, same_le_ext}
+use Rattle.rational.proofs.Laws.{le_refl}
+use Rattle.upp_curve.specs.Curve.{value_at}
+use Rattle.min_plus.specs.Functions.{zero_q, IsNonnegative}
+use Rattle.min_plus.specs.Pointwise.{excess}
 use Rattle.run_laws.specs.Cards.{whole}
 use Rattle.run_laws.proofs.Sizes.{whole_nonneg}
-use Rattle.plain_operators.specs.curve_call.specs.Growth.{GrowsFromZero, IsBoundedFromZero}
-use Rattle.plain_operators.specs.curve_call.proofs.Excesses.{excess_nonneg, excess_nothing, excess_most}
-use Rattle.plain_operators.specs.curve_call.proofs.GrowingAnswers.{supremum_grows}
+use Rattle.curve_call.specs.Growth.{GrowsFromZero, IsBoundedFromZero}
+use Rattle.curve_call.proofs.Excesses.{excess_nonneg, excess_nothing, excess_most}
+use Rattle.curve_call.proofs.GrowingAnswers.{supremum_grows}
 use Rattle.residuals.specs.calls.PriorityGrowth.{PriorityServiceGrows, PriorityCurveGrows}
 use Rattle.residual_laws.specs.PriorityLaws.{priority_left}
 use Rattle.residuals.proofs.calls.PriorityCalls.{made_curve, service_is}

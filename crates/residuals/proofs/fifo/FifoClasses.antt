@@ -1,9 +1,9 @@
 -- One flow of a first in, first out queue is served by what the others leave, where the packets that arrive are of one
 -- queue and of two parts.
 use Rattle.std.specs.Prelude.{ℕ, pos, List}
-use Rattle.upp_limits.specs.rational.specs.Rational.{ℚ, int}
-use Rattle.upp_limits.specs.rational.specs.Extended.{Ext, ◌≤ₑ◌}
-use Rattle.upp_limits.specs.rational.specs.declared.Extended.TheVariants.{Fin}
+use Rattle.rational.specs.Rational.{ℚ, int}
+use Rattle.rational.specs.Extended.{Ext, ◌≤ₑ◌}
+use Rattle.rational.specs.declared.Extended.TheVariants.{Fin}
 use Rattle.run_laws.specs.Cards.{Class, ServerStep}
 use Rattle.run_laws.specs.Classes.{IsOfQueue, AreParts}
 use Rattle.run_laws.specs.Servers.{Server}

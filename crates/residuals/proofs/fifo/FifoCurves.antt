@@ -1,5 +1,5 @@
 -- The curve that the call makes serves the flow, since its values are what the others leave.
-use Rattle.upp_limits.specs.upp_curve.specs.Curve.{value_at}
+use Rattle.upp_curve.specs.Curve.{value_at}
 use Rattle.residuals.specs.fifo.Curves.{FifoCurveServes}
 use Rattle.residuals.proofs.fifo.FifoClasses.{fifo_serves}
 

@@ -1,16 +1,16 @@
 -- One flow of a first in, first out queue is served by what the others leave.
 use Rattle.std.specs.Prelude.{◌≡◌, ℕ, pos, Bool, true, false, ◌||◌, List}
 use Rattle.std.proofs.Common.{arith, ◌∙◌, refl, inl, inr, subst}
-use Rattle.upp_limits.specs.rational.specs.Rational.{ℚ, int, ◌+ℚ◌, ◌-ℚ◌, ◌≤ℚ◌, ◌<ℚ◌}
-use Rattle.upp_limits.specs.rational.specs.Extended.{Ext, ◌≤ₑ◌, ◌+ₑ◌}
-use Rattle.upp_limits.specs.rational.specs.declared.Extended.TheVariants.{Fin, Inf}
-use Rattle.upp_limits.specs.rational.proofs.Over.{le_q_out, le_q_in}
-use Rattle.upp_limits.specs.rational.proofs.MinMax.{max_q_left, max_q_right}
-use Rattle.upp_limits.specs.rational.proofs.Laws.{le_refl, le_trans, le_of_lt, le_or_lt}
-use Rattle.upp_limits.specs.rational.proofs.ExtendedOrder.{le_ext_refl, le_ext_trans, add_le_ext}
-use Rattle.upp_limits.specs.rational.proofs.Linear.{with2, with3, with4, with5, with6, with7, with8}
-use Rattle.upp_limits.specs.min_plus.specs.Pointwise.{excess}
-use Rattle.upp_limits.specs.min_plus.specs.Running.{left_after}
+use Rattle.rational.specs.Rational.{ℚ, int, ◌+ℚ◌, ◌-ℚ◌, ◌≤ℚ◌, ◌<ℚ◌}
+use Rattle.rational.specs.Extended.{Ext, ◌≤ₑ◌, ◌+ₑ◌}
+use Rattle.rational.specs.declared.Extended.TheVariants.{Fin, Inf}
+use Rattle.rational.proofs.Over.{le_q_out, le_q_in}
+use Rattle.rational.proofs.MinMax.{max_q_left, max_q_right}
+use Rattle.rational.proofs.Laws.{le_refl, le_trans, le_of_lt, le_or_lt}
+use Rattle.rational.proofs.ExtendedOrder.{le_ext_refl, le_ext_trans, add_le_ext}
+use Rattle.rational.proofs.Linear.{with2, with3, with4, with5, with6, with7, with8}
+use Rattle.min_plus.specs.Pointwise.{excess}
+use Rattle.min_plus.specs.Running.{left_after}
 use Rattle.run_laws.specs.Cards.{size, Class, ServerStep}
 use Rattle.run_laws.proofs.Always.{IsAlwaysOfQueue, IsAlwaysPart, AreAlwaysParts}
 use Rattle.run_laws.specs.Servers.{Server}
@@ -26,7 +26,7 @@ use Rattle.run_laws.proofs.Orders.{left_worked}
 use Rattle.run_laws.proofs.Sizes.{size_pos}
 use Rattle.run_laws.proofs.Oldest.{oldest, Oldest}
 use Rattle.residuals.specs.fifo.Laws.{IsResidual}
-use Rattle.plain_operators.specs.curve_call.proofs.FiniteAnswers.{late_left}
+use Rattle.curve_call.proofs.FiniteAnswers.{late_left}
 
 -- ---- the parts
 left_is_part : (Q f g : Class) → AreAlwaysParts Q f g → IsAlwaysPart f Q

@@ -2,12 +2,12 @@
 use Rattle.std.specs.Prelude.{◌≡◌, ◌≤◌, ◌<◌, ℕ, List, length, get_or}
 use Rattle.std.proofs.Common.{sym, subst}
 use Rattle.std.proofs.lemmas.List.Elements.{All-get_or}
-use Rattle.upp_limits.specs.rational.specs.Rational.{ℚ}
-use Rattle.upp_limits.specs.rational.specs.Extended.{Ext}
+use Rattle.rational.specs.Rational.{ℚ}
+use Rattle.rational.specs.Extended.{Ext}
 use Rattle.run_laws.specs.Cards.{of_queue}
 use Rattle.run_laws.specs.Serves.{Serves}
 use Rattle.run_laws.proofs.FifoQueue.{fifo_queue_is_served}
-use Rattle.plain_operators.specs.curve_call.specs.Growth.{GrowsFromZero}
+use Rattle.curve_call.specs.Growth.{GrowsFromZero}
 use Rattle.residual_laws.proofs.PriorityLaw.{priority_serves}
 use Rattle.residual_laws.proofs.DrrLaw.{drr_serves}
 use Rattle.residuals.specs.calls.DrrCalls.{IsQuantum, AreQueues}

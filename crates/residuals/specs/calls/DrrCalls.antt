@@ -2,18 +2,18 @@
 -- of the server's service, and that less what is owed. (Bouillard, Boyer and Le Corronc; the order of the calls and
 -- the limits are own choice.)
 use Rattle.std.specs.Prelude.{◌≡◌, ◌≤◌, ◌<◌, ◌^◌, ℕ, List, length, get_or, sum, All, Result, Ok}
-use Rattle.upp_limits.specs.rational.specs.Rational.{ℚ}
+use Rattle.rational.specs.Rational.{ℚ}
 use Rattle.upp_limits.specs.declared.op_kind.OpKind.TheVariants.{Scale, PosMinus}
 use Rattle.upp_limits.specs.declared.op_kind.OpFault.{OpFault}
-use Rattle.upp_limits.specs.upp_curve.specs.Curve.{SpecCurve, value_at}
+use Rattle.upp_curve.specs.Curve.{SpecCurve, value_at}
 use Rattle.run_laws.specs.Cards.{of_queue, ServerStep}
 use Rattle.run_laws.specs.Servers.{Drr, Server}
 use Rattle.run_laws.specs.Allows.{IsLawfulView}
 use Rattle.run_laws.specs.Premises.{KeepsService, KeepsSizes, IsZeroAtStart}
 use Rattle.run_laws.specs.Serves.{Serves}
-use Rattle.plain_operators.specs.curve_call.specs.Calls.{AppliesTo}
+use Rattle.curve_call.specs.Calls.{AppliesTo}
 use Rattle.outcomes.specs.Calls.{Then}
-use Rattle.plain_operators.specs.curve_call.specs.Determined.{IsDetermined}
+use Rattle.curve_call.specs.Determined.{IsDetermined}
 use Rattle.residual_laws.specs.DrrLaws.{share, owed}
 
 -- ---- quanta

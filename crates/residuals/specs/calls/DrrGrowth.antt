@@ -1,10 +1,10 @@
 -- What a queue of a deficit round robin server is served has the shape of a service curve, where the service has it.
 -- (Bouillard, Boyer and Le Corronc.)
 use Rattle.std.specs.Prelude.{◌≡◌, ◌≤◌, ◌<◌, ℕ, List, length, get_or, Ok}
-use Rattle.upp_limits.specs.rational.specs.Rational.{ℚ}
-use Rattle.upp_limits.specs.rational.specs.Extended.{Ext}
-use Rattle.upp_limits.specs.upp_curve.specs.Curve.{SpecCurve, value_at}
-use Rattle.plain_operators.specs.curve_call.specs.Growth.{GrowsFromZero, IsGrowingCurve}
+use Rattle.rational.specs.Rational.{ℚ}
+use Rattle.rational.specs.Extended.{Ext}
+use Rattle.upp_curve.specs.Curve.{SpecCurve, value_at}
+use Rattle.curve_call.specs.Growth.{GrowsFromZero, IsGrowingCurve}
 use Rattle.residuals.specs.calls.DrrCalls.{AreQueues, MakesDrr}
 use Rattle.residual_laws.specs.DrrLaws.{IsDrrService}
 

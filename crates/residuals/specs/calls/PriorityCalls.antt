@@ -2,18 +2,18 @@
 -- that less one packet of the lower queues, and its running supremum. (Le Boudec and Thiran, non-preemptive priority;
 -- the order of the calls is own choice.)
 use Rattle.std.specs.Prelude.{◌≡◌, ℕ, List, Result, Ok}
-use Rattle.upp_limits.specs.rational.specs.Rational.{ℚ}
+use Rattle.rational.specs.Rational.{ℚ}
 use Rattle.upp_limits.specs.declared.op_kind.OpKind.TheVariants.{PosDiff, PosMinus, RunSup}
 use Rattle.upp_limits.specs.declared.op_kind.OpFault.{OpFault}
-use Rattle.upp_limits.specs.upp_curve.specs.Curve.{SpecCurve, value_at}
+use Rattle.upp_curve.specs.Curve.{SpecCurve, value_at}
 use Rattle.run_laws.specs.Cards.{whole, of_queue, before_queue, after_queue, ServerStep}
 use Rattle.run_laws.specs.Servers.{Priority, Server}
 use Rattle.run_laws.specs.Allows.{IsLawfulView}
 use Rattle.run_laws.specs.Premises.{KeepsArrivals, KeepsService, KeepsSizes, IsZeroAtStart}
 use Rattle.run_laws.specs.Serves.{Serves}
-use Rattle.plain_operators.specs.curve_call.specs.Calls.{Applies, AppliesTo}
+use Rattle.curve_call.specs.Calls.{Applies, AppliesTo}
 use Rattle.outcomes.specs.Calls.{Then}
-use Rattle.plain_operators.specs.curve_call.specs.Determined.{IsDetermined}
+use Rattle.curve_call.specs.Determined.{IsDetermined}
 
 -- the first two calls
 abbrev pub LeavesPriority : SpecCurve → SpecCurve → ℕ → Result SpecCurve OpFault → Type 0

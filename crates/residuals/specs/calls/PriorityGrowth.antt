@@ -1,11 +1,11 @@
 -- What a queue of a priority server is served has the shape of a service curve, where the service has it and the
 -- higher queues' curve is nowhere below 0. (Le Boudec and Thiran, non-preemptive priority.)
 use Rattle.std.specs.Prelude.{ℕ, Ok}
-use Rattle.upp_limits.specs.rational.specs.Rational.{ℚ}
-use Rattle.upp_limits.specs.rational.specs.Extended.{Ext}
-use Rattle.upp_limits.specs.upp_curve.specs.Curve.{SpecCurve, value_at}
-use Rattle.upp_limits.specs.min_plus.specs.Functions.{IsNonnegative}
-use Rattle.plain_operators.specs.curve_call.specs.Growth.{GrowsFromZero, IsGrowingCurve}
+use Rattle.rational.specs.Rational.{ℚ}
+use Rattle.rational.specs.Extended.{Ext}
+use Rattle.upp_curve.specs.Curve.{SpecCurve, value_at}
+use Rattle.min_plus.specs.Functions.{IsNonnegative}
+use Rattle.curve_call.specs.Growth.{GrowsFromZero, IsGrowingCurve}
 use Rattle.residuals.specs.calls.PriorityCalls.{MakesPriority}
 use Rattle.residual_laws.specs.PriorityLaws.{IsPriorityService}
 

@@ -1,17 +1,17 @@
 -- The curve that serves a flow of a first in, first out queue, as a call makes it. (Le Boudec and Thiran, chapter 6.)
 use Rattle.std.specs.Prelude.{ℕ, pos, List, Ok}
-use Rattle.upp_limits.specs.rational.specs.Rational.{ℚ, int}
-use Rattle.upp_limits.specs.rational.specs.Extended.{Ext, ◌≤ₑ◌}
-use Rattle.upp_limits.specs.rational.specs.declared.Extended.TheVariants.{Fin}
+use Rattle.rational.specs.Rational.{ℚ, int}
+use Rattle.rational.specs.Extended.{Ext, ◌≤ₑ◌}
+use Rattle.rational.specs.declared.Extended.TheVariants.{Fin}
 use Rattle.upp_limits.specs.declared.op_kind.OpKind.TheVariants.{FifoLeft}
-use Rattle.upp_limits.specs.upp_curve.specs.Curve.{SpecCurve, value_at}
+use Rattle.upp_curve.specs.Curve.{SpecCurve, value_at}
 use Rattle.run_laws.specs.Cards.{Class, ServerStep}
 use Rattle.run_laws.specs.Classes.{IsOfQueue, AreParts}
 use Rattle.run_laws.specs.Servers.{Server}
 use Rattle.run_laws.specs.Allows.{IsLawfulView}
 use Rattle.run_laws.specs.Premises.{KeepsArrivals}
 use Rattle.run_laws.specs.Serves.{Serves}
-use Rattle.plain_operators.specs.curve_call.specs.Calls.{Applies}
+use Rattle.curve_call.specs.Calls.{Applies}
 
 -- the queue Q is the flow f and the others, which keep the curve `cross`; beta serves Q: the curve c that the call
 -- makes of beta and cross serves f

@@ -1,14 +1,14 @@
 -- What a flow of a first in, first out queue is served has the shape of a service curve, whatever the other flows'
 -- curve: the service that is left from need only be finite. (Le Boudec and Thiran, section 6.4.)
 use Rattle.std.specs.Prelude.{Ok}
-use Rattle.upp_limits.specs.rational.specs.Rational.{ℚ}
-use Rattle.upp_limits.specs.rational.specs.Extended.{Ext, ◌≤ₑ◌}
-use Rattle.upp_limits.specs.rational.specs.declared.Extended.TheVariants.{Fin}
+use Rattle.rational.specs.Rational.{ℚ}
+use Rattle.rational.specs.Extended.{Ext, ◌≤ₑ◌}
+use Rattle.rational.specs.declared.Extended.TheVariants.{Fin}
 use Rattle.upp_limits.specs.declared.op_kind.OpKind.TheVariants.{FifoLeft}
-use Rattle.upp_limits.specs.upp_curve.specs.Curve.{SpecCurve, value_at}
-use Rattle.upp_limits.specs.min_plus.specs.Functions.{zero_q, IsFinite}
-use Rattle.plain_operators.specs.curve_call.specs.Calls.{Applies}
-use Rattle.plain_operators.specs.curve_call.specs.Growth.{GrowsFromZero, IsGrowingCurve}
+use Rattle.upp_curve.specs.Curve.{SpecCurve, value_at}
+use Rattle.min_plus.specs.Functions.{zero_q, IsFinite}
+use Rattle.curve_call.specs.Calls.{Applies}
+use Rattle.curve_call.specs.Growth.{GrowsFromZero, IsGrowingCurve}
 use Rattle.residuals.specs.fifo.Laws.{IsResidual}
 
 -- R is what β leaves of the others' curve

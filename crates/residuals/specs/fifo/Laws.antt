@@ -1,10 +1,10 @@
 -- What a flow of a first in, first out queue is served. (Le Boudec and Thiran, section 6.4. Any theta from 0 on is
 -- right; the horizontal deviation of the others' curve and the service is this project's choice.)
 use Rattle.std.specs.Prelude.{ℕ, pos, List}
-use Rattle.upp_limits.specs.rational.specs.Rational.{ℚ, int, ◌≤ℚ◌}
-use Rattle.upp_limits.specs.rational.specs.Extended.{Ext, ◌≤ₑ◌}
-use Rattle.upp_limits.specs.rational.specs.declared.Extended.TheVariants.{Fin}
-use Rattle.upp_limits.specs.min_plus.specs.Running.{IsFifoLeftover}
+use Rattle.rational.specs.Rational.{ℚ, int, ◌≤ℚ◌}
+use Rattle.rational.specs.Extended.{Ext, ◌≤ₑ◌}
+use Rattle.rational.specs.declared.Extended.TheVariants.{Fin}
+use Rattle.min_plus.specs.Running.{IsFifoLeftover}
 use Rattle.run_laws.specs.Cards.{Class, ServerStep}
 use Rattle.run_laws.specs.Classes.{IsOfQueue, AreParts}
 use Rattle.run_laws.specs.Servers.{Server}

@@ -1,15 +1,15 @@
 -- What is left to a queue serves it, and has the shape of a service curve where the server's service has it: one law for
 -- all disciplines. (Le Boudec and Thiran; Bouillard, Boyer and Le Corronc.)
 use Rattle.std.specs.Prelude.{◌≡◌, ℕ, List, get_or}
-use Rattle.upp_limits.specs.rational.specs.Rational.{ℚ}
-use Rattle.upp_limits.specs.rational.specs.Extended.{Ext}
-use Rattle.upp_limits.specs.min_plus.specs.Functions.{IsNonnegative}
+use Rattle.rational.specs.Rational.{ℚ}
+use Rattle.rational.specs.Extended.{Ext}
+use Rattle.min_plus.specs.Functions.{IsNonnegative}
 use Rattle.run_laws.specs.Cards.{of_queue, before_queue, after_queue, ServerStep}
 use Rattle.run_laws.specs.Servers.{Fifo, Priority, Drr, Server}
 use Rattle.run_laws.specs.Allows.{IsLawfulView}
 use Rattle.run_laws.specs.Premises.{KeepsArrivals, KeepsService, KeepsSizes, IsZeroAtStart}
 use Rattle.run_laws.specs.Serves.{Serves}
-use Rattle.plain_operators.specs.curve_call.specs.Growth.{GrowsFromZero}
+use Rattle.curve_call.specs.Growth.{GrowsFromZero}
 use Rattle.residual_laws.specs.PriorityLaws.{IsPriorityService}
 use Rattle.residual_laws.specs.DrrLaws.{IsDrrService}
 use Rattle.residuals.specs.left.Left.{Left, all, above, share, EachBefore, IsFit}

@@ -1,13 +1,13 @@
 -- What a service is worth to whole packets has the shape of a service curve. (Le Boudec and Thiran, packetisers.)
 use Rattle.std.specs.Prelude.{Ok}
-use Rattle.upp_limits.specs.rational.specs.Rational.{ℚ, ◌≤ℚ◌}
-use Rattle.upp_limits.specs.rational.specs.Extended.{Ext}
+use Rattle.rational.specs.Rational.{ℚ, ◌≤ℚ◌}
+use Rattle.rational.specs.Extended.{Ext}
 use Rattle.upp_limits.specs.declared.op_kind.OpKind.TheVariants.{PosMinus}
-use Rattle.upp_limits.specs.upp_curve.specs.Curve.{SpecCurve, value_at}
-use Rattle.upp_limits.specs.min_plus.specs.Functions.{zero_q}
-use Rattle.upp_limits.specs.min_plus.specs.Pointwise.{IsPositiveMinus}
-use Rattle.plain_operators.specs.curve_call.specs.Calls.{AppliesTo}
-use Rattle.plain_operators.specs.curve_call.specs.Growth.{GrowsFromZero, IsGrowingCurve}
+use Rattle.upp_curve.specs.Curve.{SpecCurve, value_at}
+use Rattle.min_plus.specs.Functions.{zero_q}
+use Rattle.min_plus.specs.Pointwise.{IsPositiveMinus}
+use Rattle.curve_call.specs.Calls.{AppliesTo}
+use Rattle.curve_call.specs.Growth.{GrowsFromZero, IsGrowingCurve}
 
 -- R is β less l bits
 abbrev pub PacketServiceGrows : Type 0

@@ -1,14 +1,14 @@
 -- The curve that serves whole packets, as a call makes it. (Le Boudec and Thiran, packetisers.)
 use Rattle.std.specs.Prelude.{ℕ, List, Ok}
-use Rattle.upp_limits.specs.rational.specs.Rational.{ℚ}
+use Rattle.rational.specs.Rational.{ℚ}
 use Rattle.upp_limits.specs.declared.op_kind.OpKind.TheVariants.{PosMinus}
-use Rattle.upp_limits.specs.upp_curve.specs.Curve.{SpecCurve, value_at}
+use Rattle.upp_curve.specs.Curve.{SpecCurve, value_at}
 use Rattle.run_laws.specs.Cards.{Class, whole, ServerStep}
 use Rattle.run_laws.specs.Servers.{Server}
 use Rattle.run_laws.specs.Allows.{IsLawfulView}
 use Rattle.run_laws.specs.Premises.{KeepsSizes}
 use Rattle.run_laws.specs.Serves.{Serves, ServesPackets}
-use Rattle.plain_operators.specs.curve_call.specs.Calls.{AppliesTo}
+use Rattle.curve_call.specs.Calls.{AppliesTo}
 
 -- where β serves a class whose packets have at most so many bits, the curve c that the call makes of β and that
 -- number serves its whole packets: for each time t up to the run's end there is an s at t or before with at least

@@ -1,21 +1,21 @@
 //! The curve of a deficit round robin queue's service.
 
 ghost use Rattle.std.specs.Prelude.{◌+◌, ◌-◌, ◌<◌, ◌≤◌, length, IfOk, IfErr};
-ghost use Rattle.upp_limits.specs.upp_curve.specs.Curve.{value_at};
-ghost use Rattle.upp_limits.specs.min_plus.specs.Functions.{IsFinite};
+ghost use Rattle.upp_curve.specs.Curve.{value_at};
+ghost use Rattle.min_plus.specs.Functions.{IsFinite};
 ghost use Rattle.residuals.specs.calls.DrrCalls.{AreQueues, MakesDrr};
 ghost use Rattle.residual_laws.specs.DrrLaws.{IsDrrService};
 ghost use Rattle.residuals.specs.calls.InTurn.{DrrRefused};
 ghost use Rattle.outcomes.specs.Spending.{Counts};
 
 use crate::drr::turn::turn_of;
+use curve_call::intact;
 use outcomes::Steps;
-use plain_operators::curve_call::intact;
 use plain_operators::pointwise::{pos_minus, scale};
 use std::alloc::Global;
 use std::sync::ledger::Ledger;
+use upp_curve::Curve;
 use upp_limits::OpFault;
-use upp_limits::upp_curve::Curve;
 
 /// The service of one queue of a deficit round robin server whose curve is `beta`: with the queue's quantum Q, the
 /// sum F of the quanta, the queue's longest packet l and the sum L of all queues' longest packets, at each time the

@@ -1,11 +1,11 @@
 //! The two numbers of a queue in a round.
 
 ghost use Rattle.std.specs.Prelude.{◌≡◌, ◌+◌, ◌-◌, ◌*◌, ◌<◌, ◌≤◌, ◌^◌, length, sum};
-ghost use Rattle.upp_limits.specs.rational.specs.Rational.{◌/ℚ◌};
+ghost use Rattle.rational.specs.Rational.{◌/ℚ◌};
 ghost use Rattle.run_laws.specs.Cards.{whole};
 ghost use Rattle.residuals.specs.calls.DrrCalls.{AreQueues, share_in, owed_in};
 
-use upp_limits::fraction128::Frac;
+use fraction128::Frac;
 
 /// What a queue gets of each bit of service, and how many bits are taken from that first.
 #[derive(Debug, Clone, Copy)]

@@ -2,20 +2,20 @@
 
 ghost use Rattle.std.specs.Prelude.{◌≡◌, ◌+◌, IfOk};
 ghost use Rattle.upp_limits.specs.declared.op_kind.OpKind.TheVariants.{FifoLeft};
-ghost use Rattle.upp_limits.specs.upp_curve.specs.Curve.{value_at};
-ghost use Rattle.upp_limits.specs.min_plus.specs.Deviations.{IsHorizontalDeviation};
-ghost use Rattle.upp_limits.specs.min_plus.specs.Functions.{IsFinite, IsRising, IsNonnegative};
-ghost use Rattle.plain_operators.specs.curve_call.specs.Calls.{Applies};
+ghost use Rattle.upp_curve.specs.Curve.{value_at};
+ghost use Rattle.min_plus.specs.Deviations.{IsHorizontalDeviation};
+ghost use Rattle.min_plus.specs.Functions.{IsFinite, IsRising, IsNonnegative};
+ghost use Rattle.curve_call.specs.Calls.{Applies};
 ghost use Rattle.residuals.specs.fifo.Laws.{IsResidual};
 
+use curve_call::intact;
+use fraction128::Ext;
 use outcomes::Steps;
-use plain_operators::curve_call::intact;
 use plain_operators::running::fifo_left;
 use std::alloc::Global;
 use std::sync::ledger::Ledger;
+use upp_curve::Curve;
 use upp_limits::OpFault;
-use upp_limits::fraction128::Ext;
-use upp_limits::upp_curve::Curve;
 
 /// The service of a flow of a first in, first out queue that is served by `beta`, where the other flows of the queue
 /// keep the curve `cross`: what first in, first out leaves of beta, by the wait `theta` (Le Boudec and Thiran, chapter

@@ -1,21 +1,21 @@
 //! The curve of whole packets.
 
 ghost use Rattle.std.specs.Prelude.{◌≡◌, ◌+◌, IfOk};
-ghost use Rattle.upp_limits.specs.rational.specs.Rational.{ℚ, ◌≤ℚ◌};
+ghost use Rattle.rational.specs.Rational.{ℚ, ◌≤ℚ◌};
 ghost use Rattle.upp_limits.specs.declared.op_kind.OpKind.TheVariants.{PosMinus};
-ghost use Rattle.upp_limits.specs.upp_curve.specs.Curve.{value_at};
-ghost use Rattle.upp_limits.specs.min_plus.specs.Functions.{zero_q, IsFinite};
-ghost use Rattle.upp_limits.specs.min_plus.specs.Pointwise.{IsPositiveMinus};
-ghost use Rattle.plain_operators.specs.curve_call.specs.Calls.{AppliesTo};
+ghost use Rattle.upp_curve.specs.Curve.{value_at};
+ghost use Rattle.min_plus.specs.Functions.{zero_q, IsFinite};
+ghost use Rattle.min_plus.specs.Pointwise.{IsPositiveMinus};
+ghost use Rattle.curve_call.specs.Calls.{AppliesTo};
 
+use curve_call::intact;
+use fraction128::Frac;
 use outcomes::Steps;
-use plain_operators::curve_call::intact;
 use plain_operators::pointwise::pos_minus;
 use std::alloc::Global;
 use std::sync::ledger::Ledger;
+use upp_curve::Curve;
 use upp_limits::OpFault;
-use upp_limits::fraction128::Frac;
-use upp_limits::upp_curve::Curve;
 
 /// The service of whole packets by a server whose curve is `beta`: at each time the greater of 0 and beta less `l`,
 /// the bits of the longest packet (Le Boudec and Thiran, packetisers). beta is finite. One operator, one step; it is

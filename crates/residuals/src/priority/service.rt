@@ -1,22 +1,22 @@
 //! The curve of a priority queue's service.
 
 ghost use Rattle.std.specs.Prelude.{◌+◌, ◌-◌, ◌≤◌, IfOk, IfErr};
-ghost use Rattle.upp_limits.specs.upp_curve.specs.Curve.{value_at};
-ghost use Rattle.upp_limits.specs.min_plus.specs.Functions.{IsFinite};
+ghost use Rattle.upp_curve.specs.Curve.{value_at};
+ghost use Rattle.min_plus.specs.Functions.{IsFinite};
 ghost use Rattle.residuals.specs.calls.PriorityCalls.{LeavesPriority, MakesPriority};
 ghost use Rattle.residual_laws.specs.PriorityLaws.{IsPriorityService};
 ghost use Rattle.residuals.specs.calls.InTurn.{LeftRefused, PriorityRefused};
 ghost use Rattle.outcomes.specs.Spending.{Counts};
 
+use curve_call::intact;
 use outcomes::Steps;
-use plain_operators::curve_call::intact;
 use plain_operators::pointwise::{pos_diff, pos_minus};
 use plain_operators::running::run_sup;
 use run_laws::whole;
 use std::alloc::Global;
 use std::sync::ledger::Ledger;
+use upp_curve::Curve;
 use upp_limits::OpFault;
-use upp_limits::upp_curve::Curve;
 // What the service has above the higher queues' curve, less one packet of the lower queues. Its first curve is let go
 // here.
 fn priority_left<L: Ledger>(

@@ -2,23 +2,23 @@
 use Rattle.std.proofs.Common.{◌≡◌, ℕ, ◌<◌, List, length, refl, sym, ap, ◌∙◌, subst, arith, inl, inr, ◌⊎◌, Some, None}
 use Rattle.std.specs.Prelude.{Option}
 use Rattle.std.proofs.lemmas.Bool.{cases_eq}
-use Rattle.upp_limits.specs.rational.specs.Rational.{ℚ, ◌+ℚ◌, ◌≤ℚ◌, ◌<ℚ◌}
-use Rattle.upp_limits.specs.rational.proofs.Laws.{le_of_not_lt, lt_of_not_le, not_le_of_lt}
-use Rattle.net_model.specs.run_laws.specs.declared.steps.Step.{Step}
-use Rattle.net_model.specs.run_laws.specs.declared.steps.Step.TheVariants.{Enter, Reach, Work, Leave, Visit}
-use Rattle.net_model.specs.run_laws.specs.Cards.{Card, whole, size}
-use Rattle.net_model.specs.run_laws.specs.Servers.{Under}
-use Rattle.net_model.specs.run_laws.specs.Allows.{IsInTime, KeepsPace, MayArrive, next_card, pick}
-use Rattle.net_model.specs.run_laws.specs.Routes.{Routes, route_of, server_at, queue_at, PassesServer, first_server}
-use Rattle.net_model.specs.run_laws.specs.Views.{Entry, entry_of, hops_of, card_of, server_of}
-use Rattle.net_model.specs.run_laws.specs.Lawful.{Due, RunState, state_at, AllowsInRun}
-use Rattle.net_model.specs.run_laws.proofs.Entries.{entry_last}
-use Rattle.net_model.specs.run_laws.proofs.Heads.{same_some}
+use Rattle.rational.specs.Rational.{ℚ, ◌+ℚ◌, ◌≤ℚ◌, ◌<ℚ◌}
+use Rattle.rational.proofs.Laws.{le_of_not_lt, lt_of_not_le, not_le_of_lt}
+use Rattle.run_laws.specs.declared.steps.Step.{Step}
+use Rattle.run_laws.specs.declared.steps.Step.TheVariants.{Enter, Reach, Work, Leave, Visit}
+use Rattle.run_laws.specs.Cards.{Card, whole, size}
+use Rattle.run_laws.specs.Servers.{Under}
+use Rattle.run_laws.specs.Allows.{IsInTime, KeepsPace, MayArrive, next_card, pick}
+use Rattle.run_laws.specs.Routes.{Routes, route_of, server_at, queue_at, PassesServer, first_server}
+use Rattle.run_laws.specs.Views.{Entry, entry_of, hops_of, card_of, server_of}
+use Rattle.run_laws.specs.Lawful.{Due, RunState, state_at, AllowsInRun}
+use Rattle.run_laws.proofs.Entries.{entry_last}
+use Rattle.run_laws.proofs.Heads.{same_some}
 use Rattle.net_model.specs.stated_runs.DueSteps.{step_time}
 use Rattle.net_model.proofs.stated_runs.Lists.{In, contains_in, in_contains}
 use Rattle.net_model.proofs.stated_runs.GoodServers.{IsCardAt}
 use Rattle.net_model.proofs.stated_runs.Routed.{place_of, first_passes}
-use Rattle.net_model.specs.run_laws.proofs.Deciding.{may_visit}
+use Rattle.run_laws.proofs.Deciding.{may_visit}
 use Rattle.run_check.specs.declared.broken_laws.law.Law.{Law}
 use Rattle.run_check.specs.declared.broken_laws.law.Law.TheVariants.{L1, L2, L3, L4, L5, L6, L7, L8, L9}
 use Rattle.run_check.specs.declared.broken_laws.place.Place.{Place}
@@ -194,7 +194,7 @@ module _ (net : Routes) (end : ℚ) (before : List Step) (r : RunState) (tracks 
         let here = go c t (state_at r s).under refl may in
         record { known = record { has_entered = here.entered_one; passes = here.passes }; known_server = k; at_server = (timed (Leave s p t) (n L1), may) }
       where
-        go : (c : Card) (t : ℚ) (o : Option Under) → (state_at r s).under ≡ o → Rattle.net_model.specs.run_laws.specs.Allows.MayLeave o c t → IsCardAt net r.entered s c
+        go : (c : Card) (t : ℚ) (o : Option Under) → (state_at r s).under ≡ o → Rattle.run_laws.specs.Allows.MayLeave o c t → IsCardAt net r.entered s c
         go c t None e m = absurd m
         go c t (Some u) e m = subst (IsCardAt net r.entered s) m.is_card (under_here net before r tracks h s u e).card
 

@@ -2,13 +2,13 @@
 use Rattle.std.proofs.Common.{◌≡◌, List, [], ◌∷◌, sym, ap, ◌∙◌, subst, inl, inr, Some, None}
 use Rattle.std.specs.Prelude.{Option}
 use Rattle.std.proofs.lemmas.Bool.{cases_eq}
-use Rattle.upp_limits.specs.rational.specs.Rational.{ℚ, ◌<ℚ◌}
-use Rattle.upp_limits.specs.rational.proofs.Laws.{le_or_lt, antisym, lt_irrefl}
-use Rattle.net_model.specs.run_laws.specs.Cards.{Card, size}
-use Rattle.net_model.specs.run_laws.specs.Servers.{Under, done}
-use Rattle.net_model.specs.run_laws.specs.Allows.{MayLeave}
-use Rattle.net_model.specs.run_laws.specs.Lawful.{Due}
-use Rattle.net_model.specs.run_laws.proofs.Deciding.{Decided}
+use Rattle.rational.specs.Rational.{ℚ, ◌<ℚ◌}
+use Rattle.rational.proofs.Laws.{le_or_lt, antisym, lt_irrefl}
+use Rattle.run_laws.specs.Cards.{Card, size}
+use Rattle.run_laws.specs.Servers.{Under, done}
+use Rattle.run_laws.specs.Allows.{MayLeave}
+use Rattle.run_laws.specs.Lawful.{Due}
+use Rattle.run_laws.proofs.Deciding.{Decided}
 use Rattle.net_model.proofs.stated_runs.Lists.{In}
 
 -- what cannot fail holds

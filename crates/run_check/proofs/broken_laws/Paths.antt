@@ -2,8 +2,8 @@
 use Rattle.std.proofs.Common.{◌≡◌, ℕ, List, [], ◌∷◌, refl, sym, ap, ◌∙◌, subst, inl, inr, Some, None, true, false}
 use Rattle.std.specs.Prelude.{◌≢◌, Bool, ◌==◌, if◌then◌else◌}
 use Rattle.std.proofs.lemmas.Bool.{cases_eq, eq-eqb, ne_eqb}
-use Rattle.net_model.specs.run_laws.specs.Routes.{Hop, PassesServer, first_of, first_server, server_after}
-use Rattle.net_model.specs.run_laws.proofs.Entries.{passes_first, passes_next}
+use Rattle.run_laws.specs.Routes.{Hop, PassesServer, first_of, first_server, server_after}
+use Rattle.run_laws.proofs.Entries.{passes_first, passes_next}
 use Rattle.run_check.specs.broken_laws.Recorded.{PassOnce}
 use Rattle.run_check.specs.broken_laws.Tracked.{is_on, is_before}
 

@@ -3,20 +3,20 @@ use Rattle.std.proofs.Common.{◌≡◌, ℕ, ◌<◌, ◌≤◌, ◌+◌, List,
 use Rattle.std.specs.Prelude.{Option, ◌≢◌, pos, Bool, ◌==◌, ◌&&◌}
 use Rattle.std.proofs.lemmas.Bool.{cases_eq, eq-eqb, ne_eqb}
 use Rattle.std.proofs.lemmas.List.{length_push, length-set}
-use Rattle.upp_limits.specs.rational.specs.Rational.{ℚ, int, ◌+ℚ◌}
-use Rattle.net_model.specs.run_laws.specs.declared.steps.Step.{Step}
-use Rattle.net_model.specs.run_laws.specs.declared.steps.Step.TheVariants.{Enter, Reach, Work, Leave, Visit}
-use Rattle.net_model.specs.run_laws.specs.Cards.{Card, whole}
-use Rattle.net_model.specs.run_laws.specs.Counts.{when}
-use Rattle.net_model.specs.run_laws.specs.Servers.{Under, done, done_so_far, head_of, without_head}
-use Rattle.net_model.specs.run_laws.specs.Next.{next_under}
-use Rattle.net_model.specs.run_laws.specs.Allows.{MayLeave, IsDone, next_card}
-use Rattle.net_model.specs.run_laws.specs.Routes.{Routes, route_of, server_at, link_at, queue_at, PassesServer, first_server, server_after}
-use Rattle.net_model.specs.run_laws.specs.Views.{Entry, entry_of, hops_of, card_of, server_of, seen}
-use Rattle.net_model.specs.run_laws.specs.Lawful.{Due, RunState, without, sent, state_at, next_run, AllowsInRun}
-use Rattle.net_model.specs.run_laws.proofs.Entries.{entry_before, entry_last, passes_first, passes_next}
-use Rattle.net_model.specs.run_laws.proofs.Heads.{same_some, pick_is_head}
-use Rattle.net_model.specs.run_laws.proofs.States.{IsSound, sound_next, leaving}
+use Rattle.rational.specs.Rational.{ℚ, int, ◌+ℚ◌}
+use Rattle.run_laws.specs.declared.steps.Step.{Step}
+use Rattle.run_laws.specs.declared.steps.Step.TheVariants.{Enter, Reach, Work, Leave, Visit}
+use Rattle.run_laws.specs.Cards.{Card, whole}
+use Rattle.run_laws.specs.Counts.{when}
+use Rattle.run_laws.specs.Servers.{Under, done, done_so_far, head_of, without_head}
+use Rattle.run_laws.specs.Next.{next_under}
+use Rattle.run_laws.specs.Allows.{MayLeave, IsDone, next_card}
+use Rattle.run_laws.specs.Routes.{Routes, route_of, server_at, link_at, queue_at, PassesServer, first_server, server_after}
+use Rattle.run_laws.specs.Views.{Entry, entry_of, hops_of, card_of, server_of, seen}
+use Rattle.run_laws.specs.Lawful.{Due, RunState, without, sent, state_at, next_run, AllowsInRun}
+use Rattle.run_laws.proofs.Entries.{entry_before, entry_last, passes_first, passes_next}
+use Rattle.run_laws.proofs.Heads.{same_some, pick_is_head}
+use Rattle.run_laws.proofs.States.{IsSound, sound_next, leaving}
 use Rattle.net_model.proofs.stated_runs.Lists.{In, in_left, in_either, in_rest, in_kept, head_in, in_without, in_without_other, contains_in}
 use Rattle.net_model.proofs.stated_runs.GoodServers.{card_extends}
 use Rattle.net_model.proofs.stated_runs.Good.{extends_push}
@@ -406,12 +406,12 @@ module _ (net : Routes) (end : ℚ) (before : List Step) (r : RunState) (tracks 
       go (Some u) e m = (u, e, m)
 
   -- a packet that has left its server has left that one too, and no other
-  left_here : (p s : ℕ) (u : ℚ) (hops : List Rattle.net_model.specs.run_laws.specs.Routes.Hop) (o : Option ℕ) → PassOnce hops → PassesServer s hops → server_after s hops ≡ o
+  left_here : (p s : ℕ) (u : ℚ) (hops : List Rattle.run_laws.specs.Routes.Hop) (o : Option ℕ) → PassOnce hops → PassesServer s hops → server_after s hops ≡ o
       → has_left (place_after o u) hops s ≡ true
   left_here p s u hops None once passes e = passes_on s hops passes
   left_here p s u hops (Some g) once passes e = before_after s g hops once e
 
-  left_other : (p s j : ℕ) (u : ℚ) (hops : List Rattle.net_model.specs.run_laws.specs.Routes.Hop) (o : Option ℕ) → PassOnce hops → PassesServer s hops → server_after s hops ≡ o
+  left_other : (p s j : ℕ) (u : ℚ) (hops : List Rattle.run_laws.specs.Routes.Hop) (o : Option ℕ) → PassOnce hops → PassesServer s hops → server_after s hops ≡ o
       → j ≢ s → has_left (At s) hops j ≡ has_left (place_after o u) hops j
   left_other p s j u hops None once passes e n = before_last j s hops e passes n
   left_other p s j u hops (Some g) once passes e n = others_before j s g hops once e n

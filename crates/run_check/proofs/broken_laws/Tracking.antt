@@ -3,18 +3,18 @@ use Rattle.std.proofs.Common.{◌≡◌, ℕ, zero, suc, ◌<◌, List, [], ◌�
 use Rattle.std.specs.Prelude.{Option, ◌≢◌, pos}
 use Rattle.std.proofs.lemmas.Bool.{cases_eq, eq-eqb, ne_eqb}
 use Rattle.std.proofs.lemmas.List.{get_or-set_same, get_or-set_other, length-map}
-use Rattle.upp_limits.specs.rational.specs.Rational.{ℚ, int, ◌+ℚ◌}
-use Rattle.upp_limits.specs.rational.proofs.Linear.{with1, with3, with4}
-use Rattle.net_model.specs.run_laws.specs.declared.steps.Step.{Step}
-use Rattle.net_model.specs.run_laws.specs.Cards.{Card, whole}
-use Rattle.net_model.specs.run_laws.specs.Counts.{when}
-use Rattle.net_model.specs.run_laws.specs.Servers.{Fifo, Server, Under, ServerState, start, done}
-use Rattle.net_model.specs.run_laws.specs.Next.{next}
-use Rattle.net_model.specs.run_laws.specs.Routes.{Routes, route_of, server_at}
-use Rattle.net_model.specs.run_laws.specs.Views.{Entry, server_of, seen}
-use Rattle.net_model.specs.run_laws.specs.Lawful.{RunState, state_at, next_run, run_start}
-use Rattle.net_model.specs.run_laws.proofs.States.{IsSound}
-use Rattle.net_model.specs.run_laws.proofs.Views.{own_state, other_state}
+use Rattle.rational.specs.Rational.{ℚ, int, ◌+ℚ◌}
+use Rattle.rational.proofs.Linear.{with1, with3, with4}
+use Rattle.run_laws.specs.declared.steps.Step.{Step}
+use Rattle.run_laws.specs.Cards.{Card, whole}
+use Rattle.run_laws.specs.Counts.{when}
+use Rattle.run_laws.specs.Servers.{Fifo, Server, Under, ServerState, start, done}
+use Rattle.run_laws.specs.Next.{next}
+use Rattle.run_laws.specs.Routes.{Routes, route_of, server_at}
+use Rattle.run_laws.specs.Views.{Entry, server_of, seen}
+use Rattle.run_laws.specs.Lawful.{RunState, state_at, next_run, run_start}
+use Rattle.run_laws.proofs.States.{IsSound}
+use Rattle.run_laws.proofs.Views.{own_state, other_state}
 use Rattle.net_model.proofs.stated_runs.Lists.{In, head_in}
 use Rattle.sim_servers.proofs.sim_states.Places.{none_placed}
 use Rattle.run_check.specs.declared.broken_laws.place.Place.{Place}
@@ -101,7 +101,7 @@ none_in : (s : ℕ) (net : Routes) (c : Card) → In (state_at (run_start net) s
 none_in s net c h = subst (λ cs. In cs c) (start_idle net.servers s).none h
 
 sound_idle : (σ : ServerState) → σ.under ≡ None → IsSound σ
-sound_idle σ e = subst (λ o. Rattle.net_model.specs.run_laws.proofs.States.IsSoundFor σ.inside σ.busy o) (sym e) tt
+sound_idle σ e = subst (λ o. Rattle.run_laws.proofs.States.IsSoundFor σ.inside σ.busy o) (sym e) tt
 
 pub tracked_start : (net : Routes) → IsTracked net [] (run_start net) []
 tracked_start net = record {
@@ -126,7 +126,7 @@ pub under_in : (net : Routes) (before : List Step) (r : RunState) (tracks : List
     → (state_at r s).under ≡ Some u → In (state_at r s).inside u.card
 under_in net before r tracks h s u e = go (state_at r s).under e (h.sound s)
   where
-    go : (o : Option Under) → o ≡ Some u → Rattle.net_model.specs.run_laws.proofs.States.IsSoundFor (state_at r s).inside (state_at r s).busy o
+    go : (o : Option Under) → o ≡ Some u → Rattle.run_laws.proofs.States.IsSoundFor (state_at r s).inside (state_at r s).busy o
         → In (state_at r s).inside u.card
     go None e sound = absurd (cc)
     go (Some v) e sound =

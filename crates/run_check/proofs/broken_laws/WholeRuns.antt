@@ -4,14 +4,14 @@ use Rattle.std.specs.Prelude.{◌≢◌, slice_get, All}
 use Rattle.std.proofs.lemmas.Bool.{cases_eq}
 use Rattle.std.proofs.lemmas.Option.{slice_get_within}
 use Rattle.std.proofs.Math.Seq.{take-length}
-use Rattle.upp_limits.specs.rational.specs.Rational.{ℚ, ◌<ℚ◌}
-use Rattle.upp_limits.specs.rational.proofs.Laws.{lt_of_not_le, lt_irrefl, lt_le_trans}
-use Rattle.net_model.specs.run_laws.specs.declared.steps.Step.{Step}
-use Rattle.net_model.specs.run_laws.specs.Servers.{ServerState}
-use Rattle.net_model.specs.run_laws.specs.Runs.{SpecRun}
-use Rattle.net_model.specs.run_laws.specs.Allows.{IsComplete}
-use Rattle.net_model.specs.run_laws.specs.Routes.{Routes}
-use Rattle.net_model.specs.run_laws.specs.Lawful.{Due, RunState, next_run, run_start, after_run, AllowsInRun, AllAllowedInRun, IsLawful}
+use Rattle.rational.specs.Rational.{ℚ, ◌<ℚ◌}
+use Rattle.rational.proofs.Laws.{lt_of_not_le, lt_irrefl, lt_le_trans}
+use Rattle.run_laws.specs.declared.steps.Step.{Step}
+use Rattle.run_laws.specs.Servers.{ServerState}
+use Rattle.run_laws.specs.Runs.{SpecRun}
+use Rattle.run_laws.specs.Allows.{IsComplete}
+use Rattle.run_laws.specs.Routes.{Routes}
+use Rattle.run_laws.specs.Lawful.{Due, RunState, next_run, run_start, after_run, AllowsInRun, AllAllowedInRun, IsLawful}
 use Rattle.run_check.specs.declared.broken_laws.law.Law.{Law}
 use Rattle.run_check.specs.declared.broken_laws.law.Law.TheVariants.{L1, L2, L3, L4, L5, L6, L7, L8, L9}
 use Rattle.run_check.specs.declared.broken_laws.place.Place.{Place}

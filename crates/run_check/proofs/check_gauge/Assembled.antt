@@ -1,13 +1,13 @@
 -- All numbers of a check together.
 use Rattle.std.proofs.Common.{◌≡◌, [], ◌∷◌, map, ap, ◌∙◌, subst}
-use Rattle.upp_limits.specs.rational.specs.Rational.{ℚ}
+use Rattle.rational.specs.Rational.{ℚ}
 use Rattle.upp_limits.specs.declared.gathered.Gathered.{Gathered}
 use Rattle.upp_limits.specs.Limits.{Numbers, no_numbers, joined, time_alone}
 use Rattle.upp_limits.specs.Gathered.{Gathers}
 use Rattle.upp_limits.proofs.Every.{every_append, every_left, every_right}
 use Rattle.upp_limits.proofs.JoinedNumbers.{joined_assoc}
 use Rattle.upp_limits.proofs.SameSizes.{Equals}
-use Rattle.net_model.specs.run_laws.specs.Runs.{SpecRun}
+use Rattle.run_laws.specs.Runs.{SpecRun}
 use Rattle.net_model.specs.Networks.{Net, NetServer}
 use Rattle.sim_bounds.specs.Gauge.{arrivals_of}
 use Rattle.sim_bounds.proofs.window_numbers.NetCurves.{services, arrivals}

@@ -3,14 +3,14 @@ use Rattle.std.proofs.Common.{◌≡◌, ℕ, ◌<◌, ◌≤◌, ◌*◌, ◌-�
 use Rattle.std.specs.Prelude.{pos}
 use Rattle.std.specs.List.{AllByRecursion}
 use native.Mathlib.Nat.{le-mul_of_pos_right}
-use Rattle.upp_limits.specs.rational.specs.Rational.{int, ◌*ℚ◌, ◌≤ℚ◌}
-use Rattle.upp_limits.specs.rational.specs.Gauge.{common_den}
-use Rattle.upp_limits.specs.rational.specs.Grid.{Whole}
-use Rattle.upp_limits.specs.rational.proofs.Laws.{le_trans, mul_le_mul, mul_le_mul_right, one_mul}
-use Rattle.upp_limits.specs.rational.proofs.Linear.{with2}
-use Rattle.upp_limits.specs.rational.proofs.Integers.{nat_nonneg, nat_le, nat_le_out}
-use Rattle.upp_limits.specs.rational.proofs.Grid.{whole_int, whole_add, max_whole}
-use Rattle.upp_limits.specs.rational.proofs.MinMax.{max_q_ge_right}
+use Rattle.rational.specs.Rational.{int, ◌*ℚ◌, ◌≤ℚ◌}
+use Rattle.rational.specs.Gauge.{common_den}
+use Rattle.rational.specs.Grid.{Whole}
+use Rattle.rational.proofs.Laws.{le_trans, mul_le_mul, mul_le_mul_right, one_mul}
+use Rattle.rational.proofs.Linear.{with2}
+use Rattle.rational.proofs.Integers.{nat_nonneg, nat_le, nat_le_out}
+use Rattle.rational.proofs.Grid.{whole_int, whole_add, max_whole}
+use Rattle.rational.proofs.MinMax.{max_q_ge_right}
 use Rattle.upp_limits.specs.Limits.{Numbers, joined, value_alone, sizes_of, gauge_of}
 use Rattle.upp_limits.specs.Sized.{AreSizes, Stands, HeldBy}
 use Rattle.upp_limits.proofs.CommonDen.{common_den_each, same_common_den}
@@ -18,7 +18,7 @@ use Rattle.upp_limits.proofs.Every.{every_left}
 use Rattle.upp_limits.proofs.NarrowSizes.{narrow_limit, scaled_fits}
 use Rattle.upp_limits.proofs.SameSizes.{make_sizes}
 use Rattle.upp_limits.proofs.Stands.{stands_left, stands_right}
-use Rattle.net_model.specs.run_laws.specs.Runs.{SpecRun}
+use Rattle.run_laws.specs.Runs.{SpecRun}
 use Rattle.net_model.specs.Networks.{Net, NetServer}
 use Rattle.net_model.specs.stated_runs.TimeGrids.{HasRoom}
 use Rattle.sim_bounds.specs.Horizons.{latest_of}

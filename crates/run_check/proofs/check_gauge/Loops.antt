@@ -2,7 +2,7 @@
 use Rattle.std.proofs.Common.{◌≡◌, ℕ, ◌<◌, ◌≤◌, ◌+◌, ◌-◌, List, [], ◌∷◌, length, get_or, drop, refl, sym, ap, ◌∙◌, arith}
 use Rattle.std.proofs.lemmas.List.{drop_more}
 use Rattle.std.specs.Prelude.{true, false}
-use Rattle.upp_limits.specs.rational.specs.Rational.{ℚ, ◌-ℚ◌, ◌/ℚ◌, lt_q}
+use Rattle.rational.specs.Rational.{ℚ, ◌-ℚ◌, ◌/ℚ◌, lt_q}
 use Rattle.upp_limits.specs.Limits.{Numbers, joined, time_alone, value_alone, slope_alone}
 use Rattle.upp_limits.proofs.JoinedNumbers.{joined_assoc, joined_three}
 use Rattle.net_model.specs.declared.server.Server.{Server}

@@ -1,8 +1,8 @@
 -- There is one report on what is found in a run, whatever table meets the equations.
 use Rattle.std.proofs.Common.{◌++◌, length, ap, ◌∙◌}
 use Rattle.std.specs.List.{flat_map, range_with_len}
-use Rattle.report_text.specs.net_cells.specs.Meanings.{CellTable}
-use Rattle.report_text.specs.net_cells.proofs.Tables.{tables_agree}
+use Rattle.net_cells.specs.Meanings.{CellTable}
+use Rattle.net_cells.proofs.Tables.{tables_agree}
 use Rattle.report_text.specs.Laws.{AgreeWherePrinted}
 use Rattle.report_text.specs.Report.{head_line}
 use Rattle.report_text.specs.RunReport.{run_line, worst_lines, peak_lines}

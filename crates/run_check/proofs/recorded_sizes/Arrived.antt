@@ -4,14 +4,14 @@ use Rattle.std.proofs.Common.{arith, refl, ap, inl, inr}
 use Rattle.std.proofs.lemmas.Bool.{cases_Bool, cases_lt}
 use Rattle.std.proofs.lemmas.List.{get_or_past, get_or-set_other}
 use Rattle.std.proofs.lemmas.List.Sums.{sum_by-append, sum_by-cons, sum_by-set}
-use Rattle.net_model.specs.run_laws.specs.declared.steps.Step.{Step}
-use Rattle.net_model.specs.run_laws.specs.declared.steps.Step.TheVariants.{Enter, Reach, Work, Leave, Visit}
-use Rattle.net_model.specs.run_laws.specs.Runs.{SpecRun}
-use Rattle.net_model.specs.run_laws.specs.Cards.{Card, ServerStep, Arrives, Works, Leaves, Visits}
-use Rattle.net_model.specs.run_laws.specs.Premises.{EachArrival, NoneTwice}
-use Rattle.net_model.specs.run_laws.specs.Routes.{Routes}
-use Rattle.net_model.specs.run_laws.specs.Views.{Entry, entry_of, entered_after, server_of, seen, view_from, view}
-use Rattle.net_model.specs.run_laws.proofs.Entries.{entry_before}
+use Rattle.run_laws.specs.declared.steps.Step.{Step}
+use Rattle.run_laws.specs.declared.steps.Step.TheVariants.{Enter, Reach, Work, Leave, Visit}
+use Rattle.run_laws.specs.Runs.{SpecRun}
+use Rattle.run_laws.specs.Cards.{Card, ServerStep, Arrives, Works, Leaves, Visits}
+use Rattle.run_laws.specs.Premises.{EachArrival, NoneTwice}
+use Rattle.run_laws.specs.Routes.{Routes}
+use Rattle.run_laws.specs.Views.{Entry, entry_of, entered_after, server_of, seen, view_from, view}
+use Rattle.run_laws.proofs.Entries.{entry_before}
 use Rattle.run_watch.specs.first_breaches.Sizes.{bits_in}
 use Rattle.run_check.specs.check_gauge.Runs.{entering_bits, total_bits}
 

@@ -2,12 +2,12 @@
 use Rattle.std.specs.Prelude.{ℕ, ◌==◌, ◌&&◌, List, [], ◌∷◌}
 use Rattle.std.proofs.Common.{inl, inr}
 use Rattle.std.proofs.lemmas.Bool.{cases_Bool}
-use Rattle.upp_limits.specs.rational.proofs.MinMax.{max_q_ge_left}
-use Rattle.net_model.specs.run_laws.specs.declared.steps.Step.{Step}
-use Rattle.net_model.specs.run_laws.specs.declared.steps.Step.TheVariants.{Enter, Reach, Work, Leave, Visit}
-use Rattle.net_model.specs.run_laws.specs.Runs.{SpecRun}
-use Rattle.net_model.specs.run_laws.specs.FlowDelays.{delivered_at}
-use Rattle.net_model.specs.run_laws.specs.Routes.{route_of, last_server}
+use Rattle.rational.proofs.MinMax.{max_q_ge_left}
+use Rattle.run_laws.specs.declared.steps.Step.{Step}
+use Rattle.run_laws.specs.declared.steps.Step.TheVariants.{Enter, Reach, Work, Leave, Visit}
+use Rattle.run_laws.specs.Runs.{SpecRun}
+use Rattle.run_laws.specs.FlowDelays.{delivered_at}
+use Rattle.run_laws.specs.Routes.{route_of, last_server}
 use Rattle.net_model.specs.Networks.{Net}
 use Rattle.net_model.specs.NetRoutes.{routes_of}
 use Rattle.net_model.specs.Accepted.{IsAccepted}

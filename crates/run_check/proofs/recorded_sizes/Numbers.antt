@@ -4,16 +4,16 @@ use Rattle.std.specs.List.{AllByRecursion}
 use Rattle.std.proofs.Common.{arith, subst}
 use Rattle.std.proofs.lemmas.List.Sums.{sum_by-cons}
 use native.Mathlib.Nat.{le-mul_of_pos_right}
-use Rattle.upp_limits.specs.rational.specs.Rational.{ℚ, int}
-use Rattle.upp_limits.specs.rational.proofs.Grid.{whole_int}
-use Rattle.upp_limits.specs.rational.proofs.Integers.{nat_nonneg, nat_le}
-use Rattle.upp_limits.specs.rational.proofs.Laws.{le_of_lt}
+use Rattle.rational.specs.Rational.{ℚ, int}
+use Rattle.rational.proofs.Grid.{whole_int}
+use Rattle.rational.proofs.Integers.{nat_nonneg, nat_le}
+use Rattle.rational.proofs.Laws.{le_of_lt}
 use Rattle.upp_limits.specs.Sized.{IsValue, grid_of}
 use Rattle.upp_limits.proofs.Every.{every_left}
 use Rattle.upp_limits.proofs.NarrowSizes.{narrow_limit, scaled_fits}
-use Rattle.net_model.specs.run_laws.specs.declared.steps.Step.{Step}
-use Rattle.net_model.specs.run_laws.specs.declared.steps.Step.TheVariants.{Enter, Reach, Work, Leave, Visit}
-use Rattle.net_model.specs.run_laws.specs.Runs.{SpecRun}
+use Rattle.run_laws.specs.declared.steps.Step.{Step}
+use Rattle.run_laws.specs.declared.steps.Step.TheVariants.{Enter, Reach, Work, Leave, Visit}
+use Rattle.run_laws.specs.Runs.{SpecRun}
 use Rattle.net_model.specs.Networks.{Net}
 use Rattle.net_model.specs.NetRoutes.{routes_of}
 use Rattle.net_model.specs.Accepted.{IsAccepted}
@@ -80,7 +80,7 @@ steps_fit net run (Visit s q at ∷ xs) ok h t n v f =
 
 at_place : {A : Type 0} (P : A → Type 0) (xs : List A) (k : ℕ) (x : A) → AllByRecursion P xs → slice_get xs k ≡ Some x → P x
 at_place P [] k x h e = absurd (cc)
-at_place P (y ∷ ys) zero x h e = subst P (Rattle.net_model.specs.run_laws.proofs.Heads.same_some y x e) h.0
+at_place P (y ∷ ys) zero x h e = subst P (Rattle.run_laws.proofs.Heads.same_some y x e) h.0
 at_place P (y ∷ ys) (suc k) x h e = at_place P ys k x h.1 e
 
 pub recorded_numbers : RecordedRunsHaveNumbers

@@ -3,20 +3,20 @@ use Rattle.std.specs.Prelude.{ℕ, ◌≤◌, ◌==◌, pos, List, [], ◌∷◌
 use Rattle.std.specs.List.{AllByRecursion}
 use Rattle.std.proofs.Common.{arith, inl, inr}
 use Rattle.std.proofs.lemmas.Bool.{cases_Bool}
-use Rattle.upp_limits.specs.rational.specs.Rational.{int, ◌≤ℚ◌}
-use Rattle.upp_limits.specs.rational.proofs.Integers.{nat_nonneg}
-use Rattle.upp_limits.specs.rational.proofs.Laws.{le_trans, mul_le_mul}
-use Rattle.upp_limits.specs.rational.proofs.MinMax.{max_q_ge_left}
-use Rattle.upp_limits.specs.rational.proofs.Over.{lt_q_out}
+use Rattle.rational.specs.Rational.{int, ◌≤ℚ◌}
+use Rattle.rational.proofs.Integers.{nat_nonneg}
+use Rattle.rational.proofs.Laws.{le_trans, mul_le_mul}
+use Rattle.rational.proofs.MinMax.{max_q_ge_left}
+use Rattle.rational.proofs.Over.{lt_q_out}
 use Rattle.upp_limits.specs.Sized.{IsSlope, Stands}
 use Rattle.upp_limits.proofs.Every.{every_left, every_right}
 use Rattle.upp_limits.proofs.Stands.{stands_right}
 use Rattle.upp_normal.specs.Operand.{AreLimited}
-use Rattle.net_model.specs.run_laws.specs.declared.steps.Step.{Step}
-use Rattle.net_model.specs.run_laws.specs.declared.steps.Step.TheVariants.{Enter, Reach, Work, Leave, Visit}
-use Rattle.net_model.specs.run_laws.specs.Runs.{SpecRun}
-use Rattle.net_model.specs.run_laws.specs.Routes.{Hop, Routes, link_at, route_of}
-use Rattle.net_model.specs.run_laws.specs.Lawful.{RunState, next_run, run_start, AllAllowedInRun}
+use Rattle.run_laws.specs.declared.steps.Step.{Step}
+use Rattle.run_laws.specs.declared.steps.Step.TheVariants.{Enter, Reach, Work, Leave, Visit}
+use Rattle.run_laws.specs.Runs.{SpecRun}
+use Rattle.run_laws.specs.Routes.{Hop, Routes, link_at, route_of}
+use Rattle.run_laws.specs.Lawful.{RunState, next_run, run_start, AllAllowedInRun}
 use Rattle.net_laws.specs.Paths as paths
 use Rattle.net_laws.specs.Once.{IsOverPaths}
 use Rattle.net_laws.proofs.PathRuns.{none_arrives_twice}

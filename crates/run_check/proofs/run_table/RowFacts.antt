@@ -1,9 +1,9 @@
 -- Rows of a recorded run.
 use Rattle.std.proofs.Common.{Ok, ◌≡◌, ℕ, List, Some, None, refl, sym, ap, subst, inr, ◌∙◌}
-use Rattle.upp_limits.specs.rational.specs.Rational.{ℚ}
+use Rattle.rational.specs.Rational.{ℚ}
 use Rattle.net_model.specs.Networks.{Net}
 use Rattle.net_model.specs.Names.{IsServerNamed, IsFlowNamed, FindsServer, FindsFlow}
-use Rattle.net_model.specs.run_laws.specs.declared.steps.Step.TheVariants.{Enter, Reach, Work, Leave, Visit}
+use Rattle.run_laws.specs.declared.steps.Step.TheVariants.{Enter, Reach, Work, Leave, Visit}
 use Rattle.run_check.specs.declared.run_table.fault.RunKind.TheVariants.{T5}
 use Rattle.run_check.specs.declared.run_table.run_rows.RunEntry.TheVariants.{Does, Ends}
 use Rattle.input_texts.specs.table_text.Rows.{Row, field}

@@ -1,10 +1,10 @@
 -- One row after another.
 use Rattle.std.proofs.Common.{Option, Some, None, MatchOption, ⊎_elim, eq-or-lt_of_le, ◌≡◌, ◌≢◌, ℕ, suc, ◌+◌, ◌<◌, ◌≤◌, List, [], ◌∷◌, ◌++◌, length, take, drop, get_or, refl, sym, ap, subst, arith, inl, inr, ◌⊎◌, ◌∙◌, append_assoc, take-append-drop, length-take, take_all}
 use Rattle.std.proofs.lemmas.List.{take_more, drop_more, get_or_default}
-use Rattle.net_model.specs.run_laws.specs.declared.steps.Step.{Step}
-use Rattle.net_model.specs.run_laws.specs.declared.steps.Step.TheVariants.{Enter, Reach, Work, Leave, Visit}
-use Rattle.net_model.specs.run_laws.specs.Runs.{SpecRun}
-use Rattle.upp_limits.specs.rational.specs.Rational.{ℚ}
+use Rattle.run_laws.specs.declared.steps.Step.{Step}
+use Rattle.run_laws.specs.declared.steps.Step.TheVariants.{Enter, Reach, Work, Leave, Visit}
+use Rattle.run_laws.specs.Runs.{SpecRun}
+use Rattle.rational.specs.Rational.{ℚ}
 use Rattle.net_model.specs.Networks.{Net}
 use Rattle.run_check.specs.declared.run_table.fault.RunKind.{RunKind}
 use Rattle.run_check.specs.declared.run_table.fault.RunKind.TheVariants.{T1, T2, T3, T4, T5, T7, T8, NoMemory}

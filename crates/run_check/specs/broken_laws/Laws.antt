@@ -1,9 +1,9 @@
 -- What holds of all recorded runs: one that breaks a law is not lawful, one that breaks none is, and there is one first
 -- broken law.
 use Rattle.std.specs.Prelude.{◌≡◌, ℕ, []}
-use Rattle.net_model.specs.run_laws.specs.Runs.{SpecRun}
-use Rattle.net_model.specs.run_laws.specs.Routes.{Routes}
-use Rattle.net_model.specs.run_laws.specs.Lawful.{run_start, after_run, IsLawful}
+use Rattle.run_laws.specs.Runs.{SpecRun}
+use Rattle.run_laws.specs.Routes.{Routes}
+use Rattle.run_laws.specs.Lawful.{run_start, after_run, IsLawful}
 use Rattle.run_check.specs.declared.broken_laws.law.Law.{Law}
 use Rattle.run_check.specs.broken_laws.Recorded.{HasPaths, AreRecorded}
 use Rattle.run_check.specs.broken_laws.FirstBroken.{NoneBreaks, IsUnfinished, IsFirstBroken}

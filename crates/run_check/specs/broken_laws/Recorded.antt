@@ -1,10 +1,10 @@
 -- What is asked of a recorded run before its laws are looked at: its steps name live flows and servers of the network,
 -- and its packets, each of some bits, are numbered in the order in which they enter. Own choice.
 use Rattle.std.specs.Prelude.{◌≡◌, ℕ, ◌<◌, ◌≤◌, true, List, [], ◌∷◌, length}
-use Rattle.net_model.specs.run_laws.specs.declared.steps.Step.{Step}
-use Rattle.net_model.specs.run_laws.specs.declared.steps.Step.TheVariants.{Enter, Reach, Work, Leave, Visit}
-use Rattle.net_model.specs.run_laws.specs.Routes.{Hop, Routes, route_of, PassesServer}
-use Rattle.net_model.specs.run_laws.specs.Views.{Entry, entered_after}
+use Rattle.run_laws.specs.declared.steps.Step.{Step}
+use Rattle.run_laws.specs.declared.steps.Step.TheVariants.{Enter, Reach, Work, Leave, Visit}
+use Rattle.run_laws.specs.Routes.{Hop, Routes, route_of, PassesServer}
+use Rattle.run_laws.specs.Views.{Entry, entered_after}
 use Rattle.net_model.specs.stated_runs.Setups.{AreHopsOf}
 
 -- ---- paths

@@ -1,17 +1,17 @@
 -- Where each packet of a recorded run is, and what has been worked of it at each server.
 use Rattle.std.specs.Prelude.{Option, Some, None, ◌≡◌, ℕ, pos, ◌<◌, ◌≤◌, Bool, true, false, ◌==◌, if◌then◌else◌}
 use Rattle.std.specs.Prelude.{List, [], ◌∷◌, ◌++◌, length, get_or, set}
-use Rattle.upp_limits.specs.rational.specs.Rational.{ℚ, int, ◌+ℚ◌}
-use Rattle.net_model.specs.run_laws.specs.declared.steps.Step.{Step}
-use Rattle.net_model.specs.run_laws.specs.declared.steps.Step.TheVariants.{Enter, Reach, Work, Leave, Visit}
-use Rattle.net_model.specs.run_laws.specs.Cards.{Card, whole}
-use Rattle.net_model.specs.run_laws.specs.Counts.{when}
-use Rattle.net_model.specs.run_laws.specs.Servers.{Under, done}
-use Rattle.net_model.specs.run_laws.specs.Routes.{Hop, Routes, route_of, link_at, PassesServer, first_server, server_after}
-use Rattle.net_model.specs.run_laws.specs.Views.{Entry, entry_of, hops_of, card_of}
-use Rattle.net_model.specs.run_laws.specs.Lawful.{Due, RunState, state_at}
-use Rattle.net_model.specs.run_laws.specs.Members.{Has}
-use Rattle.net_model.specs.run_laws.specs.Sound.{IsSound}
+use Rattle.rational.specs.Rational.{ℚ, int, ◌+ℚ◌}
+use Rattle.run_laws.specs.declared.steps.Step.{Step}
+use Rattle.run_laws.specs.declared.steps.Step.TheVariants.{Enter, Reach, Work, Leave, Visit}
+use Rattle.run_laws.specs.Cards.{Card, whole}
+use Rattle.run_laws.specs.Counts.{when}
+use Rattle.run_laws.specs.Servers.{Under, done}
+use Rattle.run_laws.specs.Routes.{Hop, Routes, route_of, link_at, PassesServer, first_server, server_after}
+use Rattle.run_laws.specs.Views.{Entry, entry_of, hops_of, card_of}
+use Rattle.run_laws.specs.Lawful.{Due, RunState, state_at}
+use Rattle.run_laws.specs.Members.{Has}
+use Rattle.run_laws.specs.Sound.{IsSound}
 use Rattle.net_model.specs.stated_runs.CardsAt.{IsCardAt}
 use Rattle.sim_servers.specs.sim_states.Places.{ArePlaced}
 use Rattle.run_check.specs.declared.broken_laws.place.Place.{Place}

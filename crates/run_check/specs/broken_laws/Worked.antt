@@ -1,9 +1,9 @@
 -- How many bits of a packet are worked at a server in some steps.
 use Rattle.std.specs.Prelude.{ℕ, pos, ◌==◌, ◌&&◌, List, [], ◌∷◌}
-use Rattle.upp_limits.specs.rational.specs.Rational.{ℚ, int, ◌+ℚ◌}
-use Rattle.net_model.specs.run_laws.specs.declared.steps.Step.{Step}
-use Rattle.net_model.specs.run_laws.specs.declared.steps.Step.TheVariants.{Enter, Reach, Work, Leave, Visit}
-use Rattle.net_model.specs.run_laws.specs.Counts.{when}
+use Rattle.rational.specs.Rational.{ℚ, int, ◌+ℚ◌}
+use Rattle.run_laws.specs.declared.steps.Step.{Step}
+use Rattle.run_laws.specs.declared.steps.Step.TheVariants.{Enter, Reach, Work, Leave, Visit}
+use Rattle.run_laws.specs.Counts.{when}
 
 -- by one step
 abbrev pub worked_by : ℕ → ℕ → Step → ℚ

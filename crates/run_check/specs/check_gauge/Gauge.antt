@@ -1,11 +1,11 @@
 -- The gauge of a recorded run of a network: where it is below 2 ^ 120, no number of a check of the run is too wide.
 -- (Own choice.)
 use Rattle.std.specs.Prelude.{ℕ, max, pos, List, ◌∷◌, ◌++◌, map}
-use Rattle.upp_limits.specs.rational.specs.Rational.{ℚ, int, ◌+ℚ◌, ◌*ℚ◌}
-use Rattle.upp_limits.specs.rational.specs.Gauge.{common_den, bound_of}
-use Rattle.upp_limits.specs.min_plus.specs.WholeUp.{whole_up}
+use Rattle.rational.specs.Rational.{ℚ, int, ◌+ℚ◌, ◌*ℚ◌}
+use Rattle.rational.specs.Gauge.{common_den, bound_of}
+use Rattle.min_plus.specs.WholeUp.{whole_up}
 use Rattle.upp_limits.specs.Limits.{Numbers, Sizes, joined, twice, gauge_of}
-use Rattle.net_model.specs.run_laws.specs.Runs.{SpecRun}
+use Rattle.run_laws.specs.Runs.{SpecRun}
 use Rattle.net_model.specs.Networks.{Net, NetServer}
 use Rattle.sim_bounds.specs.Horizons.{latest_of}
 use Rattle.sim_bounds.specs.Gauge.{numbers_of_curves, curves_of, rates_of}

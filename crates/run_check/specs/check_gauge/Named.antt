@@ -1,8 +1,8 @@
 -- The numbers that servers and steps name, in the order in which the code meets them. (Own choice.)
 use Rattle.std.specs.Prelude.{List, [], ◌∷◌, map}
 use Rattle.std.specs.List.{flat_map}
-use Rattle.upp_limits.specs.rational.specs.Rational.{ℚ}
-use Rattle.net_model.specs.run_laws.specs.declared.steps.Step.{Step}
+use Rattle.rational.specs.Rational.{ℚ}
+use Rattle.run_laws.specs.declared.steps.Step.{Step}
 use Rattle.upp_limits.specs.Limits.{Numbers}
 use Rattle.net_model.specs.Networks.{NetServer}
 use Rattle.run_check.specs.check_gauge.Runs.{step_times, step_works, step_paces, work_pace}

@@ -1,10 +1,10 @@
 -- Which steps on the way to the paces of works have to fit. Own choice.
 use Rattle.std.specs.Prelude.{List}
 use Rattle.std.specs.List.{AllByRecursion}
-use Rattle.upp_limits.specs.rational.specs.Rational.{ℚ, ◌-ℚ◌, neg_ℚ, ◌/ℚ◌, ◌<ℚ◌}
-use Rattle.upp_limits.specs.rational.specs.Ratio.{IsSmall, SumFits}
-use Rattle.net_model.specs.run_laws.specs.declared.steps.Step.{Step}
-use Rattle.net_model.specs.run_laws.specs.declared.steps.Step.TheVariants.{Enter, Reach, Work, Leave, Visit}
+use Rattle.rational.specs.Rational.{ℚ, ◌-ℚ◌, neg_ℚ, ◌/ℚ◌, ◌<ℚ◌}
+use Rattle.rational.specs.Ratio.{IsSmall, SumFits}
+use Rattle.run_laws.specs.declared.steps.Step.{Step}
+use Rattle.run_laws.specs.declared.steps.Step.TheVariants.{Enter, Reach, Work, Leave, Visit}
 
 -- how long a work takes, and its pace
 pub record WorkFits (a b w : ℚ) : Type 0 where

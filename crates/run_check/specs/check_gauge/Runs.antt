@@ -1,11 +1,11 @@
 -- The numbers that a recorded run names: times, bits of works, and paces. Own choice.
 use Rattle.std.specs.Prelude.{ℕ, pos, List, [], ◌∷◌, sum_by, if◌then◌else◌}
 use Rattle.std.specs.List.{flat_map, AllByRecursion}
-use Rattle.upp_limits.specs.rational.specs.Rational.{ℚ, int, ◌-ℚ◌, ◌/ℚ◌, ◌≤ℚ◌, lt_q}
-use Rattle.upp_limits.specs.rational.specs.MinMax.{max_q}
-use Rattle.net_model.specs.run_laws.specs.declared.steps.Step.{Step}
-use Rattle.net_model.specs.run_laws.specs.declared.steps.Step.TheVariants.{Enter, Reach, Work, Leave, Visit}
-use Rattle.net_model.specs.run_laws.specs.Runs.{SpecRun}
+use Rattle.rational.specs.Rational.{ℚ, int, ◌-ℚ◌, ◌/ℚ◌, ◌≤ℚ◌, lt_q}
+use Rattle.rational.specs.MinMax.{max_q}
+use Rattle.run_laws.specs.declared.steps.Step.{Step}
+use Rattle.run_laws.specs.declared.steps.Step.TheVariants.{Enter, Reach, Work, Leave, Visit}
+use Rattle.run_laws.specs.Runs.{SpecRun}
 use Rattle.sim_bounds.specs.Horizons.{latest_of}
 
 -- ---- times: of work its start and its end, of another step its time

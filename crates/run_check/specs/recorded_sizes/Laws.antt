@@ -1,7 +1,7 @@
 -- The numbers of a recorded run whose gauge is below 2 ^ 120. Own choice.
 use Rattle.std.specs.Prelude.{◌<◌, ◌≤◌, ◌^◌, length}
-use Rattle.net_model.specs.run_laws.specs.Runs.{SpecRun}
-use Rattle.net_model.specs.run_laws.specs.Lawful.{IsLawful}
+use Rattle.run_laws.specs.Runs.{SpecRun}
+use Rattle.run_laws.specs.Lawful.{IsLawful}
 use Rattle.net_model.specs.Networks.{Net}
 use Rattle.net_model.specs.NetRoutes.{routes_of}
 use Rattle.net_model.specs.Accepted.{IsAccepted}

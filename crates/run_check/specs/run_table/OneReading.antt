@@ -1,6 +1,6 @@
 -- A text is one run of a network at most, or has one first fault.
 use Rattle.std.specs.Prelude.{◌≡◌, ℕ, List}
-use Rattle.net_model.specs.run_laws.specs.Runs.{SpecRun}
+use Rattle.run_laws.specs.Runs.{SpecRun}
 use Rattle.net_model.specs.Accepted.{IsAccepted}
 use Rattle.net_model.specs.Networks.{Net}
 use Rattle.input_texts.specs.table_text.Rows.{rows_of}

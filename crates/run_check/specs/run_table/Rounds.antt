@@ -1,7 +1,7 @@
 -- What one row puts behind what those before it gave.
 use Rattle.std.specs.Prelude.{◌≡◌, ◌⊎◌, ℕ, ◌<◌, ◌≤◌, List, [], ◌∷◌, ◌++◌, Ok}
-use Rattle.upp_limits.specs.rational.specs.Rational.{ℚ}
-use Rattle.net_model.specs.run_laws.specs.declared.steps.Step.{Step}
+use Rattle.rational.specs.Rational.{ℚ}
+use Rattle.run_laws.specs.declared.steps.Step.{Step}
 use Rattle.net_model.specs.Networks.{Net}
 use Rattle.input_texts.specs.table_text.Rows.{Row}
 use Rattle.input_texts.specs.table_text.Traces.{most_rows}

@@ -3,9 +3,9 @@
 use Rattle.std.specs.Prelude.{◌≡◌, ◌⊎◌, ℕ, ℤ, pos, negsuc, ◌^◌, nat_lt, List, Option, Some, None, ok_or, Result, Ok, Err, not, ◌==◌, length, codes, if◌then◌else◌}
 use Rattle.std.specs.Option.{option_and_then}
 use Rattle.std.specs.Str.{bytes_eq}
-use Rattle.upp_limits.specs.rational.specs.Rational.{ℚ}
-use Rattle.net_model.specs.run_laws.specs.declared.steps.Step.{Step}
-use Rattle.net_model.specs.run_laws.specs.declared.steps.Step.TheVariants as steps
+use Rattle.rational.specs.Rational.{ℚ}
+use Rattle.run_laws.specs.declared.steps.Step.{Step}
+use Rattle.run_laws.specs.declared.steps.Step.TheVariants as steps
 use Rattle.net_model.specs.Networks.{Net}
 use Rattle.net_model.specs.Names.{IsServerNamed, IsFlowNamed, FindsServer, FindsFlow}
 use Rattle.input_texts.specs.table_text.Rows.{Row, field, is_plain}

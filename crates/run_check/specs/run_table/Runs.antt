@@ -1,8 +1,8 @@
 -- Which recorded run of a network a text is, and the first fault of a text that is none. Own choice.
 use Rattle.std.specs.Prelude.{◌≡◌, ◌⊎◌, ℕ, suc, ◌<◌, ◌≤◌, List, [], ◌∷◌, ◌++◌, length, Ok}
-use Rattle.net_model.specs.run_laws.specs.declared.steps.Step.{Step}
-use Rattle.net_model.specs.run_laws.specs.declared.steps.Step.TheVariants.{Enter, Reach, Work, Leave, Visit}
-use Rattle.net_model.specs.run_laws.specs.Runs.{SpecRun}
+use Rattle.run_laws.specs.declared.steps.Step.{Step}
+use Rattle.run_laws.specs.declared.steps.Step.TheVariants.{Enter, Reach, Work, Leave, Visit}
+use Rattle.run_laws.specs.Runs.{SpecRun}
 use Rattle.net_model.specs.Networks.{Net}
 use Rattle.input_texts.specs.table_text.Rows.{Row, rows_of}
 use Rattle.input_texts.specs.table_text.Traces.{most_rows}
@@ -29,7 +29,7 @@ Give net n (row ∷ rows) (x ∷ xs) = Gives net n (run_row row) (Does x) × Giv
 
 -- the row is that of the run's end
 pub record IsEnd (row : Row) : Type 0 where
-  pub time : Rattle.upp_limits.specs.rational.specs.Rational.ℚ
+  pub time : Rattle.rational.specs.Rational.ℚ
   pub is : run_row row ≡ Ok (end_row time)
 
 -- at most 10,000 rows: one for each step, in their order, and then one for the run's end

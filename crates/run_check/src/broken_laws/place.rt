@@ -1,6 +1,6 @@
 //! Where a packet is.
 
-use upp_limits::fraction128::Frac;
+use fraction128::Frac;
 
 /// Where a packet that has entered is.
 #[derive(Debug, Clone, Copy)]

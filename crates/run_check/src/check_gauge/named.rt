@@ -1,17 +1,17 @@
 //! The numbers that servers and the steps of a run name: times, bits of works, rates and paces.
 
 ghost use Rattle.std.specs.Prelude.{◌≡◌, pos, IfSome, IsSome};
-ghost use Rattle.upp_limits.specs.rational.specs.Rational.{int, ◌-ℚ◌, ◌/ℚ◌, ◌<ℚ◌};
+ghost use Rattle.rational.specs.Rational.{int, ◌-ℚ◌, ◌/ℚ◌, ◌<ℚ◌};
 ghost use Rattle.upp_limits.specs.Gathered.{Gathers};
 ghost use Rattle.upp_limits.specs.Limits.{Numbers, joined};
 ghost use Rattle.net_model.specs.Views.{server_of, servers_of};
 ghost use Rattle.run_check.specs.check_gauge.Named.{link_and_rate, links_and_rates, work_numbers, step_numbers, steps_numbers};
 ghost use Rattle.run_check.specs.check_gauge.Paces.{WorkFits, PaceFits, PacesFit};
 
+use fraction128::{Frac, is_less};
 use net_model::Server;
-use net_model::run_laws::Step;
+use run_laws::Step;
 use sim_bounds::window_numbers::{minus, over};
-use upp_limits::fraction128::{Frac, is_less};
 use upp_limits::gathered::Gathered;
 
 /// The link and the rate of a server more.

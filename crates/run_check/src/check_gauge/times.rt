@@ -7,9 +7,9 @@ ghost use Rattle.sim_bounds.specs.Horizons.{latest_of};
 ghost use Rattle.run_check.specs.check_gauge.Runs.{step_end, last_time, entering_bits, total_bits};
 ghost use Rattle.run_check.specs.check_gauge.Gauge.{largest_link};
 
-use net_model::run_laws::{Run, Step};
+use fraction128::{Frac, greater};
 use net_model::{Network, Server};
-use upp_limits::fraction128::{Frac, greater};
+use run_laws::{Run, Step};
 
 /// The time of a step; of work the later of its start and its end.
 fn step_end(step: &Step) -> Frac

@@ -7,10 +7,10 @@ ghost use Rattle.run_check.specs.check_gauge.Gauge.{check_numbers, check_gauge};
 
 use crate::check_gauge::named::{with_links_and_rates, with_steps};
 use crate::check_gauge::times::{largest_link, last_time, total_bits};
+use fraction128::Frac;
 use net_model::Network;
-use net_model::run_laws::Run;
+use run_laws::Run;
 use sim_bounds::window_numbers::{is_over, plus, with_arrivals, with_services};
-use upp_limits::fraction128::Frac;
 use upp_limits::gathered::Gathered;
 
 /// All numbers of a check. None only where the gauge is 2^120 or more.

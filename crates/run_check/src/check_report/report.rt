@@ -6,11 +6,11 @@ ghost use Rattle.run_check.specs.check_report.CheckReport.{lawful_report_of, unl
 
 use crate::broken_laws::Law;
 use crate::check_report::verdict::{push_unlawful, push_verdict};
+use fraction128::Frac;
+use net_cells::cell_table::Table;
 use net_model::Network;
-use report_text::net_cells::cell_table::Table;
 use report_text::{RunFound, ShownValue, push_head, push_peaks, push_run_line, push_worsts};
 use std::alloc::{AllocError, Global};
-use upp_limits::fraction128::Frac;
 
 /// The report on a recorded run that is lawful, with the bounds that a table has: how many servers and live flows there
 /// are; how many packets entered, and when the run ends; for each live flow, by number, its worst delay beside its bound;

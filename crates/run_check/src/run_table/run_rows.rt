@@ -7,10 +7,10 @@ ghost use Rattle.run_check.specs.run_table.RunRows as spec;
 
 use crate::run_table::fault::RunKind;
 use csv::ByteRecord;
+use fraction128::Frac;
 use input_texts::table_text::{bits_in, is_plain, number_in, text_at, time_in, whole_in};
 use net_model::Network;
-use net_model::run_laws::Step;
-use upp_limits::fraction128::Frac;
+use run_laws::Step;
 
 /// The words with which rows begin.
 #[derive(Debug, Clone, Copy, PartialEq, Eq)]

@@ -11,11 +11,11 @@ ghost use Rattle.run_check.specs.declared.run_table.fault.RunKind.TheVariants.{N
 use crate::run_table::fault::{RunFault, RunKind};
 use crate::run_table::run_rows::{RunEntry, entry_in};
 use csv::ByteRecord;
+use fraction128::Frac;
 use input_texts::table_text::first_rows;
 use net_model::Network;
-use net_model::run_laws::{Run, Step};
+use run_laws::{Run, Step};
 use std::alloc::Global;
-use upp_limits::fraction128::Frac;
 
 const MOST_ROWS: usize = 10_000;
 

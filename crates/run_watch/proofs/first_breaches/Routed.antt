@@ -3,7 +3,7 @@ use Rattle.std.specs.Prelude.{◌≡◌, ℕ, ◌<◌, ◌≤◌, List, [], ◌�
 use Rattle.std.proofs.Common.{arith, refl, sym, ap, ◌∙◌, inl, inr}
 use Rattle.std.proofs.lemmas.Bool.{cases_lt}
 use Rattle.std.proofs.lemmas.List.{get_or_past}
-use Rattle.net_model.specs.run_laws.specs.Routes.{Route, route_of, first_server}
+use Rattle.run_laws.specs.Routes.{Route, route_of, first_server}
 use Rattle.net_model.specs.Networks.{Net, NetFlow}
 use Rattle.net_model.specs.NetRoutes.{hops_along, route_for, routes_of}
 use Rattle.net_model.specs.Accepted.{IsAccepted}

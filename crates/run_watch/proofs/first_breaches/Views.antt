@@ -4,33 +4,33 @@ use Rattle.std.specs.List.{AllByRecursion}
 use Rattle.std.proofs.Common.{arith, refl, sym, subst, ap, ◌∙◌, inl, inr}
 use Rattle.std.proofs.lemmas.Bool.{cases_Bool}
 use Rattle.std.proofs.lemmas.List.{length-map}
-use Rattle.upp_limits.specs.rational.specs.Rational.{ℚ, int, ◌+ℚ◌, ◌-ℚ◌, ◌*ℚ◌, ◌/ℚ◌, ◌≤ℚ◌, ◌<ℚ◌, lt_q}
-use Rattle.upp_limits.specs.rational.specs.Ratio.{SumFits}
-use Rattle.upp_limits.specs.rational.specs.Grid.{Whole}
-use Rattle.upp_limits.specs.rational.proofs.Laws.{le_refl, le_trans, le_of_lt, lt_irrefl, add_assoc, one_mul, div_mul, not_zero}
-use Rattle.upp_limits.specs.rational.proofs.Grid.{whole_int, whole_add, whole_sub, within_nonneg}
-use Rattle.upp_limits.specs.rational.proofs.Linear.{with1, with2, with3, with_atoms}
-use Rattle.upp_limits.specs.upp_curve.specs.Curve.{SpecCurve}
-use Rattle.upp_limits.specs.upp_curve.specs.Curves.{IsCurve}
+use Rattle.rational.specs.Rational.{ℚ, int, ◌+ℚ◌, ◌-ℚ◌, ◌*ℚ◌, ◌/ℚ◌, ◌≤ℚ◌, ◌<ℚ◌, lt_q}
+use Rattle.rational.specs.Ratio.{SumFits}
+use Rattle.rational.specs.Grid.{Whole}
+use Rattle.rational.proofs.Laws.{le_refl, le_trans, le_of_lt, lt_irrefl, add_assoc, one_mul, div_mul, not_zero}
+use Rattle.rational.proofs.Grid.{whole_int, whole_add, whole_sub, within_nonneg}
+use Rattle.rational.proofs.Linear.{with1, with2, with3, with_atoms}
+use Rattle.upp_curve.specs.Curve.{SpecCurve}
+use Rattle.upp_curve.specs.Curves.{IsCurve}
 use Rattle.upp_limits.specs.Limits.{Sizes, curve_numbers}
 use Rattle.upp_limits.specs.Sized.{IsSlope, Stands, grid_of, times_largest}
 use Rattle.upp_limits.proofs.NarrowSizes.{small_slope}
-use Rattle.curve_call.specs.upp_normal.specs.Operand.{AreLimited}
-use Rattle.curve_call.specs.upp_normal.proofs.AnswerRoom.{wide_narrow}
-use Rattle.net_model.specs.run_laws.specs.declared.steps.Step.{Step}
-use Rattle.net_model.specs.run_laws.specs.declared.steps.Step.TheVariants.{Enter, Reach, Work, Leave, Visit}
-use Rattle.net_model.specs.run_laws.specs.Runs.{SpecRun}
-use Rattle.net_model.specs.run_laws.specs.Cards.{all, whole, size, ServerStep, Arrives, Works, Leaves, Visits}
-use Rattle.net_model.specs.run_laws.specs.Counts.{when, arrived}
-use Rattle.net_model.specs.run_laws.specs.Servers.{Server, ServerState, start}
-use Rattle.net_model.specs.run_laws.specs.Next.{next}
-use Rattle.net_model.specs.run_laws.specs.Allows.{AllAllowed, IsLawfulView}
-use Rattle.net_model.specs.run_laws.specs.Routes.{Routes, server_at}
-use Rattle.net_model.specs.run_laws.specs.Lawful.{IsLawful}
-use Rattle.net_model.specs.run_laws.specs.Views.{Entry, entered_after, server_of, seen, view_from, view}
-use Rattle.net_model.specs.run_laws.proofs.Sizes.{whole_nonneg, whole_le, whole_sum, size_nonneg}
-use Rattle.net_model.specs.run_laws.proofs.Orders.{worked_arrived}
-use Rattle.net_model.specs.run_laws.proofs.Views.{views_are_lawful}
+use Rattle.upp_normal.specs.Operand.{AreLimited}
+use Rattle.upp_normal.proofs.AnswerRoom.{wide_narrow}
+use Rattle.run_laws.specs.declared.steps.Step.{Step}
+use Rattle.run_laws.specs.declared.steps.Step.TheVariants.{Enter, Reach, Work, Leave, Visit}
+use Rattle.run_laws.specs.Runs.{SpecRun}
+use Rattle.run_laws.specs.Cards.{all, whole, size, ServerStep, Arrives, Works, Leaves, Visits}
+use Rattle.run_laws.specs.Counts.{when, arrived}
+use Rattle.run_laws.specs.Servers.{Server, ServerState, start}
+use Rattle.run_laws.specs.Next.{next}
+use Rattle.run_laws.specs.Allows.{AllAllowed, IsLawfulView}
+use Rattle.run_laws.specs.Routes.{Routes, server_at}
+use Rattle.run_laws.specs.Lawful.{IsLawful}
+use Rattle.run_laws.specs.Views.{Entry, entered_after, server_of, seen, view_from, view}
+use Rattle.run_laws.proofs.Sizes.{whole_nonneg, whole_le, whole_sum, size_nonneg}
+use Rattle.run_laws.proofs.Orders.{worked_arrived}
+use Rattle.run_laws.proofs.Views.{views_are_lawful}
 use Rattle.net_model.specs.Networks.{Net}
 use Rattle.net_model.specs.NetRoutes.{routes_of, server_for}
 use Rattle.net_cells.specs.Numbered.{service}

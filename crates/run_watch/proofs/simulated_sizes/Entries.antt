@@ -3,15 +3,15 @@ use Rattle.std.specs.Prelude.{◌≡◌, ℕ, ◌+◌, ◌<◌, ◌≤◌, ◌==
 use Rattle.std.proofs.Common.{arith, refl, sym, subst, ap, ◌∙◌, inl, inr}
 use Rattle.std.proofs.lemmas.Bool.{cases_Bool, eqb-true, eqb-false}
 use Rattle.std.proofs.lemmas.List.{length-map, length-set, get_or-map, length_push}
-use Rattle.upp_limits.specs.rational.specs.Rational.{ℚ}
-use Rattle.net_model.specs.run_laws.specs.declared.steps.Step.{Step}
-use Rattle.net_model.specs.run_laws.specs.declared.steps.Step.TheVariants.{Enter, Reach, Work, Leave, Visit}
-use Rattle.net_model.specs.run_laws.specs.Runs.{SpecRun}
-use Rattle.net_model.specs.run_laws.specs.Servers.{Fifo, Server, ServerState, start}
-use Rattle.net_model.specs.run_laws.specs.Next.{next, after}
-use Rattle.net_model.specs.run_laws.specs.Routes.{Routes, server_at}
-use Rattle.net_model.specs.run_laws.specs.Views.{entered_after, server_of, seen, view_from, view}
-use Rattle.net_model.specs.run_laws.specs.Lawful.{RunState, state_at, next_run, after_run, run_start, AllAllowedInRun, IsLawful}
+use Rattle.rational.specs.Rational.{ℚ}
+use Rattle.run_laws.specs.declared.steps.Step.{Step}
+use Rattle.run_laws.specs.declared.steps.Step.TheVariants.{Enter, Reach, Work, Leave, Visit}
+use Rattle.run_laws.specs.Runs.{SpecRun}
+use Rattle.run_laws.specs.Servers.{Fifo, Server, ServerState, start}
+use Rattle.run_laws.specs.Next.{next, after}
+use Rattle.run_laws.specs.Routes.{Routes, server_at}
+use Rattle.run_laws.specs.Views.{entered_after, server_of, seen, view_from, view}
+use Rattle.run_laws.specs.Lawful.{RunState, state_at, next_run, after_run, run_start, AllAllowedInRun, IsLawful}
 use Rattle.flow_watch.specs.watch_laws.Entries.{entries}
 use Rattle.net_model.proofs.stated_runs.Good.{own_state, other_state}
 

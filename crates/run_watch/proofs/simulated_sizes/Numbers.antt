@@ -3,12 +3,12 @@ use Rattle.std.specs.Prelude.{◌≡◌, ℕ, zero, suc, ◌<◌, ◌≤◌, pos
 use Rattle.std.specs.List.{AllByRecursion, flat_map}
 use Rattle.std.proofs.Common.{arith, refl, sym, subst, ap, inl, inr}
 use Rattle.std.proofs.Math.Nat.{le-max_left}
-use Rattle.upp_limits.specs.rational.specs.Rational.{ℚ, int, ◌*ℚ◌, ◌≤ℚ◌}
-use Rattle.upp_limits.specs.rational.specs.Grid.{Whole, Within}
-use Rattle.upp_limits.specs.rational.specs.Gauge.{common_den, bound_of}
-use Rattle.upp_limits.specs.min_plus.specs.WholeUp.{whole_up}
-use Rattle.upp_limits.specs.upp_curve.specs.Curve.{SpecCurve}
-use Rattle.upp_limits.specs.upp_curve.specs.Curves.{IsCurve}
+use Rattle.rational.specs.Rational.{ℚ, int, ◌*ℚ◌, ◌≤ℚ◌}
+use Rattle.rational.specs.Grid.{Whole, Within}
+use Rattle.rational.specs.Gauge.{common_den, bound_of}
+use Rattle.min_plus.specs.WholeUp.{whole_up}
+use Rattle.upp_curve.specs.Curve.{SpecCurve}
+use Rattle.upp_curve.specs.Curves.{IsCurve}
 use Rattle.upp_limits.specs.Limits.{Numbers, Sizes, curve_numbers, twice}
 use Rattle.upp_limits.specs.Sized.{IsValue, IsSlope, Stands}
 use Rattle.upp_limits.proofs.CommonDen.{common_den_each, bound_each}

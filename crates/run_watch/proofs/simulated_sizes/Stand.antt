@@ -2,17 +2,17 @@
 use Rattle.std.specs.Prelude.{◌≡◌, ◌<◌, ◌^◌, pos, [], length}
 use Rattle.std.proofs.Common.{arith, sym, subst}
 use Rattle.std.proofs.lemmas.List.{length-map}
-use Rattle.upp_limits.specs.rational.specs.Rational.{ℚ, int}
-use Rattle.upp_limits.specs.rational.proofs.Laws.{le_trans, mul_le_mul}
-use Rattle.upp_limits.specs.rational.proofs.Integers.{nat_nonneg}
-use Rattle.upp_limits.specs.rational.proofs.Grid.{whole_int}
-use Rattle.upp_limits.specs.rational.proofs.Laws.{le_refl}
-use Rattle.curve_call.specs.upp_normal.specs.Operand.{AreLimited}
-use Rattle.net_model.specs.run_laws.specs.Lawful.{run_start, IsLawful}
-use Rattle.net_model.specs.run_laws.specs.Routes.{server_at}
-use Rattle.net_model.specs.run_laws.specs.Servers.{start}
-use Rattle.net_model.specs.run_laws.specs.Views.{view}
-use Rattle.net_model.specs.run_laws.proofs.Views.{views_are_lawful}
+use Rattle.rational.specs.Rational.{ℚ, int}
+use Rattle.rational.proofs.Laws.{le_trans, mul_le_mul}
+use Rattle.rational.proofs.Integers.{nat_nonneg}
+use Rattle.rational.proofs.Grid.{whole_int}
+use Rattle.rational.proofs.Laws.{le_refl}
+use Rattle.upp_normal.specs.Operand.{AreLimited}
+use Rattle.run_laws.specs.Lawful.{run_start, IsLawful}
+use Rattle.run_laws.specs.Routes.{server_at}
+use Rattle.run_laws.specs.Servers.{start}
+use Rattle.run_laws.specs.Views.{view}
+use Rattle.run_laws.proofs.Views.{views_are_lawful}
 use Rattle.net_model.specs.Networks.{Net}
 use Rattle.net_model.specs.NetRoutes.{routes_of, server_for}
 use Rattle.net_model.specs.Accepted.{IsAccepted}

@@ -3,15 +3,15 @@ use Rattle.std.specs.Prelude.{◌≡◌, ◌⊎◌, ℕ, pos, List, [], ◌∷�
 use Rattle.std.specs.List.{AllByRecursion}
 use Rattle.std.proofs.Common.{arith, sym, subst, ◌∙◌, inl, inr}
 use Rattle.std.proofs.lemmas.List.{length-map}
-use Rattle.upp_limits.specs.rational.specs.Rational.{ℚ, int, ◌-ℚ◌, ◌*ℚ◌, ◌/ℚ◌, ◌<ℚ◌}
-use Rattle.upp_limits.specs.rational.proofs.Laws.{not_zero}
-use Rattle.upp_limits.specs.rational.proofs.Quotients.{div_unique}
-use Rattle.upp_limits.specs.rational.proofs.Linear.{with2}
+use Rattle.rational.specs.Rational.{ℚ, int, ◌-ℚ◌, ◌*ℚ◌, ◌/ℚ◌, ◌<ℚ◌}
+use Rattle.rational.proofs.Laws.{not_zero}
+use Rattle.rational.proofs.Quotients.{div_unique}
+use Rattle.rational.proofs.Linear.{with2}
 use Rattle.upp_limits.specs.Sized.{IsSlope}
-use Rattle.net_model.specs.run_laws.specs.declared.steps.Step.{Step}
-use Rattle.net_model.specs.run_laws.specs.declared.steps.Step.TheVariants.{Enter, Reach, Work, Leave, Visit}
-use Rattle.net_model.specs.run_laws.specs.Lawful.{RunState, state_at, next_run, after_run, run_start, AllowsInRun, AllAllowedInRun}
-use Rattle.net_model.specs.run_laws.proofs.Views.{after_more}
+use Rattle.run_laws.specs.declared.steps.Step.{Step}
+use Rattle.run_laws.specs.declared.steps.Step.TheVariants.{Enter, Reach, Work, Leave, Visit}
+use Rattle.run_laws.specs.Lawful.{RunState, state_at, next_run, after_run, run_start, AllowsInRun, AllAllowedInRun}
+use Rattle.run_laws.proofs.Views.{after_more}
 use Rattle.net_model.specs.Networks.{Net, NetServer}
 use Rattle.net_model.specs.NetRoutes.{server_for}
 use Rattle.net_model.specs.Traces.{SpecTrace}

@@ -3,25 +3,25 @@ use Rattle.std.specs.Prelude.{◌≡◌, ◌≤◌, pos, true, List, [], ◌∷�
 use Rattle.std.specs.List.{AllByRecursion}
 use Rattle.std.proofs.Common.{arith, refl, sym, subst, ap, ◌∙◌}
 use Rattle.std.proofs.lemmas.List.{append-nil}
-use Rattle.upp_limits.specs.rational.specs.Rational.{ℚ, int, ◌+ℚ◌, ◌-ℚ◌, ◌*ℚ◌, ◌/ℚ◌, ◌≤ℚ◌, ◌<ℚ◌}
-use Rattle.upp_limits.specs.rational.proofs.Laws.{le_of_lt, mul_le_mul, mul_le_mul_right, mul_sub, mul_zero, div_mul, not_zero}
-use Rattle.upp_limits.specs.rational.proofs.Integers.{nat_nonneg, nat_le_out}
-use Rattle.upp_limits.specs.rational.proofs.Linear.{with2, with_atoms}
-use Rattle.upp_limits.specs.rational.proofs.Over.{le_q_out}
+use Rattle.rational.specs.Rational.{ℚ, int, ◌+ℚ◌, ◌-ℚ◌, ◌*ℚ◌, ◌/ℚ◌, ◌≤ℚ◌, ◌<ℚ◌}
+use Rattle.rational.proofs.Laws.{le_of_lt, mul_le_mul, mul_le_mul_right, mul_sub, mul_zero, div_mul, not_zero}
+use Rattle.rational.proofs.Integers.{nat_nonneg, nat_le_out}
+use Rattle.rational.proofs.Linear.{with2, with_atoms}
+use Rattle.rational.proofs.Over.{le_q_out}
 use Rattle.upp_limits.specs.Limits.{Sizes}
 use Rattle.upp_limits.specs.Sized.{IsSlope}
-use Rattle.curve_call.specs.upp_normal.specs.Operand.{AreLimited}
-use Rattle.net_model.specs.run_laws.specs.Cards.{Card, time_of, all, whole, size, ServerStep, Arrives, Works, Leaves, Visits}
-use Rattle.net_model.specs.run_laws.specs.Counts.{when, upto, arrived_upto, worked}
-use Rattle.net_model.specs.run_laws.proofs.Counts.{departed_upto}
-use Rattle.net_model.specs.run_laws.specs.Servers.{Server, ServerState, start}
-use Rattle.net_model.specs.run_laws.specs.Next.{next, after}
-use Rattle.net_model.specs.run_laws.specs.Allows.{AllAllowed, IsLawfulView}
-use Rattle.net_model.specs.run_laws.proofs.Sizes.{whole_sum}
-use Rattle.net_model.specs.run_laws.proofs.Sums.{Each}
-use Rattle.net_model.specs.run_laws.proofs.Heads.{sum_of}
-use Rattle.net_model.specs.run_laws.proofs.Orders.{at_upto, left_upto_worked}
-use Rattle.net_model.specs.run_laws.proofs.Cuts.{IsAfter, time_in_order}
+use Rattle.upp_normal.specs.Operand.{AreLimited}
+use Rattle.run_laws.specs.Cards.{Card, time_of, all, whole, size, ServerStep, Arrives, Works, Leaves, Visits}
+use Rattle.run_laws.specs.Counts.{when, upto, arrived_upto, worked}
+use Rattle.run_laws.proofs.Counts.{departed_upto}
+use Rattle.run_laws.specs.Servers.{Server, ServerState, start}
+use Rattle.run_laws.specs.Next.{next, after}
+use Rattle.run_laws.specs.Allows.{AllAllowed, IsLawfulView}
+use Rattle.run_laws.proofs.Sizes.{whole_sum}
+use Rattle.run_laws.proofs.Sums.{Each}
+use Rattle.run_laws.proofs.Heads.{sum_of}
+use Rattle.run_laws.proofs.Orders.{at_upto, left_upto_worked}
+use Rattle.run_laws.proofs.Cuts.{IsAfter, time_in_order}
 use Rattle.run_watch.specs.declared.span.Span.{Span}
 use Rattle.run_watch.specs.Ramps.{InOrder}
 use Rattle.run_watch.specs.Seen.{work_spans}

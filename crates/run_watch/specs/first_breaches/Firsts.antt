@@ -1,9 +1,9 @@
 -- What a run of a network breaks first, and the breaches of one kind. Own choice.
 use Rattle.std.specs.Prelude.{◌≡◌, ℕ, ◌<◌, Option, MatchOption, length}
-use Rattle.upp_limits.specs.upp_curve.specs.Curve.{value_at}
-use Rattle.upp_limits.specs.upp_curve.specs.Curves.{IsCurve}
-use Rattle.net_model.specs.run_laws.specs.Runs.{SpecRun}
-use Rattle.net_model.specs.run_laws.specs.RunPremises.{KeepsPremises}
+use Rattle.upp_curve.specs.Curve.{value_at}
+use Rattle.upp_curve.specs.Curves.{IsCurve}
+use Rattle.run_laws.specs.Runs.{SpecRun}
+use Rattle.run_laws.specs.RunPremises.{KeepsPremises}
 use Rattle.net_model.specs.declared.breach.Breach.{Breach}
 use Rattle.net_model.specs.declared.breach.Breach.TheVariants.{Size, Arrival, Service}
 use Rattle.net_model.specs.Networks.{Net}

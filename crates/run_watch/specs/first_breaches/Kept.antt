@@ -1,9 +1,9 @@
 -- Servers that are known to keep their service curves in a run. Own choice.
 use Rattle.std.specs.Prelude.{◌≡◌, ◌<◌, ℕ, Bool, true, List, length, Some, slice_get}
-use Rattle.upp_limits.specs.upp_curve.specs.Curve.{value_at}
-use Rattle.net_model.specs.run_laws.specs.Runs.{SpecRun}
-use Rattle.net_model.specs.run_laws.specs.Views.{view}
-use Rattle.net_model.specs.run_laws.specs.Premises.{KeepsService}
+use Rattle.upp_curve.specs.Curve.{value_at}
+use Rattle.run_laws.specs.Runs.{SpecRun}
+use Rattle.run_laws.specs.Views.{view}
+use Rattle.run_laws.specs.Premises.{KeepsService}
 use Rattle.net_model.specs.Networks.{Net}
 use Rattle.net_model.specs.NetRoutes.{routes_of}
 use Rattle.net_cells.specs.Numbered.{service}

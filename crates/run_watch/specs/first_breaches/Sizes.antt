@@ -2,15 +2,15 @@
 -- simulation, or of the check of a recorded run, gives such sizes. Own choice.
 use Rattle.std.specs.Prelude.{ℕ, ◌+◌, ◌<◌, ◌≤◌, ◌^◌, IsTrue, List, [], ◌∷◌, length}
 use Rattle.std.specs.List.{AllByRecursion}
-use Rattle.upp_limits.specs.rational.specs.Rational.{ℚ, ◌-ℚ◌, ◌/ℚ◌}
+use Rattle.rational.specs.Rational.{ℚ, ◌-ℚ◌, ◌/ℚ◌}
 use Rattle.upp_limits.specs.Limits.{Sizes, curve_numbers}
 use Rattle.upp_limits.specs.Sized.{IsSlope, Stands}
-use Rattle.curve_call.specs.upp_normal.specs.Operand.{AreLimited}
-use Rattle.net_model.specs.run_laws.specs.declared.steps.Step.{Step}
-use Rattle.net_model.specs.run_laws.specs.declared.steps.Step.TheVariants.{Enter, Reach, Work, Leave, Visit}
-use Rattle.net_model.specs.run_laws.specs.Cards.{ServerStep, Arrives, Works, Leaves, Visits}
-use Rattle.net_model.specs.run_laws.specs.Runs.{SpecRun}
-use Rattle.net_model.specs.run_laws.specs.Views.{view}
+use Rattle.upp_normal.specs.Operand.{AreLimited}
+use Rattle.run_laws.specs.declared.steps.Step.{Step}
+use Rattle.run_laws.specs.declared.steps.Step.TheVariants.{Enter, Reach, Work, Leave, Visit}
+use Rattle.run_laws.specs.Cards.{ServerStep, Arrives, Works, Leaves, Visits}
+use Rattle.run_laws.specs.Runs.{SpecRun}
+use Rattle.run_laws.specs.Views.{view}
 use Rattle.net_model.specs.Networks.{Net}
 use Rattle.net_model.specs.NetRoutes.{routes_of}
 use Rattle.net_cells.specs.Numbered.{is_live, arrival, service}

@@ -1,8 +1,8 @@
 -- The numbers of a simulated run whose gauge is below 2 ^ 120. Own choice.
 use Rattle.std.specs.Prelude.{ℕ, ◌<◌, ◌^◌, IsTrue, length}
-use Rattle.upp_limits.specs.upp_curve.specs.Curves.{IsCurve}
-use Rattle.net_model.specs.run_laws.specs.Runs.{SpecRun}
-use Rattle.net_model.specs.run_laws.specs.Lawful.{IsLawful}
+use Rattle.upp_curve.specs.Curves.{IsCurve}
+use Rattle.run_laws.specs.Runs.{SpecRun}
+use Rattle.run_laws.specs.Lawful.{IsLawful}
 use Rattle.net_model.specs.Networks.{Net}
 use Rattle.net_model.specs.NetRoutes.{routes_of}
 use Rattle.net_model.specs.Accepted.{IsAccepted}

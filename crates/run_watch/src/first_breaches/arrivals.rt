@@ -1,7 +1,7 @@
 //! The first pair of packets of a flow between which too many bits enter.
 
 ghost use Rattle.std.specs.Prelude.{length, IfOk};
-ghost use Rattle.net_model.specs.run_laws.specs.Lawful.{IsLawful};
+ghost use Rattle.run_laws.specs.Lawful.{IsLawful};
 ghost use Rattle.net_model.specs.NetRoutes.{routes_of};
 ghost use Rattle.run_watch.specs.FirstOf.{IsBest};
 ghost use Rattle.run_watch.specs.first_breaches.Sizes.{HaveSizes};
@@ -11,7 +11,7 @@ use crate::first_breaches::counts::flow_count;
 use crate::{Found, arrival_breach, earlier, entries_of};
 use net_cells::live_flow;
 use net_model::Network;
-use net_model::run_laws::Run;
+use run_laws::Run;
 use std::alloc::{AllocError, Global};
 
 /// The first pair of one flow between which more bits enter than its arrival curve has; none where the flow is not

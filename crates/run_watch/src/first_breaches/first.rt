@@ -1,7 +1,7 @@
 //! What a run of a network breaks first.
 
 ghost use Rattle.std.specs.Prelude.{IfOk};
-ghost use Rattle.net_model.specs.run_laws.specs.Lawful.{IsLawful};
+ghost use Rattle.run_laws.specs.Lawful.{IsLawful};
 ghost use Rattle.net_model.specs.NetRoutes.{routes_of};
 ghost use Rattle.run_watch.specs.first_breaches.Sizes.{HaveSizes};
 ghost use Rattle.run_watch.specs.first_breaches.Firsts.{TellsFirst};
@@ -11,8 +11,8 @@ use crate::first_breaches::arrivals::first_arrival;
 use crate::first_breaches::services::first_service;
 use crate::first_breaches::sizes::first_size;
 use crate::{Found, earlier};
-use net_model::run_laws::Run;
 use net_model::{Breach, Network};
+use run_laws::Run;
 use std::alloc::{AllocError, Global};
 
 /// What a lawful run of a network breaks first: none exactly where it keeps its packet sizes, its arrival curves and

@@ -1,7 +1,7 @@
 //! The first window in which a server works less than its curve.
 
 ghost use Rattle.std.specs.Prelude.{◌<◌, ◌↔◌, length, IfOk, IsTrue};
-ghost use Rattle.net_model.specs.run_laws.specs.Lawful.{IsLawful};
+ghost use Rattle.run_laws.specs.Lawful.{IsLawful};
 ghost use Rattle.net_model.specs.NetRoutes.{routes_of};
 ghost use Rattle.run_watch.specs.Seen.{AreFirsts};
 ghost use Rattle.run_watch.specs.FirstOf.{IsBest, IsBestBefore};
@@ -11,11 +11,11 @@ ghost use Rattle.run_watch.specs.first_breaches.Kept.{IsTold, AreKept};
 
 use crate::first_breaches::counts::{flow_count, server_count};
 use crate::{Found, earlier, service_breach, time_if_any, watch};
+use fraction128::Frac;
 use net_cells::{server, server_of_hop};
 use net_model::Network;
-use net_model::run_laws::Run;
+use run_laws::Run;
 use std::alloc::{AllocError, Global};
-use upp_limits::fraction128::Frac;
 
 /// The first server of each flow's path.
 fn firsts_of(alloc: Global, net: &Network) -> Result<Vec<u32>, AllocError>

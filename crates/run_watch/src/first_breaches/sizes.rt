@@ -1,7 +1,7 @@
 //! The first packet that is longer than its flow allows.
 
 ghost use Rattle.std.specs.Prelude.{length, IfOk};
-ghost use Rattle.net_model.specs.run_laws.specs.Lawful.{IsLawful};
+ghost use Rattle.run_laws.specs.Lawful.{IsLawful};
 ghost use Rattle.net_model.specs.NetRoutes.{routes_of};
 ghost use Rattle.run_watch.specs.FirstOf.{IsBest};
 ghost use Rattle.run_watch.specs.first_breaches.Sizes.{HaveSizes};
@@ -11,7 +11,7 @@ use crate::first_breaches::counts::flow_count;
 use crate::{Found, earlier, entries_of, size_breach};
 use net_cells::live_flow;
 use net_model::Network;
-use net_model::run_laws::Run;
+use run_laws::Run;
 use std::alloc::{AllocError, Global};
 
 /// The first packet of one flow that is longer than it allows; none where the flow is not live.

@@ -3,10 +3,10 @@ use Rattle.std.proofs.Common.{◌≡◌, ℕ, zero, suc, ◌<◌, ◌+◌, List,
 use Rattle.std.specs.Prelude.{pos, ◌==◌}
 use Rattle.std.proofs.lemmas.Bool.{cases_Bool, eq-eqb}
 use Rattle.std.proofs.lemmas.List.{drop_more}
-use Rattle.upp_limits.specs.rational.specs.Rational.{ℚ, int, ◌≤ℚ◌}
-use Rattle.upp_limits.specs.rational.specs.MinMax.{max_q}
-use Rattle.upp_limits.specs.rational.proofs.Laws.{le_refl, le_trans, antisym}
-use Rattle.upp_limits.specs.rational.proofs.MinMax.{max_q_assoc, max_q_is_left, max_q_right, max_q_ge_left, max_q_ge_right, max_q_le}
+use Rattle.rational.specs.Rational.{ℚ, int, ◌≤ℚ◌}
+use Rattle.rational.specs.MinMax.{max_q}
+use Rattle.rational.proofs.Laws.{le_refl, le_trans, antisym}
+use Rattle.rational.proofs.MinMax.{max_q_assoc, max_q_is_left, max_q_right, max_q_ge_left, max_q_ge_right, max_q_le}
 use Rattle.net_model.specs.declared.trace.TracePacket.{TracePacket}
 use Rattle.net_model.specs.declared.trace.Stall.{Stall}
 use Rattle.net_model.specs.Networks.{Net, NetServer}

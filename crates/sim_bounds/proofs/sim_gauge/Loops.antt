@@ -1,6 +1,6 @@
 -- The numbers of packets, stalls and servers, gathered part by part.
 use Rattle.std.proofs.Common.{◌≡◌, List, [], ◌∷◌, refl, ap, ◌∙◌, append-nil}
-use Rattle.upp_limits.specs.rational.specs.Rational.{ℚ}
+use Rattle.rational.specs.Rational.{ℚ}
 use Rattle.upp_limits.specs.Limits.{Numbers, joined, time_alone, slope_alone}
 use Rattle.upp_limits.proofs.JoinedNumbers.{joined_three}
 use Rattle.net_model.specs.declared.server.Server.{Server}

@@ -3,12 +3,12 @@ use Rattle.std.proofs.Common.{◌≡◌, ℕ, ◌<◌, ◌+◌, List, ◌∷◌,
 use Rattle.std.specs.Prelude.{◌≢◌}
 use Rattle.std.proofs.lemmas.Bool.{eq-eqb, ne_eqb}
 use Rattle.std.proofs.lemmas.List.{drop_more}
-use Rattle.upp_limits.specs.rational.specs.Rational.{ℚ, ◌+ℚ◌, ◌-ℚ◌, neg_ℚ, ◌/ℚ◌}
-use Rattle.upp_limits.specs.rational.specs.Ratio.{SumFits}
-use Rattle.upp_limits.specs.rational.proofs.Linear.{with6}
-use Rattle.upp_limits.specs.rational.proofs.Laws.{antisym}
-use Rattle.net_model.specs.run_laws.specs.Cards.{whole}
-use Rattle.net_model.specs.run_laws.specs.Routes.{link_at}
+use Rattle.rational.specs.Rational.{ℚ, ◌+ℚ◌, ◌-ℚ◌, neg_ℚ, ◌/ℚ◌}
+use Rattle.rational.specs.Ratio.{SumFits}
+use Rattle.rational.proofs.Linear.{with6}
+use Rattle.rational.proofs.Laws.{antisym}
+use Rattle.run_laws.specs.Cards.{whole}
+use Rattle.run_laws.specs.Routes.{link_at}
 use Rattle.net_model.specs.declared.trace.Stall.{Stall}
 use Rattle.net_model.specs.Networks.{Net, NetServer}
 use Rattle.net_model.specs.declared.server.ServiceKind.{ServiceKind}

@@ -1,7 +1,7 @@
 -- The simulation gauge, from the sizes of the numbers that were gathered.
 use Rattle.std.proofs.Common.{◌≡◌, ap}
 use Rattle.std.specs.Prelude.{pos}
-use Rattle.upp_limits.specs.rational.specs.Rational.{int}
+use Rattle.rational.specs.Rational.{int}
 use Rattle.upp_limits.specs.Limits.{joined, value_alone, sizes_of, gauge_of}
 use Rattle.net_model.specs.Networks.{Net}
 use Rattle.net_model.specs.Traces.{SpecTrace}

@@ -3,10 +3,10 @@ use Rattle.std.proofs.Common.{◌≡◌, ℕ, zero, suc, ◌<◌, ◌+◌, List,
 use Rattle.std.specs.Prelude.{pos, nat_abs}
 use Rattle.std.specs.List.{AllByRecursion}
 use Rattle.std.proofs.lemmas.List.{drop_more}
-use Rattle.upp_limits.specs.rational.specs.Gauge.{Kept, lcm}
+use Rattle.rational.specs.Gauge.{Kept, lcm}
 use Rattle.net_model.specs.declared.server.Server.{Server}
 use Rattle.net_model.specs.Views.{servers_of}
-use Rattle.upp_limits.specs.rational.specs.Rational.{int, ◌<ℚ◌}
+use Rattle.rational.specs.Rational.{int, ◌<ℚ◌}
 use Rattle.net_model.specs.Networks.{Net, NetServer}
 use Rattle.net_model.specs.Accepted.{IsAccepted}
 use Rattle.net_model.proofs.stated_runs.Lists.{In, in_contains}

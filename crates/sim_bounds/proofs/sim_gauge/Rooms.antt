@@ -1,11 +1,11 @@
 -- Steps on times that have room.
 use Rattle.std.proofs.Common.{◌≡◌, ℕ, ◌≤◌, List, [], ◌∷◌, ◌++◌, sym, ◌∙◌, subst, arith, append_assoc}
-use Rattle.upp_limits.specs.rational.specs.Rational.{ℚ, ◌+ℚ◌, ◌-ℚ◌}
-use Rattle.upp_limits.specs.rational.specs.Ratio.{SumFits}
-use Rattle.upp_limits.specs.rational.proofs.Linear.{with2, with3}
-use Rattle.upp_limits.specs.rational.proofs.Laws.{antisym}
-use Rattle.upp_limits.specs.rational.proofs.Grid.{whole_sub}
-use Rattle.upp_limits.specs.rational.proofs.Sizes.{largest_part, sum_on_grid}
+use Rattle.rational.specs.Rational.{ℚ, ◌+ℚ◌, ◌-ℚ◌}
+use Rattle.rational.specs.Ratio.{SumFits}
+use Rattle.rational.proofs.Linear.{with2, with3}
+use Rattle.rational.proofs.Laws.{antisym}
+use Rattle.rational.proofs.Grid.{whole_sub}
+use Rattle.rational.proofs.Sizes.{largest_part, sum_on_grid}
 use Rattle.net_model.specs.stated_runs.Setups.{StallTimes}
 use Rattle.net_model.proofs.stated_runs.GridTimes.{within, room_two, difference_fits}
 use Rattle.net_model.specs.stated_runs.TimeGrids.{HasRoom, IsTime, AreStallTimes}
@@ -30,7 +30,7 @@ pub stalled_push : (xs : List StallTimes) (x : StallTimes) → stalled_for (xs +
 stalled_push [] x = antisym (with2 x.start x.end (λ c. omega (arith, c.le, c.lt, c.same)))
 stalled_push (y ∷ ys) x =
     let h = stalled_push ys x in
-    antisym (Rattle.upp_limits.specs.rational.proofs.Linear.with6 y.start y.end x.start x.end (stalled_for ys) (stalled_for (ys ++ x ∷ [])) (λ c. omega (arith, c.le, c.lt, c.same)))
+    antisym (Rattle.rational.proofs.Linear.with6 y.start y.end x.start x.end (stalled_for ys) (stalled_for (ys ++ x ∷ [])) (λ c. omega (arith, c.le, c.lt, c.same)))
 
 pub stalls_fit : (d : ℕ) (e : ℚ) → HasRoom d e → (all before rest : List StallTimes) → before ++ rest ≡ all
     → ((xs ys : List StallTimes) → all ≡ xs ++ ys → IsTime d e (stalled_for xs)) → AreStallTimes d e rest → StallsFit (stalled_for before) rest

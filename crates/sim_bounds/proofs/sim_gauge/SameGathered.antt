@@ -1,7 +1,7 @@
 -- The order in which the numbers of a simulation are gathered does not count.
 use Rattle.std.proofs.Common.{List, [], ◌∷◌, ◌++◌}
 use Rattle.std.specs.List.{AllByRecursion}
-use Rattle.upp_limits.specs.rational.specs.Rational.{ℚ}
+use Rattle.rational.specs.Rational.{ℚ}
 use Rattle.upp_limits.specs.Limits.{Numbers, joined, time_alone}
 use Rattle.upp_limits.proofs.Every.{every_append, every_left, every_right}
 use Rattle.upp_limits.proofs.SameSizes.{Equals}

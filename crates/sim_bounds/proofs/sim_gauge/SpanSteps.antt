@@ -3,10 +3,10 @@ use Rattle.std.proofs.Common.{◌≡◌, ℕ, suc, ◌+◌, ◌<◌, List, [], �
 use Rattle.std.specs.Prelude.{pos, Contains}
 use Rattle.std.specs.List.{AllByRecursion}
 use Rattle.std.proofs.lemmas.List.{length-map}
-use Rattle.upp_limits.specs.rational.specs.Rational.{ℚ, int, ◌+ℚ◌, ◌*ℚ◌}
-use Rattle.upp_limits.specs.rational.specs.Ratio.{IsSmall, SumFits}
-use Rattle.upp_limits.specs.upp_curve.specs.Curve.{SpecCurve}
-use Rattle.net_model.specs.run_laws.specs.Routes.{link_at}
+use Rattle.rational.specs.Rational.{ℚ, int, ◌+ℚ◌, ◌*ℚ◌}
+use Rattle.rational.specs.Ratio.{IsSmall, SumFits}
+use Rattle.upp_curve.specs.Curve.{SpecCurve}
+use Rattle.run_laws.specs.Routes.{link_at}
 use Rattle.net_model.specs.declared.server.Server.{Server}
 use Rattle.net_model.specs.declared.server.ServiceKind.{ServiceKind}
 use Rattle.net_model.specs.declared.server.ServiceKind.TheVariants.{Latency, Gate, Listed}
@@ -19,14 +19,14 @@ use Rattle.net_model.specs.stated_runs.Setups.{Opening, IsGateFor, opening_of}
 use Rattle.net_model.specs.stated_runs.FromTraces.{gate_of, stalls_at, setup_of}
 use Rattle.net_model.proofs.stated_runs.Lists.{In, in_contains}
 use Rattle.sim_bounds.specs.Horizons.{gate_ratio, stalled_for, first_time, sum_below, horizon}
-use Rattle.upp_limits.specs.rational.proofs.Linear.{with1, with4, with5}
-use Rattle.upp_limits.specs.rational.proofs.Laws.{antisym}
+use Rattle.rational.proofs.Linear.{with1, with4, with5}
+use Rattle.rational.proofs.Laws.{antisym}
 use Rattle.sim_bounds.specs.Way.{open_time, gated, plain_time, plain_span, HorizonFits}
 use Rattle.sim_bounds.proofs.WayFits.{horizon_parts}
 use Rattle.net_model.specs.stated_runs.TimeGrids.{IsTime}
 use Rattle.upp_limits.proofs.Every.{every_append}
-use Rattle.upp_limits.specs.fraction128.specs.declared.wide_sums.products.Product.{Product}
-use Rattle.upp_limits.specs.fraction128.specs.wide_sums.Sums.{IsFromZero, sum_of_products}
+use Rattle.fraction128.specs.declared.wide_sums.products.Product.{Product}
+use Rattle.fraction128.specs.wide_sums.Sums.{IsFromZero, sum_of_products}
 use Rattle.sim_bounds.proofs.Members.{at_in_list}
 use Rattle.sim_bounds.specs.sim_gauge.Steps.{StallsFit}
 use Rattle.net_model.proofs.stated_runs.ServerSetups.{ServerIs, made_at}

@@ -2,19 +2,19 @@
 -- work on.
 use Rattle.std.proofs.Common.{◌≡◌, ℕ, List, [], ◌∷◌, ◌++◌, refl, sym, ap, ◌∙◌, subst, arith, inl, inr, Some, None}
 use Rattle.std.specs.Prelude.{◌≢◌, pos, true, ◌⊎◌}
-use Rattle.upp_limits.specs.rational.specs.Rational.{ℚ, int, ◌+ℚ◌, ◌-ℚ◌, ◌*ℚ◌, ◌/ℚ◌, ◌≤ℚ◌, ◌<ℚ◌}
-use Rattle.upp_limits.specs.rational.proofs.Linear.{with1, with2, with4, with5, with6, with7, with8}
-use Rattle.upp_limits.specs.rational.proofs.Laws.{le_trans, le_of_lt, lt_le_trans, le_or_lt, lt_irrefl, antisym, between, mul_le_mul, mul_sub, mul_add, mul_assoc, mul_comm, mul_pos, div_mul, not_zero}
-use Rattle.upp_limits.specs.rational.proofs.MinMax.{lt_q_not, le_q_not}
-use Rattle.net_model.specs.run_laws.specs.Cards.{Card, ServerStep, Arrives, Works, Leaves, Visits, all, size}
-use Rattle.net_model.specs.run_laws.specs.Counts.{when, arrived, worked, before}
-use Rattle.net_model.specs.run_laws.specs.Servers.{Discipline, Span, Under, ServerState, clip, done, done_so_far, head_of, without_head}
-use Rattle.net_model.specs.run_laws.specs.Next.{next}
-use Rattle.net_model.specs.run_laws.proofs.Clips.{clip_early, clip_late}
-use Rattle.net_model.specs.run_laws.proofs.Counts.{IsWork, worked_rises, worked_nonneg}
-use Rattle.net_model.specs.run_laws.proofs.Heads.{sum_of, sum_push, sum_without}
-use Rattle.net_model.specs.run_laws.proofs.Sizes.{size_nonneg}
-use Rattle.net_model.specs.run_laws.proofs.Sums.{Each, when_true, when_false, when_most}
+use Rattle.rational.specs.Rational.{ℚ, int, ◌+ℚ◌, ◌-ℚ◌, ◌*ℚ◌, ◌/ℚ◌, ◌≤ℚ◌, ◌<ℚ◌}
+use Rattle.rational.proofs.Linear.{with1, with2, with4, with5, with6, with7, with8}
+use Rattle.rational.proofs.Laws.{le_trans, le_of_lt, lt_le_trans, le_or_lt, lt_irrefl, antisym, between, mul_le_mul, mul_sub, mul_add, mul_assoc, mul_comm, mul_pos, div_mul, not_zero}
+use Rattle.rational.proofs.MinMax.{lt_q_not, le_q_not}
+use Rattle.run_laws.specs.Cards.{Card, ServerStep, Arrives, Works, Leaves, Visits, all, size}
+use Rattle.run_laws.specs.Counts.{when, arrived, worked, before}
+use Rattle.run_laws.specs.Servers.{Discipline, Span, Under, ServerState, clip, done, done_so_far, head_of, without_head}
+use Rattle.run_laws.specs.Next.{next}
+use Rattle.run_laws.proofs.Clips.{clip_early, clip_late}
+use Rattle.run_laws.proofs.Counts.{IsWork, worked_rises, worked_nonneg}
+use Rattle.run_laws.proofs.Heads.{sum_of, sum_push, sum_without}
+use Rattle.run_laws.proofs.Sizes.{size_nonneg}
+use Rattle.run_laws.proofs.Sums.{Each, when_true, when_false, when_most}
 use Rattle.net_model.specs.stated_runs.Setups.{Setup, IsSetup, IsGateOpen, IsOpen, IsFirstOpen, IsStretch, opening_of, rate_of}
 use Rattle.net_model.proofs.stated_runs.Progress.{inside_cases}
 use Rattle.net_model.proofs.stated_runs.Lawfulness.{under_cases}
@@ -192,7 +192,7 @@ clip_is a b w R t f e h k =
     elim (le_or_lt t a) [
       | inl back ↦
           let zero : t -ℚ a ≡ int (pos 0) = antisym (with2 t a (λ c. omega (arith, c.le, c.lt, c.same))) in
-          clip_early span t back ∙ sym (ap (λ x. R *ℚ x) zero ∙ Rattle.upp_limits.specs.rational.proofs.Laws.mul_zero R)
+          clip_early span t back ∙ sym (ap (λ x. R *ℚ x) zero ∙ Rattle.rational.proofs.Laws.mul_zero R)
       | inr past ↦ elim (le_or_lt b t) [
         | inl over ↦ clip_late span t f over ∙ e ∙ ap (λ x. R *ℚ (x -ℚ a)) (antisym (over, k))
         | inr within ↦

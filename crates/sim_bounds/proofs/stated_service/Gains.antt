@@ -1,10 +1,10 @@
 -- Work that grows at least as a rate times an open time, in windows that are put together.
 use Rattle.std.proofs.Common.{◌≡◌, List, subst, arith, inl, inr}
-use Rattle.upp_limits.specs.rational.specs.Rational.{ℚ, ◌+ℚ◌, ◌*ℚ◌, ◌≤ℚ◌, ◌<ℚ◌}
-use Rattle.upp_limits.specs.rational.proofs.Linear.{with6}
-use Rattle.upp_limits.specs.rational.proofs.Laws.{le_refl, le_of_lt, le_lt_trans, le_or_lt}
-use Rattle.net_model.specs.run_laws.specs.Cards.{ServerStep, all}
-use Rattle.net_model.specs.run_laws.specs.Counts.{arrived, worked}
+use Rattle.rational.specs.Rational.{ℚ, ◌+ℚ◌, ◌*ℚ◌, ◌≤ℚ◌, ◌<ℚ◌}
+use Rattle.rational.proofs.Linear.{with6}
+use Rattle.rational.proofs.Laws.{le_refl, le_of_lt, le_lt_trans, le_or_lt}
+use Rattle.run_laws.specs.Cards.{ServerStep, all}
+use Rattle.run_laws.specs.Counts.{arrived, worked}
 
 -- from x to y the work W grows by no less than R times the growth of O
 abbrev pub Gains : ℚ → (ℚ → ℚ) → (ℚ → ℚ) → ℚ → ℚ → Type 0
@@ -38,4 +38,4 @@ glue R O W β V from t low high x y h l b = elim (le_or_lt y t) [
 
 -- where no open time is added, any work will do
 pub gains_flat : (R : ℚ) (O W : ℚ → ℚ) (x y : ℚ) → R *ℚ O y ≤ℚ R *ℚ O x → W x ≤ℚ W y → Gains R O W x y
-gains_flat R O W x y h k = Rattle.upp_limits.specs.rational.proofs.Linear.with4 (R *ℚ O x) (R *ℚ O y) (W x) (W y) (λ c. omega (arith, c.le, c.lt, c.same))
+gains_flat R O W x y h k = Rattle.rational.proofs.Linear.with4 (R *ℚ O x) (R *ℚ O y) (W x) (W y) (λ c. omega (arith, c.le, c.lt, c.same))

@@ -3,29 +3,29 @@ use Rattle.std.proofs.Common.{◌≡◌, ℕ, ◌<◌, List, [], ◌∷◌, leng
 use Rattle.std.specs.Prelude.{◌≢◌, pos, slice_get}
 use Rattle.std.proofs.lemmas.Bool.{cases_eq, eq-eqb, ne_eqb}
 use Rattle.std.proofs.lemmas.List.{length-map}
-use Rattle.upp_limits.specs.rational.specs.Rational.{ℚ, int, ◌+ℚ◌, ◌-ℚ◌, ◌*ℚ◌, ◌≤ℚ◌, ◌<ℚ◌}
-use Rattle.upp_limits.specs.rational.specs.MinMax.{min_q, max_q}
-use Rattle.upp_limits.specs.rational.specs.Extended.{Ext, ◌≤ₑ◌, ◌+ₑ◌}
-use Rattle.upp_limits.specs.rational.specs.declared.Extended.TheVariants.{Fin}
-use Rattle.upp_limits.specs.rational.proofs.Linear.{with1, with2, with3, with4, with5}
-use Rattle.upp_limits.specs.rational.proofs.Laws.{le_trans, le_of_lt, lt_le_trans, le_or_lt, between, mul_le_mul, mul_sub, mul_add}
-use Rattle.upp_limits.specs.rational.proofs.MinMax.{below_min_in, below_min_out, max_q_le}
-use Rattle.upp_limits.specs.min_plus.specs.Functions.{zero_q}
-use Rattle.upp_limits.specs.upp_curve.specs.Curve.{SpecCurve, value_at}
-use Rattle.upp_limits.specs.upp_curve.proofs.KindValues.{service_is}
-use Rattle.upp_limits.specs.upp_curve.proofs.GateValues.{gate_is}
-use Rattle.net_model.specs.run_laws.specs.declared.steps.Step.{Step}
-use Rattle.net_model.specs.run_laws.specs.declared.steps.Step.TheVariants.{Enter, Reach, Work, Leave, Visit}
-use Rattle.net_model.specs.run_laws.specs.Cards.{Card, ServerStep, all, size}
-use Rattle.net_model.specs.run_laws.specs.Counts.{arrived, worked}
-use Rattle.net_model.specs.run_laws.specs.Runs.{SpecRun}
-use Rattle.net_model.specs.run_laws.specs.Routes.{server_at, first_server, route_of}
-use Rattle.net_model.specs.run_laws.specs.Servers.{ServerState, Fifo, start, head_of}
-use Rattle.net_model.specs.run_laws.specs.Next.{next}
-use Rattle.net_model.specs.run_laws.specs.Views.{card_of, entered_after, server_of, seen, view_from, view}
-use Rattle.net_model.specs.run_laws.specs.Lawful.{RunState, state_at, next_run, run_start}
-use Rattle.net_model.specs.run_laws.specs.Premises.{KeepsService, IsBusy}
-use Rattle.net_model.specs.run_laws.proofs.Counts.{worked_nonneg}
+use Rattle.rational.specs.Rational.{ℚ, int, ◌+ℚ◌, ◌-ℚ◌, ◌*ℚ◌, ◌≤ℚ◌, ◌<ℚ◌}
+use Rattle.rational.specs.MinMax.{min_q, max_q}
+use Rattle.rational.specs.Extended.{Ext, ◌≤ₑ◌, ◌+ₑ◌}
+use Rattle.rational.specs.declared.Extended.TheVariants.{Fin}
+use Rattle.rational.proofs.Linear.{with1, with2, with3, with4, with5}
+use Rattle.rational.proofs.Laws.{le_trans, le_of_lt, lt_le_trans, le_or_lt, between, mul_le_mul, mul_sub, mul_add}
+use Rattle.rational.proofs.MinMax.{below_min_in, below_min_out, max_q_le}
+use Rattle.min_plus.specs.Functions.{zero_q}
+use Rattle.upp_curve.specs.Curve.{SpecCurve, value_at}
+use Rattle.upp_curve.proofs.KindValues.{service_is}
+use Rattle.upp_curve.proofs.GateValues.{gate_is}
+use Rattle.run_laws.specs.declared.steps.Step.{Step}
+use Rattle.run_laws.specs.declared.steps.Step.TheVariants.{Enter, Reach, Work, Leave, Visit}
+use Rattle.run_laws.specs.Cards.{Card, ServerStep, all, size}
+use Rattle.run_laws.specs.Counts.{arrived, worked}
+use Rattle.run_laws.specs.Runs.{SpecRun}
+use Rattle.run_laws.specs.Routes.{server_at, first_server, route_of}
+use Rattle.run_laws.specs.Servers.{ServerState, Fifo, start, head_of}
+use Rattle.run_laws.specs.Next.{next}
+use Rattle.run_laws.specs.Views.{card_of, entered_after, server_of, seen, view_from, view}
+use Rattle.run_laws.specs.Lawful.{RunState, state_at, next_run, run_start}
+use Rattle.run_laws.specs.Premises.{KeepsService, IsBusy}
+use Rattle.run_laws.proofs.Counts.{worked_nonneg}
 use Rattle.net_model.specs.declared.server.ServiceKind.{ServiceKind}
 use Rattle.net_model.specs.declared.server.ServiceKind.TheVariants.{Latency, Gate, Listed}
 use Rattle.net_model.specs.Networks.{Net, NetServer}
@@ -166,12 +166,12 @@ not_early V a b l T S s σ k busy = elim (le_or_lt (int (pos 0)) a) [
       let w = worked_nonneg all V m.0 k.works in
       let none = k.later m.0 (le_of_lt out.1) in
       let much = busy m.0 m.1 out.0 in
-      absurd (Rattle.upp_limits.specs.rational.proofs.Laws.lt_irrefl (int (pos 0)) (with2 (worked all V m.0) (arrived all V m.0) (λ c. omega (arith, c.le, c.lt, c.same))))
+      absurd (Rattle.rational.proofs.Laws.lt_irrefl (int (pos 0)) (with2 (worked all V m.0) (arrived all V m.0) (λ c. omega (arith, c.le, c.lt, c.same))))
 ]
 
 -- ---- at first
 start_at : (S : Setup) (s : ℕ) → s < length S.net.servers → state_at (run_start S.net) s ≡ start (server_at S.net s).discipline
-start_at S s h = Rattle.std.proofs.lemmas.List.get_or-map (λ (t : Rattle.net_model.specs.run_laws.specs.Servers.Server). start t.discipline) S.net.servers s record { discipline = Fifo; pace = None } (start Fifo) h
+start_at S s h = Rattle.std.proofs.lemmas.List.get_or-map (λ (t : Rattle.run_laws.specs.Servers.Server). start t.discipline) S.net.servers s record { discipline = Fifo; pace = None } (start Fifo) h
 
 pub servers_keep : (net : Net) (trace : SpecTrace) (run : SpecRun) → IsAccepted net → IsTrace trace → IsTraceOf net trace → IsSimulated (setup_of net trace) run → (s : ℕ) (server : NetServer)
     → slice_get net.servers s ≡ Some server → IsByFormula server.kind → stalls_at s trace.stalls ≡ [] → KeepsService (value_at server.service) run.end (view (routes_of net) run s)

@@ -2,18 +2,18 @@
 use Rattle.std.proofs.Common.{◌≡◌, ℕ, ◌+◌, ap, ◌∙◌, subst, arith, inl, inr}
 use Rattle.std.specs.Prelude.{pos}
 use Rattle.std.proofs.lemmas.Bool.{cases_order}
-use Rattle.upp_limits.specs.rational.specs.Rational.{ℚ, int, ◌+ℚ◌, ◌-ℚ◌, ◌*ℚ◌, ◌/ℚ◌, ◌≤ℚ◌, ◌<ℚ◌}
-use Rattle.upp_limits.specs.rational.specs.MinMax.{min_q, max_q}
-use Rattle.upp_limits.specs.rational.specs.Whole.{whole_part}
-use Rattle.upp_limits.specs.rational.proofs.Linear.{with2, with3, with4, with5}
-use Rattle.upp_limits.specs.rational.proofs.Laws.{le_refl, le_trans, le_of_lt, lt_le_trans, mul_sub, add_mul, antisym, mul_nonneg}
-use Rattle.upp_limits.specs.rational.proofs.MinMax.{min_q_le_right, min_q_ge, min_q_mono, max_q_le}
-use Rattle.upp_limits.specs.rational.proofs.Quotients.{div_le}
-use Rattle.upp_limits.specs.rational.proofs.Integers.{nat_nonneg}
-use Rattle.upp_limits.specs.min_plus.specs.WholeUp.{whole_up}
+use Rattle.rational.specs.Rational.{ℚ, int, ◌+ℚ◌, ◌-ℚ◌, ◌*ℚ◌, ◌/ℚ◌, ◌≤ℚ◌, ◌<ℚ◌}
+use Rattle.rational.specs.MinMax.{min_q, max_q}
+use Rattle.rational.specs.Whole.{whole_part}
+use Rattle.rational.proofs.Linear.{with2, with3, with4, with5}
+use Rattle.rational.proofs.Laws.{le_refl, le_trans, le_of_lt, lt_le_trans, mul_sub, add_mul, antisym, mul_nonneg}
+use Rattle.rational.proofs.MinMax.{min_q_le_right, min_q_ge, min_q_mono, max_q_le}
+use Rattle.rational.proofs.Quotients.{div_le}
+use Rattle.rational.proofs.Integers.{nat_nonneg}
+use Rattle.min_plus.specs.WholeUp.{whole_up}
 use Rattle.upp_limits.proofs.Rounding.{whole_up_least}
-use Rattle.net_model.specs.run_laws.specs.Cards.{whole}
-use Rattle.net_model.specs.run_laws.proofs.Sizes.{whole_sum}
+use Rattle.run_laws.specs.Cards.{whole}
+use Rattle.run_laws.proofs.Sizes.{whole_sum}
 use Rattle.sim_bounds.proofs.OpenTime.{cycles, IsInCycle, in_cycle, cycle_order, fewer, gate_time, gate_lipschitz}
 
 -- ---- open time never falls
@@ -102,4 +102,4 @@ window_open c s some within a b from l =
     with3 (gate_time c s a) (gate_time c s b) (max_q (whole n *ℚ s) (y -ℚ whole m *ℚ (c -ℚ s))) (λ o. omega (arith, o.le, o.lt, o.same))
   where
     last : (ga gb gm mc ms mr : ℚ) → gm ≤ℚ gb +ℚ ((a +ℚ mc) -ℚ b) → gm ≡ ga +ℚ ms → mr ≡ mc -ℚ ms → ga +ℚ ((b -ℚ a) -ℚ mr) ≤ℚ gb
-    last ga gb gm mc ms mr h e f = Rattle.upp_limits.specs.rational.proofs.Linear.with8 ga gb gm mc ms mr a b (λ o. omega (arith, o.le, o.lt, o.same))
+    last ga gb gm mc ms mr h e f = Rattle.rational.proofs.Linear.with8 ga gb gm mc ms mr a b (λ o. omega (arith, o.le, o.lt, o.same))

@@ -1,15 +1,15 @@
 -- Where the numbers of curves up to the end of a window stand, those of each curve up to an earlier time do.
 use Rattle.std.specs.Prelude.{List, [], ◌∷◌}
 use Rattle.std.proofs.Common.{subst, inl, inr}
-use Rattle.upp_limits.specs.rational.specs.Rational.{ℚ, ◌≤ℚ◌}
-use Rattle.upp_limits.specs.upp_curve.specs.Curve.{SpecCurve}
-use Rattle.upp_limits.specs.upp_curve.specs.Curves.{IsCurve}
+use Rattle.rational.specs.Rational.{ℚ, ◌≤ℚ◌}
+use Rattle.upp_curve.specs.Curve.{SpecCurve}
+use Rattle.upp_curve.specs.Curves.{IsCurve}
 use Rattle.upp_limits.specs.Limits.{Sizes, curve_numbers}
 use Rattle.upp_limits.specs.Sized.{Stands}
 use Rattle.upp_limits.proofs.Operands.{curve_period}
 use Rattle.upp_limits.proofs.Stands.{stands_left, stands_right}
 use Rattle.upp_normal.proofs.GaugeRises.{curve_earlier}
-use Rattle.net_model.specs.run_laws.proofs.Members.{Has}
+use Rattle.run_laws.proofs.Members.{Has}
 use Rattle.sim_bounds.specs.Gauge.{numbers_to, numbers_of_curves}
 
 one_curve : (z : Sizes) (far : ℚ) (cs : List SpecCurve) (c : SpecCurve) → Has cs c → Stands z (numbers_of_curves far cs) → Stands z (curve_numbers far c)

@@ -1,6 +1,6 @@
 -- The numbers of a network's service curves, and of its arrival curves.
 use Rattle.std.proofs.Common.{map, sym, subst}
-use Rattle.upp_limits.specs.rational.specs.Rational.{ℚ}
+use Rattle.rational.specs.Rational.{ℚ}
 use Rattle.upp_limits.specs.Limits.{Numbers, Sizes}
 use Rattle.upp_limits.specs.Sized.{HeldBy}
 use Rattle.upp_limits.proofs.Operands.{held_left, held_right}

@@ -2,19 +2,19 @@
 use Rattle.std.proofs.Common.{◌≡◌, ℕ, ◌<◌, ◌≤◌, ◌*◌, ◌^◌, List, [], ◌∷◌, ◌++◌, ap, ◌∙◌, arith, append-nil}
 use Rattle.std.specs.Prelude.{pos, max}
 use native.Mathlib.Nat.{le-mul_of_pos_right}
-use Rattle.upp_limits.specs.rational.specs.Rational.{ℚ, int, ◌*ℚ◌}
-use Rattle.upp_limits.specs.rational.specs.Gauge.{common_den, bound_of, size_up}
-use Rattle.upp_limits.specs.min_plus.specs.WholeUp.{whole_up}
+use Rattle.rational.specs.Rational.{ℚ, int, ◌*ℚ◌}
+use Rattle.rational.specs.Gauge.{common_den, bound_of, size_up}
+use Rattle.min_plus.specs.WholeUp.{whole_up}
 use Rattle.upp_limits.specs.Limits.{Numbers, Sizes, joined, value_alone, twice, sizes_of, gauge_of}
 use Rattle.upp_limits.specs.Sized.{HeldBy}
 use Rattle.upp_limits.proofs.Gathering.{bound_more}
 use Rattle.upp_limits.proofs.CurveStands.{are_sizes}
 use Rattle.upp_limits.proofs.CommonDen.{common_den_each, same_common_den, size_up_within, size_up_least}
 use Rattle.upp_limits.proofs.Every.{every_append, every_left}
-use Rattle.upp_limits.specs.rational.specs.Grid.{Whole}
-use Rattle.upp_limits.specs.rational.proofs.Grid.{whole_int, within_nonneg}
-use Rattle.upp_limits.specs.rational.proofs.Laws.{le_refl}
-use Rattle.upp_limits.specs.rational.proofs.Integers.{nat_nonneg, nat_le_out}
+use Rattle.rational.specs.Grid.{Whole}
+use Rattle.rational.proofs.Grid.{whole_int, within_nonneg}
+use Rattle.rational.proofs.Laws.{le_refl}
+use Rattle.rational.proofs.Integers.{nat_nonneg, nat_le_out}
 use Rattle.upp_limits.proofs.SameSizes.{make_sizes}
 use Rattle.upp_limits.proofs.Stands.{sizes_stand}
 use Rattle.sim_bounds.specs.window_numbers.Rated.{gauge_with}

@@ -1,6 +1,6 @@
 -- The path of a flow by its number.
 use Rattle.std.specs.Prelude.{Option, ℕ, false, List, [], map, get_or}
-use Rattle.net_model.specs.run_laws.specs.Routes.{Hop}
+use Rattle.run_laws.specs.Routes.{Hop}
 use Rattle.net_model.specs.Networks.{NetFlow}
 use Rattle.net_model.specs.NetRoutes.{route_for}
 

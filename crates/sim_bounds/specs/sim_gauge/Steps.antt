@@ -1,7 +1,7 @@
 -- Which steps on the way to the horizon have to fit.
 use Rattle.std.specs.Prelude.{List, [], ◌∷◌}
-use Rattle.upp_limits.specs.rational.specs.Rational.{ℚ, ◌+ℚ◌, ◌-ℚ◌, neg_ℚ}
-use Rattle.upp_limits.specs.rational.specs.Ratio.{SumFits}
+use Rattle.rational.specs.Rational.{ℚ, ◌+ℚ◌, ◌-ℚ◌, neg_ℚ}
+use Rattle.rational.specs.Ratio.{SumFits}
 use Rattle.net_model.specs.stated_runs.Setups.{StallTimes}
 
 -- the lengths of stalls can be added to a sum, one after another

@@ -1,9 +1,9 @@
 -- Which servers keep their service curves in a stated run. (Own choice.)
 use Rattle.std.specs.Prelude.{Some, ◌≡◌, ℕ, [], slice_get}
-use Rattle.upp_limits.specs.upp_curve.specs.Curve.{value_at}
-use Rattle.net_model.specs.run_laws.specs.Runs.{SpecRun}
-use Rattle.net_model.specs.run_laws.specs.Views.{view}
-use Rattle.net_model.specs.run_laws.specs.Premises.{KeepsService}
+use Rattle.upp_curve.specs.Curve.{value_at}
+use Rattle.run_laws.specs.Runs.{SpecRun}
+use Rattle.run_laws.specs.Views.{view}
+use Rattle.run_laws.specs.Premises.{KeepsService}
 use Rattle.net_model.specs.declared.server.ServiceKind.{ServiceKind}
 use Rattle.net_model.specs.declared.server.ServiceKind.TheVariants.{Latency, Gate, Listed}
 use Rattle.net_model.specs.Networks.{Net, NetServer}

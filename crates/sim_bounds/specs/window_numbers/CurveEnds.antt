@@ -1,10 +1,10 @@
 -- The pieces of a curve that start at the end of its window, without unrolling it. (Own choice.)
 use Rattle.std.specs.Prelude.{◌≡◌, ◌<◌, ◌^◌, pos, cond, List, [], ◌∷◌}
 use Rattle.std.specs.List.{flat_map}
-use Rattle.upp_limits.specs.rational.specs.Rational.{ℚ, ◌+ℚ◌, ◌*ℚ◌, ◌≤ℚ◌, ◌<ℚ◌, int, lt_q}
-use Rattle.upp_limits.specs.upp_curve.specs.declared.curve.Tail.{Tail}
-use Rattle.upp_limits.specs.upp_curve.specs.declared.curve.Tail.TheVariants.{Periodic, Affine, Infinite}
-use Rattle.upp_limits.specs.upp_curve.specs.Unrolled.{copies_below}
+use Rattle.rational.specs.Rational.{ℚ, ◌+ℚ◌, ◌*ℚ◌, ◌≤ℚ◌, ◌<ℚ◌, int, lt_q}
+use Rattle.upp_curve.specs.declared.curve.Tail.{Tail}
+use Rattle.upp_curve.specs.declared.curve.Tail.TheVariants.{Periodic, Affine, Infinite}
+use Rattle.upp_curve.specs.Unrolled.{copies_below}
 use Rattle.upp_limits.specs.Spans.{Span, copy_of}
 use Rattle.upp_limits.specs.Limits.{Numbers, no_numbers, joined, span_values, span_slopes}
 use Rattle.upp_limits.specs.Seen.{SpanFits, SeenRises, seen_of}

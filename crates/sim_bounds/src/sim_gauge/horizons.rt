@@ -2,9 +2,9 @@
 
 ghost use Rattle.std.specs.Prelude.{◌≡◌, ◌<◌, ℕ, pos, IfSome, IsSome, length};
 ghost use Rattle.std.specs.List.{AllByRecursion};
-ghost use Rattle.upp_limits.specs.rational.specs.Rational.{ℚ, int, ◌+ℚ◌, ◌*ℚ◌, ◌≤ℚ◌};
-ghost use Rattle.upp_limits.specs.rational.specs.Ratio.{SumFits};
-ghost use Rattle.upp_limits.specs.fraction128.specs.wide_sums.Sums.{IsFromZero, sum_of_products};
+ghost use Rattle.rational.specs.Rational.{ℚ, int, ◌+ℚ◌, ◌*ℚ◌, ◌≤ℚ◌};
+ghost use Rattle.rational.specs.Ratio.{SumFits};
+ghost use Rattle.fraction128.specs.wide_sums.Sums.{IsFromZero, sum_of_products};
 ghost use Rattle.net_model.specs.stated_runs.FromTraces.{setup_of, IsTraceOf};
 ghost use Rattle.sim_bounds.specs.Horizons.{first_time, sum_below, horizon};
 ghost use Rattle.sim_bounds.specs.Way.{open_time, gated, plain_span, HorizonFits};
@@ -13,9 +13,9 @@ use crate::sim_gauge::loads::load;
 use crate::sim_gauge::spans::{gate_product, no_product, plain_time, stalled, work_time};
 use crate::window_numbers::plus;
 use arrayvec::ArrayVec;
+use fraction128::wide_sums::{MOST_PRODUCTS, Product, sum_of_products};
+use fraction128::{Frac, greater};
 use net_model::{Network, ServiceKind, Trace};
-use upp_limits::fraction128::wide_sums::{MOST_PRODUCTS, Product, sum_of_products};
-use upp_limits::fraction128::{Frac, greater};
 
 /// The latest of the times at which packets enter and stalls end, and 0 where there is none.
 fn first_time(net: &Network, trace: &Trace) -> Frac

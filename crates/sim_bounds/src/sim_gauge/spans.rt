@@ -1,19 +1,19 @@
 //! The parts of a server's span: how long it works on all packets that pass it, its closed times, and its link.
 
 ghost use Rattle.std.specs.Prelude.{◌≡◌, pos, IfSome, IsSome};
-ghost use Rattle.upp_limits.specs.rational.specs.Rational.{int, ◌+ℚ◌, ◌-ℚ◌, neg_ℚ, ◌*ℚ◌, ◌/ℚ◌, ◌≤ℚ◌, ◌<ℚ◌};
-ghost use Rattle.upp_limits.specs.rational.specs.Ratio.{IsSmall, SumFits};
-ghost use Rattle.upp_limits.specs.fraction128.specs.wide_sums.Sums.{IsFromZero};
-ghost use Rattle.net_model.specs.run_laws.specs.Cards.{whole};
+ghost use Rattle.rational.specs.Rational.{int, ◌+ℚ◌, ◌-ℚ◌, neg_ℚ, ◌*ℚ◌, ◌/ℚ◌, ◌≤ℚ◌, ◌<ℚ◌};
+ghost use Rattle.rational.specs.Ratio.{IsSmall, SumFits};
+ghost use Rattle.fraction128.specs.wide_sums.Sums.{IsFromZero};
+ghost use Rattle.run_laws.specs.Cards.{whole};
 ghost use Rattle.net_model.specs.stated_runs.FromTraces.{gate_of, stalls_at};
 ghost use Rattle.sim_bounds.specs.Horizons.{stalled_for};
 ghost use Rattle.sim_bounds.specs.Way.{plain_time};
 ghost use Rattle.sim_bounds.specs.sim_gauge.Steps.{StallsFit};
 
 use crate::window_numbers::{minus, over, plus};
+use fraction128::Frac;
+use fraction128::wide_sums::Product;
 use net_model::{ServiceKind, Stall};
-use upp_limits::fraction128::Frac;
-use upp_limits::fraction128::wide_sums::Product;
 
 /// How long a server works on so many bits while it is open.
 pub(crate) fn work_time(rate: Frac, bits: u64) -> Option<Frac>

@@ -2,8 +2,8 @@
 
 ghost use Rattle.std.specs.Prelude.{ℕ, ◌≡◌, ◌↔◌, ◌<◌, ◌≤◌, ◌^◌, IfSome, IsSome, IsTrue, length, map, nat_abs, pos, sum_by};
 ghost use Rattle.std.specs.List.{AllByRecursion};
-ghost use Rattle.upp_limits.specs.rational.specs.Rational.{int, ◌<ℚ◌};
-ghost use Rattle.upp_limits.specs.rational.specs.Gauge.{Kept};
+ghost use Rattle.rational.specs.Rational.{int, ◌<ℚ◌};
+ghost use Rattle.rational.specs.Gauge.{Kept};
 ghost use Rattle.upp_limits.specs.Limits.{joined, time_alone};
 ghost use Rattle.upp_limits.specs.Gathered.{Gathers};
 ghost use Rattle.net_model.specs.declared.trace.TracePacket.{TracePacket};
@@ -17,8 +17,8 @@ ghost use Rattle.sim_bounds.specs.Gauge.{common_num, simulation_numbers, simulat
 use crate::sim_gauge::horizons::horizon;
 use crate::sim_gauge::named::{with_packets, with_servers, with_stalls};
 use crate::window_numbers::{is_over, with_arrivals, with_services};
+use fraction128::Frac;
 use net_model::{Network, Server, Trace, TracePacket};
-use upp_limits::fraction128::Frac;
 use upp_limits::gathered::{Gathered, common_multiple};
 
 /// All numbers of a simulation. None only where the simulation gauge is 2^120 or more.

@@ -2,8 +2,8 @@
 
 ghost use Rattle.std.specs.Prelude.{◌≡◌, pos, IfSome, IsSome};
 ghost use Rattle.std.specs.List.{AllByRecursion};
-ghost use Rattle.upp_limits.specs.rational.specs.Rational.{int, ◌≤ℚ◌, ◌<ℚ◌};
-ghost use Rattle.upp_limits.specs.upp_curve.specs.affine_segment.Pieces.{StartsAtZero};
+ghost use Rattle.rational.specs.Rational.{int, ◌≤ℚ◌, ◌<ℚ◌};
+ghost use Rattle.upp_curve.specs.affine_segment.Pieces.{StartsAtZero};
 ghost use Rattle.upp_limits.specs.Periods.{HasPeriod};
 ghost use Rattle.upp_limits.specs.Spans.{Span, end_of, spans};
 ghost use Rattle.upp_limits.specs.Seen.{SpanFits};
@@ -13,14 +13,14 @@ ghost use Rattle.upp_limits.specs.Gathered.{Gathers};
 ghost use Rattle.sim_bounds.specs.Gauge.{numbers_to};
 ghost use Rattle.sim_bounds.specs.window_numbers.CurveEnds.{itself_at, copy_at, numbers_with, end_numbers, all_end_numbers, CopyFits, KnowsEnd};
 
+use fraction128::{Frac, is_less};
+use upp_curve::affine_segment::Piece;
+use upp_curve::{Curve, Tail};
 use upp_limits::curve_numbers::{next_start, piece_read, whole};
-use upp_limits::fraction128::{Frac, is_less};
 use upp_limits::gathered::Gathered;
 use upp_limits::is_after;
 use upp_limits::operand_numbers::{after_last, with_one};
 use upp_limits::start_counts::count_before;
-use upp_limits::upp_curve::affine_segment::Piece;
-use upp_limits::upp_curve::{Curve, Tail};
 
 /// The start of a piece more, and where that is `end`, its values and its slope.
 fn with_itself(g: Gathered, piece: &Piece, next: &Option<Frac>, end: Frac) -> Option<Gathered>

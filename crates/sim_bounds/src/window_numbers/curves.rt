@@ -9,8 +9,8 @@ ghost use Rattle.net_model.specs.Views.{servers_of, flows_of};
 ghost use Rattle.sim_bounds.specs.Gauge.{numbers_of_curves, arrivals_of};
 
 use crate::window_numbers::curve_ends::with_curve;
+use fraction128::Frac;
 use net_model::{Flow, Server};
-use upp_limits::fraction128::Frac;
 use upp_limits::gathered::Gathered;
 
 /// The numbers of the service curves more.

@@ -1,10 +1,10 @@
 //! Steps of arithmetic that may not fit.
 
 ghost use Rattle.std.specs.Prelude.{◌≡◌, ◌≢◌, pos, IfSome, IsSome};
-ghost use Rattle.upp_limits.specs.rational.specs.Rational.{int, ◌+ℚ◌, ◌-ℚ◌, neg_ℚ, ◌/ℚ◌};
-ghost use Rattle.upp_limits.specs.rational.specs.Ratio.{IsSmall, SumFits};
+ghost use Rattle.rational.specs.Rational.{int, ◌+ℚ◌, ◌-ℚ◌, neg_ℚ, ◌/ℚ◌};
+ghost use Rattle.rational.specs.Ratio.{IsSmall, SumFits};
 
-use upp_limits::fraction128::Frac;
+use fraction128::Frac;
 
 /// a + b, where it fits.
 pub fn plus(a: Frac, b: Frac) -> Option<Frac>

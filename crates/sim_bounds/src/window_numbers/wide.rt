@@ -1,12 +1,12 @@
 //! Whether the gauge of gathered numbers is too large.
 
 ghost use Rattle.std.specs.Prelude.{ℕ, ◌↔◌, ◌≤◌, ◌^◌, IsTrue};
-ghost use Rattle.upp_limits.specs.rational.specs.Gauge.{Kept};
+ghost use Rattle.rational.specs.Gauge.{Kept};
 ghost use Rattle.upp_limits.specs.Limits.{Numbers, joined, time_alone, sizes_of};
 ghost use Rattle.upp_limits.specs.Gathered.{Gathers};
 ghost use Rattle.sim_bounds.specs.window_numbers.Rated.{gauge_with};
 
-use upp_limits::fraction128::Frac;
+use fraction128::Frac;
 use upp_limits::gathered::Gathered;
 use upp_limits::gauges::{product, reach};
 

@@ -3,16 +3,16 @@ use Rattle.std.specs.Prelude.{Some, None, ◌≡◌, ◌≢◌, ℕ, ◌≤◌, 
 use Rattle.std.proofs.Common.{arith, sym, ap, ◌∙◌, subst, inl, inr}
 use Rattle.rational.specs.Rational.{ℚ, ◌≤ℚ◌}
 use Rattle.rational.proofs.Laws.{le_trans, antisym}
-use Rattle.net_model.specs.run_laws.specs.declared.steps.Step.{Step}
-use Rattle.net_model.specs.run_laws.specs.Cards.{Card}
+use Rattle.run_laws.specs.declared.steps.Step.{Step}
+use Rattle.run_laws.specs.Cards.{Card}
 use Rattle.std.proofs.lemmas.Bool.{cases_lt}
 use Rattle.std.proofs.lemmas.List.{get_or_past}
-use Rattle.net_model.specs.run_laws.specs.Servers.{Discipline, Fifo, Priority, Drr, Server, ServerState, head_of}
-use Rattle.net_model.specs.run_laws.specs.Allows.{MayVisit}
-use Rattle.net_model.specs.run_laws.specs.Rounds.{presence}
-use Rattle.net_model.specs.run_laws.specs.Routes.{server_at}
-use Rattle.net_model.specs.run_laws.specs.Lawful.{RunState, state_at}
-use Rattle.net_model.specs.run_laws.proofs.Rounds.{first_counts}
+use Rattle.run_laws.specs.Servers.{Discipline, Fifo, Priority, Drr, Server, ServerState, head_of}
+use Rattle.run_laws.specs.Allows.{MayVisit}
+use Rattle.run_laws.specs.Rounds.{presence}
+use Rattle.run_laws.specs.Routes.{server_at}
+use Rattle.run_laws.specs.Lawful.{RunState, state_at}
+use Rattle.run_laws.proofs.Rounds.{first_counts}
 use Rattle.queue_sched.specs.index_links.Chains.{Chains}
 use Rattle.net_model.specs.stated_runs.Setups.{Setup, IsSetup}
 use Rattle.net_model.specs.stated_runs.DueSteps.{IsVisited, IsDue, rank_of, step_time, RankAtMost}

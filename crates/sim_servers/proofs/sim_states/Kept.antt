@@ -5,8 +5,8 @@ use Rattle.std.proofs.lemmas.Bool.{cases_eq, eq-eqb, ne_eqb}
 use Rattle.std.proofs.lemmas.List.{get_or-set_same, get_or-set_other, length-map}
 use Rattle.std.proofs.Math.ListN.{length-set}
 use Rattle.rational.specs.Rational.{ℚ, int, ◌<ℚ◌}
-use Rattle.net_model.specs.run_laws.specs.Lawful as lawful
-use Rattle.net_model.specs.run_laws.specs.Lawful.{RunState, without, state_at}
+use Rattle.run_laws.specs.Lawful as lawful
+use Rattle.run_laws.specs.Lawful.{RunState, without, state_at}
 use Rattle.queue_sched.specs.index_links.Chains as chains
 use Rattle.queue_sched.specs.index_links.Chains.{Chains, list_at, Has, unlinked, with_list}
 use Rattle.queue_sched.proofs.index_links.Members.{has_left, has_right, has_either, has_without, without_has}

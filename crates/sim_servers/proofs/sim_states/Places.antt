@@ -5,17 +5,17 @@ use Rattle.std.proofs.lemmas.Bool.{cases_eq, cases_Bool, eq-eqb, eqb-true, ne_eq
 use Rattle.std.proofs.lemmas.List.{length_push}
 use Rattle.std.proofs.lemmas.List.Sums.{sum_by-set}
 use Rattle.rational.specs.Rational.{ℚ, le_q, ◌+ℚ◌}
-use Rattle.net_model.specs.run_laws.specs.declared.steps.Step.{Step}
-use Rattle.net_model.specs.run_laws.specs.declared.steps.Step.TheVariants.{Enter, Reach, Work, Leave, Visit}
-use Rattle.net_model.specs.run_laws.specs.Cards.{Card}
-use Rattle.net_model.specs.run_laws.specs.Servers.{Fifo, ServerState, start, head_of, without_head, Server}
-use Rattle.net_model.specs.run_laws.specs.Next.{next, next_inside}
-use Rattle.net_model.specs.run_laws.specs.Routes.{Routes, server_at, link_at}
-use Rattle.net_model.specs.run_laws.specs.Views.{Entry, card_of, server_of, seen}
-use Rattle.net_model.specs.run_laws.specs.Lawful.{Due, RunState, same_due, without, sent, state_at, next_run}
+use Rattle.run_laws.specs.declared.steps.Step.{Step}
+use Rattle.run_laws.specs.declared.steps.Step.TheVariants.{Enter, Reach, Work, Leave, Visit}
+use Rattle.run_laws.specs.Cards.{Card}
+use Rattle.run_laws.specs.Servers.{Fifo, ServerState, start, head_of, without_head, Server}
+use Rattle.run_laws.specs.Next.{next, next_inside}
+use Rattle.run_laws.specs.Routes.{Routes, server_at, link_at}
+use Rattle.run_laws.specs.Views.{Entry, card_of, server_of, seen}
+use Rattle.run_laws.specs.Lawful.{Due, RunState, same_due, without, sent, state_at, next_run}
 use Rattle.net_model.proofs.stated_runs.Lists.{In}
 use Rattle.sim_servers.specs.sim_states.Places.{one, cards_of, dues_of, at_server, places, ArePlaced}
-use Rattle.net_model.specs.run_laws.proofs.Entries.{same_due_self}
+use Rattle.run_laws.proofs.Entries.{same_due_self}
 
 pub one_same : (p : ℕ) → one p p ≡ 1
 one_same p = rw (eq-eqb p p refl) refl
@@ -133,7 +133,7 @@ places_leave net r s p t h c e head q =
     let a = servers_after q net r (Leave s p t) h in
     let b = cards_less q (card_of net r.entered p s).queue (state_at r s).inside c head in
     let k : one c.packet q ≡ one p q = ap (λ x. one x q) e in
-    let d = dues_sent q (Rattle.net_model.specs.run_laws.specs.Routes.server_after s (Rattle.net_model.specs.run_laws.specs.Views.hops_of net r.entered p)) p
+    let d = dues_sent q (Rattle.run_laws.specs.Routes.server_after s (Rattle.run_laws.specs.Views.hops_of net r.entered p)) p
     (t +ℚ link_at net s) r.due in
     omega (arith, a, b, k, d)
 

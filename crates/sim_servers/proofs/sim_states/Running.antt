@@ -4,13 +4,13 @@ use Rattle.std.proofs.Common.{arith, sym, ap, ◌∙◌, subst, inl, inr}
 use Rattle.std.proofs.lemmas.Bool.{cases_eq}
 use Rattle.std.proofs.lemmas.List.{get_or_push, get_or_append_left}
 use Rattle.rational.specs.Rational.{ℚ, ◌+ℚ◌, ◌≤ℚ◌, ◌<ℚ◌}
-use Rattle.net_model.specs.run_laws.specs.declared.steps.Step.{Step}
-use Rattle.net_model.specs.run_laws.specs.Cards.{Card, Arrives, Works, Leaves, Visits}
-use Rattle.net_model.specs.run_laws.specs.Servers.{Discipline, ServerState}
-use Rattle.net_model.specs.run_laws.specs.Next.{next}
-use Rattle.net_model.specs.run_laws.specs.Routes.{server_at, link_at}
-use Rattle.net_model.specs.run_laws.specs.Views.{Entry, entry_of, server_of, seen}
-use Rattle.net_model.specs.run_laws.specs.Lawful.{RunState, state_at, next_run, run_start}
+use Rattle.run_laws.specs.declared.steps.Step.{Step}
+use Rattle.run_laws.specs.Cards.{Card, Arrives, Works, Leaves, Visits}
+use Rattle.run_laws.specs.Servers.{Discipline, ServerState}
+use Rattle.run_laws.specs.Next.{next}
+use Rattle.run_laws.specs.Routes.{server_at, link_at}
+use Rattle.run_laws.specs.Views.{Entry, entry_of, server_of, seen}
+use Rattle.run_laws.specs.Lawful.{RunState, state_at, next_run, run_start}
 use Rattle.queue_sched.specs.index_links.Chains.{Chains}
 use Rattle.net_model.specs.stated_runs.Setups.{Setup, packet_of}
 use Rattle.net_model.specs.stated_runs.Simulated.{IsNext, FollowsSoFar}

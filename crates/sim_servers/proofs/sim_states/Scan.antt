@@ -5,14 +5,14 @@ use Rattle.std.proofs.lemmas.Bool.{cases_lt}
 use Rattle.std.proofs.lemmas.List.{get_or_past}
 use Rattle.rational.specs.Rational.{ℚ, int, ◌≤ℚ◌, ◌<ℚ◌}
 use Rattle.rational.proofs.Laws.{le_refl, le_of_lt, lt_irrefl}
-use Rattle.net_model.specs.run_laws.specs.declared.steps.Step.{Step}
-use Rattle.net_model.specs.run_laws.specs.declared.steps.Step.TheVariants as steps
-use Rattle.net_model.specs.run_laws.specs.Cards.{size}
-use Rattle.net_model.specs.run_laws.specs.Servers.{Under, done}
-use Rattle.net_model.specs.run_laws.specs.Routes.{server_at}
-use Rattle.net_model.specs.run_laws.proofs.Heads.{pick_is_head}
-use Rattle.net_model.specs.run_laws.specs.Lawful as lawful
-use Rattle.net_model.specs.run_laws.specs.Lawful.{RunState, state_at}
+use Rattle.run_laws.specs.declared.steps.Step.{Step}
+use Rattle.run_laws.specs.declared.steps.Step.TheVariants as steps
+use Rattle.run_laws.specs.Cards.{size}
+use Rattle.run_laws.specs.Servers.{Under, done}
+use Rattle.run_laws.specs.Routes.{server_at}
+use Rattle.run_laws.proofs.Heads.{pick_is_head}
+use Rattle.run_laws.specs.Lawful as lawful
+use Rattle.run_laws.specs.Lawful.{RunState, state_at}
 use Rattle.queue_sched.specs.index_links.Chains.{Chains, list_at, Has, first_of}
 use Rattle.net_model.specs.stated_runs.Setups.{Entering, Setup, packet_of, IsFirstOpen}
 use Rattle.net_model.specs.stated_runs.DueSteps.{IsLeaving, IsResumed, IsStarted, IsVisited, IsDue, Rank, RankAtMost, rank_of, step_time, work_kind}
@@ -29,7 +29,7 @@ use Rattle.sim_servers.specs.Stations.{IsNextOf, due_for}
 use Rattle.sim_servers.proofs.Firsts.{rank_refl}
 use Rattle.sim_servers.specs.declared.sim_states.arrival.Arrival.{Arrival}
 use Rattle.sim_servers.specs.sim_states.Running.{arrival_at, AreRising, IsRunning, enter_first, reach_first, station_due, IsCandidate, IsNotAfter}
-use Rattle.net_model.specs.run_laws.proofs.Rounds.{visit_idle}
+use Rattle.run_laws.proofs.Rounds.{visit_idle}
 
 -- ---- members
 pub some_at : {X : Type 0} (xs : List X) (i : ℕ) → i < length xs → (x : X) × (slice_get xs i ≡ Some x)

@@ -2,8 +2,8 @@
 use Rattle.std.specs.Prelude.{◌≡◌, pos, List, [], ◌∷◌, ◌++◌}
 use Rattle.std.proofs.Common.{refl}
 use Rattle.rational.specs.Rational.{ℚ, int}
-use Rattle.net_model.specs.run_laws.specs.declared.steps.Step.{Step}
-use Rattle.net_model.specs.run_laws.specs.Lawful.{RunState, next_run, run_start, after_run}
+use Rattle.run_laws.specs.declared.steps.Step.{Step}
+use Rattle.run_laws.specs.Lawful.{RunState, next_run, run_start, after_run}
 use Rattle.net_model.specs.stated_runs.Setups.{Setup, IsSetup}
 use Rattle.net_model.specs.stated_runs.DueSteps.{IsDue, step_time}
 use Rattle.net_model.specs.stated_runs.Simulated.{IsNext, Follows, FollowsSoFar}

@@ -2,14 +2,14 @@
 use Rattle.std.specs.Prelude.{Some, None, ◌≡◌, ℕ, ◌+◌, ◌<◌, ◌≤◌, List, [], ◌∷◌, ◌++◌, length, set}
 use Rattle.std.proofs.Common.{arith, refl, sym, ap, ◌∙◌, subst}
 use Rattle.rational.specs.Rational.{ℚ, ◌+ℚ◌, ◌≤ℚ◌, ◌<ℚ◌}
-use Rattle.net_model.specs.run_laws.specs.declared.steps.Step.{Step}
-use Rattle.net_model.specs.run_laws.specs.declared.steps.Step.TheVariants.{Enter, Reach, Work, Leave, Visit}
-use Rattle.net_model.specs.run_laws.specs.Cards.{Card}
-use Rattle.net_model.specs.run_laws.specs.Servers.{Under, head_of}
-use Rattle.net_model.specs.run_laws.specs.Routes.{server_at, link_at, server_after}
-use Rattle.net_model.specs.run_laws.specs.Views.{hops_of, card_of, server_of}
-use Rattle.net_model.specs.run_laws.specs.Lawful as lawful
-use Rattle.net_model.specs.run_laws.specs.Lawful.{RunState, sent, state_at, next_run}
+use Rattle.run_laws.specs.declared.steps.Step.{Step}
+use Rattle.run_laws.specs.declared.steps.Step.TheVariants.{Enter, Reach, Work, Leave, Visit}
+use Rattle.run_laws.specs.Cards.{Card}
+use Rattle.run_laws.specs.Servers.{Under, head_of}
+use Rattle.run_laws.specs.Routes.{server_at, link_at, server_after}
+use Rattle.run_laws.specs.Views.{hops_of, card_of, server_of}
+use Rattle.run_laws.specs.Lawful as lawful
+use Rattle.run_laws.specs.Lawful.{RunState, sent, state_at, next_run}
 use Rattle.queue_sched.specs.index_links.Chains.{Chains, list_at, Has, unlinked, with_list}
 use Rattle.net_model.specs.stated_runs.Setups.{Setup, packet_of, IsSetup}
 use Rattle.net_model.specs.stated_runs.DueSteps.{IsEntering, IsLeaving}
@@ -64,7 +64,7 @@ enter_keeps S ok stations links arrivals n xs h f p t b next_one new own =
     (stations_after S xs x stations new h.servers k own)
     (links_kept S r (next_run S.net r x) links arrivals h.on_links refl
     (ahead_next S r x k.many (λ u a. ahead_arrive S (server_of S.net x) (server_at S.net (server_of S.net x)).discipline (state_at r (server_of S.net x))
-    (card_of S.net (Rattle.net_model.specs.run_laws.specs.Views.entered_after r.entered x) p (server_of S.net x)) t u a)))
+    (card_of S.net (Rattle.run_laws.specs.Views.entered_after r.entered x) p (server_of S.net x)) t u a)))
     (let z = Rattle.std.proofs.lemmas.List.length_push r.entered record { flow = f; bits = b } in omega (arith, z, h.entered_is))
     (omega (arith, in_trace))
     (entries_push S r.entered n f b h.entered_is (due.flow_is ∙ ap (λ j. (packet_of S j).flow) same) (due.bits_are ∙ ap (λ j. (packet_of S j).bits) same) h.entries)

@@ -4,14 +4,14 @@ use Rattle.std.proofs.Common.{arith, refl, sym, ap, ◌∙◌, subst, inl, inr}
 use Rattle.std.proofs.lemmas.Bool.{cases_eq}
 use Rattle.rational.specs.Rational.{ℚ, ◌≤ℚ◌}
 use Rattle.rational.proofs.Laws.{le_trans}
-use Rattle.net_model.specs.run_laws.specs.declared.steps.Step.{Step}
-use Rattle.net_model.specs.run_laws.specs.declared.steps.Step.TheVariants.{Enter, Reach}
-use Rattle.net_model.specs.run_laws.specs.Cards.{Card}
-use Rattle.net_model.specs.run_laws.specs.Servers.{queue_count}
-use Rattle.net_model.specs.run_laws.specs.Routes.{server_at, route_of, queue_at, first_server}
-use Rattle.net_model.specs.run_laws.specs.Views.{hops_of}
-use Rattle.net_model.specs.run_laws.specs.Lawful as lawful
-use Rattle.net_model.specs.run_laws.specs.Lawful.{state_at}
+use Rattle.run_laws.specs.declared.steps.Step.{Step}
+use Rattle.run_laws.specs.declared.steps.Step.TheVariants.{Enter, Reach}
+use Rattle.run_laws.specs.Cards.{Card}
+use Rattle.run_laws.specs.Servers.{queue_count}
+use Rattle.run_laws.specs.Routes.{server_at, route_of, queue_at, first_server}
+use Rattle.run_laws.specs.Views.{hops_of}
+use Rattle.run_laws.specs.Lawful as lawful
+use Rattle.run_laws.specs.Lawful.{state_at}
 use Rattle.queue_sched.specs.Waiting.{HasPacket}
 use Rattle.queue_sched.specs.index_links.Chains.{Chains}
 use Rattle.net_model.specs.stated_runs.Setups.{Setup, IsSetup}

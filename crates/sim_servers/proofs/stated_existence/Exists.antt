@@ -5,16 +5,16 @@ use Rattle.std.proofs.lemmas.List.{length_push}
 use Rattle.rational.specs.Rational.{ℚ, int, ◌+ℚ◌, ◌≤ℚ◌}
 use Rattle.rational.specs.Grid.{Whole}
 use Rattle.rational.proofs.Laws.{le_trans}
-use Rattle.net_model.specs.run_laws.specs.declared.steps.Step.{Step}
-use Rattle.net_model.specs.run_laws.specs.declared.steps.Step.TheVariants.{Enter, Reach, Work, Leave, Visit}
-use Rattle.net_model.specs.run_laws.specs.Runs.{SpecRun}
-use Rattle.net_model.specs.run_laws.specs.Servers.{Fifo, Priority, Discipline, Drr, queue_count, ServerState, Server, start}
-use Rattle.net_model.specs.run_laws.specs.Next.{next}
-use Rattle.net_model.specs.run_laws.specs.Cards.{Visits}
-use Rattle.net_model.specs.run_laws.specs.Allows.{MayVisit}
-use Rattle.net_model.specs.run_laws.specs.Routes.{server_at, link_at, server_after}
-use Rattle.net_model.specs.run_laws.specs.Views.{hops_of, server_of, seen}
-use Rattle.net_model.specs.run_laws.specs.Lawful.{Due, RunState, state_at, next_run, run_start, after_run}
+use Rattle.run_laws.specs.declared.steps.Step.{Step}
+use Rattle.run_laws.specs.declared.steps.Step.TheVariants.{Enter, Reach, Work, Leave, Visit}
+use Rattle.run_laws.specs.Runs.{SpecRun}
+use Rattle.run_laws.specs.Servers.{Fifo, Priority, Discipline, Drr, queue_count, ServerState, Server, start}
+use Rattle.run_laws.specs.Next.{next}
+use Rattle.run_laws.specs.Cards.{Visits}
+use Rattle.run_laws.specs.Allows.{MayVisit}
+use Rattle.run_laws.specs.Routes.{server_at, link_at, server_after}
+use Rattle.run_laws.specs.Views.{hops_of, server_of, seen}
+use Rattle.run_laws.specs.Lawful.{Due, RunState, state_at, next_run, run_start, after_run}
 use Rattle.net_model.specs.Networks.{Net}
 use Rattle.net_model.specs.Accepted.{IsAccepted, HasFewQueues}
 use Rattle.net_model.proofs.FewQueues.{few_of}

@@ -5,15 +5,15 @@ use Rattle.std.proofs.lemmas.Bool.{cases_eq, cases_lt, cases_order}
 use Rattle.rational.specs.Rational.{ℚ, int, ◌-ℚ◌, ◌≤ℚ◌, ◌<ℚ◌}
 use Rattle.rational.proofs.Linear.{with1, with2}
 use Rattle.rational.proofs.Laws.{le_refl, le_trans, le_of_lt, le_or_lt, lt_cases, lt_irrefl, antisym}
-use Rattle.net_model.specs.run_laws.specs.declared.steps.Step.{Step}
-use Rattle.net_model.specs.run_laws.specs.declared.steps.Step.TheVariants.{Enter, Reach, Work, Leave, Visit}
-use Rattle.net_model.specs.run_laws.specs.Cards.{Card, size}
-use Rattle.net_model.specs.run_laws.specs.Servers.{Under, ServerState, done}
-use Rattle.net_model.specs.run_laws.specs.Allows.{pick, MayVisit}
-use Rattle.net_model.specs.run_laws.specs.Routes.{server_at}
-use Rattle.net_model.specs.run_laws.specs.Lawful.{Due, RunState, state_at}
-use Rattle.net_model.specs.run_laws.proofs.Heads.{pick_is_head}
-use Rattle.net_model.specs.run_laws.proofs.Sizes.{size_pos}
+use Rattle.run_laws.specs.declared.steps.Step.{Step}
+use Rattle.run_laws.specs.declared.steps.Step.TheVariants.{Enter, Reach, Work, Leave, Visit}
+use Rattle.run_laws.specs.Cards.{Card, size}
+use Rattle.run_laws.specs.Servers.{Under, ServerState, done}
+use Rattle.run_laws.specs.Allows.{pick, MayVisit}
+use Rattle.run_laws.specs.Routes.{server_at}
+use Rattle.run_laws.specs.Lawful.{Due, RunState, state_at}
+use Rattle.run_laws.proofs.Heads.{pick_is_head}
+use Rattle.run_laws.proofs.Sizes.{size_pos}
 use Rattle.net_model.specs.stated_runs.Setups.{Setup, IsSetup, IsFirstOpen, packet_of}
 use Rattle.net_model.specs.stated_runs.DueSteps.{IsLeaving, IsResumed, IsStarted, IsVisited, IsEntering, IsDue, step_time, Rank, RankAtMost, rank_of, ComesFirst}
 use Rattle.net_model.specs.stated_runs.Simulated.{IsNext}

@@ -12,14 +12,14 @@ use Rattle.rational.proofs.Whole.{whole_le, whole_gt}
 use Rattle.rational.proofs.Integers.{int_le, int_lt_out, nat_lt, nat_lt_out, nat_next, nat_nonneg}
 use Rattle.rational.proofs.Linear.{with2, with4}
 use Rattle.rational.proofs.Laws.{le_refl, le_trans, le_lt_trans, add_le_add, add_mul, mul_nonneg, mul_pos, mul_le_mul_right}
-use Rattle.net_model.specs.run_laws.specs.Cards.{Card, Visits, whole}
-use Rattle.net_model.specs.run_laws.specs.Servers.{Discipline, Fifo, Priority, Drr, queue_count, Under, Round, ServerState, head_of}
-use Rattle.net_model.specs.run_laws.specs.Next.{next, fits, visit_on}
-use Rattle.net_model.specs.run_laws.specs.Allows.{MayVisit}
-use Rattle.net_model.specs.run_laws.specs.Rounds.{presence}
-use Rattle.net_model.specs.run_laws.specs.Routes.{server_at}
-use Rattle.net_model.specs.run_laws.specs.Lawful.{Due, same_due, without, sent}
-use Rattle.net_model.specs.run_laws.proofs.Rounds.{first_counts}
+use Rattle.run_laws.specs.Cards.{Card, Visits, whole}
+use Rattle.run_laws.specs.Servers.{Discipline, Fifo, Priority, Drr, queue_count, Under, Round, ServerState, head_of}
+use Rattle.run_laws.specs.Next.{next, fits, visit_on}
+use Rattle.run_laws.specs.Allows.{MayVisit}
+use Rattle.run_laws.specs.Rounds.{presence}
+use Rattle.run_laws.specs.Routes.{server_at}
+use Rattle.run_laws.specs.Lawful.{Due, same_due, without, sent}
+use Rattle.run_laws.proofs.Rounds.{first_counts}
 use Rattle.net_model.specs.stated_runs.Setups.{Setup}
 use Rattle.net_model.proofs.stated_runs.Lists.{In}
 use Rattle.net_model.proofs.stated_runs.Turning.{KeepsTurns, AreHeads, head_cases}

@@ -1,10 +1,10 @@
 -- What steps do to stations: one of them changes.
 use Rattle.std.specs.Prelude.{Option, Some, None, ◌≡◌, ℕ, pos, List, set, slice_get}
 use Rattle.rational.specs.Rational.{ℚ, int, ◌≤ℚ◌, ◌<ℚ◌}
-use Rattle.net_model.specs.run_laws.specs.Cards.{Card, Arrives, Leaves}
-use Rattle.net_model.specs.run_laws.specs.Servers.{Under, ServerState}
-use Rattle.net_model.specs.run_laws.specs.Next.{next}
-use Rattle.net_model.specs.run_laws.specs.Routes.{server_at}
+use Rattle.run_laws.specs.Cards.{Card, Arrives, Leaves}
+use Rattle.run_laws.specs.Servers.{Under, ServerState}
+use Rattle.run_laws.specs.Next.{next}
+use Rattle.run_laws.specs.Routes.{server_at}
 use Rattle.queue_sched.specs.Turns.{IsCard, Starts}
 use Rattle.queue_sched.specs.declared.turn.Turn.{Turn}
 use Rattle.net_model.specs.stated_runs.Setups.{Setup}

@@ -1,12 +1,12 @@
 -- What the simulator's state is good for, and what keeps it.
 use Rattle.std.specs.Prelude.{Some, None, ◌≡◌, ℕ, ◌+◌, List, [], ◌∷◌, ◌++◌, length, set, ◌<◌, ◌^◌, slice_get}
 use Rattle.rational.specs.Rational.{ℚ, ◌+ℚ◌}
-use Rattle.net_model.specs.run_laws.specs.declared.steps.Step.{Step}
-use Rattle.net_model.specs.run_laws.specs.declared.steps.Step.TheVariants.{Enter, Reach, Work, Leave, Visit}
-use Rattle.net_model.specs.run_laws.specs.Next.{next}
-use Rattle.net_model.specs.run_laws.specs.Routes.{server_at, link_at, server_after, route_of, queue_at, first_server}
-use Rattle.net_model.specs.run_laws.specs.Views.{hops_of, server_of, seen}
-use Rattle.net_model.specs.run_laws.specs.Lawful.{state_at}
+use Rattle.run_laws.specs.declared.steps.Step.{Step}
+use Rattle.run_laws.specs.declared.steps.Step.TheVariants.{Enter, Reach, Work, Leave, Visit}
+use Rattle.run_laws.specs.Next.{next}
+use Rattle.run_laws.specs.Routes.{server_at, link_at, server_after, route_of, queue_at, first_server}
+use Rattle.run_laws.specs.Views.{hops_of, server_of, seen}
+use Rattle.run_laws.specs.Lawful.{state_at}
 use Rattle.queue_sched.specs.index_links.Chains.{Chains, list_at, unlinked, with_list}
 use Rattle.net_model.specs.stated_runs.Setups.{Setup, IsSetup}
 use Rattle.net_model.specs.stated_runs.DueSteps.{IsDue, rank_of, step_time}

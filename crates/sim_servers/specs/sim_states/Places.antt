@@ -1,8 +1,8 @@
 -- In how many places a packet is: at servers, and on links.
 use Rattle.std.specs.Prelude.{◌≡◌, ℕ, ◌+◌, ◌≤◌, ◌==◌, List, [], ◌∷◌, length, sum_by, if◌then◌else◌}
-use Rattle.net_model.specs.run_laws.specs.Cards.{Card}
-use Rattle.net_model.specs.run_laws.specs.Servers.{ServerState}
-use Rattle.net_model.specs.run_laws.specs.Lawful.{Due, RunState}
+use Rattle.run_laws.specs.Cards.{Card}
+use Rattle.run_laws.specs.Servers.{ServerState}
+use Rattle.run_laws.specs.Lawful.{Due, RunState}
 
 -- 1 where they are the same
 abbrev pub one : ℕ → ℕ → ℕ

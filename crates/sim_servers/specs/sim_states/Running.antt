@@ -1,18 +1,18 @@
 -- The state of the simulator between two steps, and what it takes for due.
 use Rattle.std.specs.Prelude.{Option, Some, None, ◌≡◌, ◌⊎◌, ℕ, pos, ◌<◌, ◌≤◌, List, [], ◌∷◌, length, get_or, slice_get}
 use Rattle.rational.specs.Rational.{ℚ, int, ◌+ℚ◌, ◌≤ℚ◌, ◌<ℚ◌}
-use Rattle.net_model.specs.run_laws.specs.declared.steps.Step.{Step}
-use Rattle.net_model.specs.run_laws.specs.Servers.{Under, ServerState}
-use Rattle.net_model.specs.run_laws.specs.Routes.{link_at}
-use Rattle.net_model.specs.run_laws.specs.Views.{entry_of}
-use Rattle.net_model.specs.run_laws.specs.Lawful as lawful
-use Rattle.net_model.specs.run_laws.specs.Lawful.{RunState, state_at, run_start}
+use Rattle.run_laws.specs.declared.steps.Step.{Step}
+use Rattle.run_laws.specs.Servers.{Under, ServerState}
+use Rattle.run_laws.specs.Routes.{link_at}
+use Rattle.run_laws.specs.Views.{entry_of}
+use Rattle.run_laws.specs.Lawful as lawful
+use Rattle.run_laws.specs.Lawful.{RunState, state_at, run_start}
 use Rattle.queue_sched.specs.index_links.Chains.{Chains, list_at, Has, first_of}
 use Rattle.net_model.specs.stated_runs.Setups.{Entering, Setup, packet_of}
 use Rattle.net_model.specs.stated_runs.DueSteps.{RankAtMost, rank_of, step_time}
 use Rattle.net_model.specs.stated_runs.Simulated.{FollowsSoFar}
 use Rattle.net_model.specs.stated_runs.Laws.{state_after}
-use Rattle.net_model.specs.run_laws.specs.Members.{Has as In}
+use Rattle.run_laws.specs.Members.{Has as In}
 use Rattle.sim_servers.specs.sim_states.Places.{ArePlaced}
 use Rattle.sim_servers.specs.declared.due.Due.{Due}
 use Rattle.sim_servers.specs.declared.due.DueKind.TheVariants as kinds

@@ -3,14 +3,14 @@ use Rattle.std.specs.Prelude.{Some, ◌≡◌, ℕ, ◌+◌, ◌<◌, List, [], 
 use Rattle.std.proofs.Common.{refl, sym, ap, ◌∙◌, subst, arith}
 use Rattle.rational.specs.Rational.{ℚ, ◌≤ℚ◌}
 use Rattle.rational.proofs.Laws.{le_trans}
-use Rattle.net_model.specs.run_laws.specs.declared.steps.Step.{Step}
-use Rattle.net_model.specs.run_laws.specs.declared.steps.Step.TheVariants.{Enter, Reach}
-use Rattle.net_model.specs.run_laws.specs.Cards.{Card, ServerStep, Arrives}
-use Rattle.net_model.specs.run_laws.specs.Next.{next}
-use Rattle.net_model.specs.run_laws.specs.Routes.{Hop, server_at, route_of, queue_at, first_server}
-use Rattle.net_model.specs.run_laws.specs.Views.{Entry, card_of, hops_of, server_of, seen}
-use Rattle.net_model.specs.run_laws.specs.Lawful as lawful
-use Rattle.net_model.specs.run_laws.specs.Lawful.{state_at}
+use Rattle.run_laws.specs.declared.steps.Step.{Step}
+use Rattle.run_laws.specs.declared.steps.Step.TheVariants.{Enter, Reach}
+use Rattle.run_laws.specs.Cards.{Card, ServerStep, Arrives}
+use Rattle.run_laws.specs.Next.{next}
+use Rattle.run_laws.specs.Routes.{Hop, server_at, route_of, queue_at, first_server}
+use Rattle.run_laws.specs.Views.{Entry, card_of, hops_of, server_of, seen}
+use Rattle.run_laws.specs.Lawful as lawful
+use Rattle.run_laws.specs.Lawful.{state_at}
 use Rattle.queue_sched.specs.Turns.{IsCard}
 use Rattle.queue_sched.specs.index_links.Chains.{Chains, IsLinked, unlinked}
 use Rattle.net_model.specs.declared.trace.TracePacket.{TracePacket}

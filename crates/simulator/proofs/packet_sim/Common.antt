@@ -4,9 +4,9 @@ use Rattle.std.proofs.Common.{sym, ap, ◌∙◌, subst, inl, inr, arith}
 use Rattle.std.proofs.lemmas.Bool.{cases_eq}
 use Rattle.std.proofs.lemmas.Option.{slice_get_within}
 use Rattle.rational.specs.Rational.{ℚ}
-use Rattle.net_model.specs.run_laws.specs.declared.steps.Step.{Step}
-use Rattle.net_model.specs.run_laws.specs.Routes.{route_of}
-use Rattle.net_model.specs.run_laws.specs.Views.{Entry, entry_of, hops_of}
+use Rattle.run_laws.specs.declared.steps.Step.{Step}
+use Rattle.run_laws.specs.Routes.{route_of}
+use Rattle.run_laws.specs.Views.{Entry, entry_of, hops_of}
 use Rattle.queue_sched.specs.index_links.Chains.{Chains}
 use Rattle.net_model.specs.declared.trace.TracePacket.{TracePacket}
 use Rattle.net_model.specs.stated_runs.Setups.{Entering, Setup, packet_of}

@@ -10,12 +10,12 @@ use Rattle.rational.proofs.Integers.{nat_nonneg}
 use Rattle.rational.proofs.Laws.{le_trans, mul_le_mul_right}
 use Rattle.rational.proofs.Linear.{with1}
 use Rattle.rational.proofs.Sizes.{largest_part, difference_on_grid}
-use Rattle.net_model.specs.run_laws.specs.declared.steps.Step.{Step}
-use Rattle.net_model.specs.run_laws.specs.declared.steps.Step.TheVariants.{Enter, Reach, Work, Leave, Visit}
-use Rattle.net_model.specs.run_laws.specs.FlowDelays.{delivered_at}
-use Rattle.net_model.specs.run_laws.specs.Routes.{Routes, link_at, route_of, last_server}
-use Rattle.net_model.specs.run_laws.specs.Runs.{SpecRun}
-use Rattle.net_model.specs.run_laws.specs.Lawful.{run_start}
+use Rattle.run_laws.specs.declared.steps.Step.{Step}
+use Rattle.run_laws.specs.declared.steps.Step.TheVariants.{Enter, Reach, Work, Leave, Visit}
+use Rattle.run_laws.specs.FlowDelays.{delivered_at}
+use Rattle.run_laws.specs.Routes.{Routes, link_at, route_of, last_server}
+use Rattle.run_laws.specs.Runs.{SpecRun}
+use Rattle.run_laws.specs.Lawful.{run_start}
 use Rattle.net_model.specs.stated_runs.Setups.{Setup}
 use Rattle.net_model.specs.stated_runs.DueSteps.{step_time}
 use Rattle.net_model.specs.stated_runs.Simulated.{Follows, FollowsSoFar, last_time, IsSimulated}

@@ -1,8 +1,8 @@
 -- The first of all that is due, and the end.
 use Rattle.std.specs.Prelude.{Some, None, ℕ, List, length}
 use Rattle.std.proofs.Common.{subst}
-use Rattle.net_model.specs.run_laws.specs.declared.steps.Step.{Step}
-use Rattle.net_model.specs.run_laws.specs.Lawful.{run_start}
+use Rattle.run_laws.specs.declared.steps.Step.{Step}
+use Rattle.run_laws.specs.Lawful.{run_start}
 use Rattle.queue_sched.specs.index_links.Chains.{Chains}
 use Rattle.net_model.specs.stated_runs.Setups.{Setup}
 use Rattle.net_model.specs.stated_runs.Simulated.{Follows}

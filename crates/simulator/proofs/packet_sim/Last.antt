@@ -2,7 +2,7 @@
 use Rattle.std.specs.Prelude.{Some, ◌≡◌, suc, ◌-◌, List, [], ◌∷◌, length, slice_get}
 use Rattle.std.proofs.Common.{ap, ◌∙◌, arith}
 use Rattle.rational.specs.Rational.{ℚ}
-use Rattle.net_model.specs.run_laws.specs.declared.steps.Step.{Step}
+use Rattle.run_laws.specs.declared.steps.Step.{Step}
 use Rattle.net_model.specs.stated_runs.DueSteps.{step_time}
 use Rattle.net_model.specs.stated_runs.Simulated.{last_time}
 

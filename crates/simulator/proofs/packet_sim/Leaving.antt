@@ -3,13 +3,13 @@ use Rattle.std.specs.Prelude.{Some, None, ◌≡◌, ℕ, ◌<◌, List, [], ◌
 use Rattle.std.proofs.Common.{refl, sym, ap, ◌∙◌, subst, arith}
 use Rattle.rational.specs.Rational.{ℚ, ◌+ℚ◌}
 use Rattle.rational.specs.Ratio.{SumFits}
-use Rattle.net_model.specs.run_laws.specs.declared.steps.Step.{Step}
-use Rattle.net_model.specs.run_laws.specs.declared.steps.Step.TheVariants as steps
-use Rattle.net_model.specs.run_laws.specs.Cards.{Leaves}
-use Rattle.net_model.specs.run_laws.specs.Next.{next}
-use Rattle.net_model.specs.run_laws.specs.Routes.{Hop, server_at, link_at, route_of, server_after}
-use Rattle.net_model.specs.run_laws.specs.Views.{card_of}
-use Rattle.net_model.specs.run_laws.specs.Lawful.{state_at}
+use Rattle.run_laws.specs.declared.steps.Step.{Step}
+use Rattle.run_laws.specs.declared.steps.Step.TheVariants as steps
+use Rattle.run_laws.specs.Cards.{Leaves}
+use Rattle.run_laws.specs.Next.{next}
+use Rattle.run_laws.specs.Routes.{Hop, server_at, link_at, route_of, server_after}
+use Rattle.run_laws.specs.Views.{card_of}
+use Rattle.run_laws.specs.Lawful.{state_at}
 use Rattle.queue_sched.specs.index_links.Chains.{Chains, IsFree, list_at, with_list}
 use Rattle.net_model.specs.declared.trace.TracePacket.{TracePacket}
 use Rattle.net_model.specs.stated_runs.Setups.{Setup, packet_of}

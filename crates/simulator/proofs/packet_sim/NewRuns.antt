@@ -6,9 +6,9 @@ use Rattle.std.proofs.lemmas.List.{length-map, length_push}
 use Rattle.std.proofs.lemmas.Option.{get_or_from_slice_get, slice_get-map}
 use Rattle.std.specs.Option.{option_map}
 use Rattle.rational.specs.Rational.{ℚ, int, ◌<ℚ◌}
-use Rattle.net_model.specs.run_laws.specs.Servers.{Fifo, Server, start}
-use Rattle.net_model.specs.run_laws.specs.Routes.{server_at}
-use Rattle.net_model.specs.run_laws.specs.Lawful.{state_at, run_start}
+use Rattle.run_laws.specs.Servers.{Fifo, Server, start}
+use Rattle.run_laws.specs.Routes.{server_at}
+use Rattle.run_laws.specs.Lawful.{state_at, run_start}
 use Rattle.queue_sched.specs.index_links.Chains.{Chains, list_at, Has}
 use Rattle.net_model.specs.declared.trace.Stall.{Stall}
 use Rattle.net_model.specs.Networks.{Net, NetServer}

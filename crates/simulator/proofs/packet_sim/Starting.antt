@@ -6,16 +6,16 @@ use Rattle.rational.specs.Rational.{ℚ, int, ◌-ℚ◌, ◌/ℚ◌, ◌≤ℚ�
 use Rattle.rational.specs.Ratio.{IsSmall}
 use Rattle.rational.proofs.Laws.{le_refl, not_zero, antisym}
 use Rattle.rational.proofs.Linear.{with1}
-use Rattle.net_model.specs.run_laws.specs.declared.steps.Step.{Step}
-use Rattle.net_model.specs.run_laws.specs.declared.steps.Step.TheVariants as steps
-use Rattle.net_model.specs.run_laws.specs.Cards.{Card, Works, Visits, size, whole}
-use Rattle.net_model.specs.run_laws.specs.Servers.{Discipline, ServerState, done_so_far}
-use Rattle.net_model.specs.run_laws.specs.Next.{next}
-use Rattle.net_model.specs.run_laws.specs.Allows.{pick}
-use Rattle.net_model.specs.run_laws.specs.Routes.{Hop, PassesServer, server_at, route_of}
-use Rattle.net_model.specs.run_laws.specs.Views.{card_of, entry_of}
-use Rattle.net_model.specs.run_laws.specs.Lawful.{state_at}
-use Rattle.net_model.specs.run_laws.proofs.Heads.{pick_is_head}
+use Rattle.run_laws.specs.declared.steps.Step.{Step}
+use Rattle.run_laws.specs.declared.steps.Step.TheVariants as steps
+use Rattle.run_laws.specs.Cards.{Card, Works, Visits, size, whole}
+use Rattle.run_laws.specs.Servers.{Discipline, ServerState, done_so_far}
+use Rattle.run_laws.specs.Next.{next}
+use Rattle.run_laws.specs.Allows.{pick}
+use Rattle.run_laws.specs.Routes.{Hop, PassesServer, server_at, route_of}
+use Rattle.run_laws.specs.Views.{card_of, entry_of}
+use Rattle.run_laws.specs.Lawful.{state_at}
+use Rattle.run_laws.proofs.Heads.{pick_is_head}
 use Rattle.queue_sched.specs.Turns.{IsIdle, Starts, Sends}
 use Rattle.queue_sched.specs.declared.turn.Turn.{Turn}
 use Rattle.queue_sched.specs.declared.turn.Turn.TheVariants as turns
@@ -29,7 +29,7 @@ use Rattle.net_model.specs.stated_runs.Laws.{state_after}
 use Rattle.net_model.specs.stated_runs.TimeGrids.{IsTime}
 use Rattle.net_model.proofs.stated_runs.GoodServers.{IsCardAt}
 use Rattle.net_model.proofs.stated_runs.Lists.{head_in}
-use Rattle.net_model.specs.run_laws.proofs.Sizes.{size_pos}
+use Rattle.run_laws.proofs.Sizes.{size_pos}
 use Rattle.net_model.proofs.stated_runs.Progress.{fair_card}
 use Rattle.sim_servers.specs.declared.due.Due.{Due}
 use Rattle.sim_servers.specs.declared.due.DueKind.TheVariants as kinds
@@ -244,7 +244,7 @@ long S stations links arrivals n xs d p h kind e is =
     let entered_one : p < length r.entered = subst (λ q. q < length r.entered) k.packet_is k.here.entered_one in
     let seen_as = has_entered S h.before links arrivals n xs now p entered_one e is in
     let passes : PassesServer s (route_of S.net (packet_of S p).flow).hops =
-    subst (λ (hs : List Hop). PassesServer s hs) (ap (λ q. Rattle.net_model.specs.run_laws.specs.Views.hops_of S.net r.entered q) k.packet_is ∙ seen_as.hops
+    subst (λ (hs : List Hop). PassesServer s hs) (ap (λ q. Rattle.run_laws.specs.Views.hops_of S.net r.entered q) k.packet_is ∙ seen_as.hops
     ∙ ap (λ (x : Entering). (route_of S.net x.flow).hops) (sym is)) k.here.passes in
     record {
       bits_are = ap (λ (x : Card). x.bits) k.here.is ∙ ap (λ q. (entry_of r.entered q).bits) k.packet_is ∙ seen_as.bits;

@@ -4,14 +4,14 @@ use Rattle.std.proofs.Common.{refl, sym, ap, ◌∙◌, subst, arith, inl}
 use Rattle.rational.specs.Rational.{ℚ, int, ◌-ℚ◌, ◌*ℚ◌, ◌/ℚ◌, ◌≤ℚ◌, ◌<ℚ◌}
 use Rattle.rational.specs.Ratio.{IsSmall}
 use Rattle.rational.proofs.Linear.{sub_pos}
-use Rattle.net_model.specs.run_laws.specs.declared.steps.Step.{Step}
-use Rattle.net_model.specs.run_laws.specs.declared.steps.Step.TheVariants as steps
-use Rattle.net_model.specs.run_laws.specs.Cards.{Card, Works, size}
-use Rattle.net_model.specs.run_laws.specs.Servers.{ServerState, done, done_so_far}
-use Rattle.net_model.specs.run_laws.specs.Next.{next}
-use Rattle.net_model.specs.run_laws.specs.Routes.{server_at}
-use Rattle.net_model.specs.run_laws.specs.Views.{card_of}
-use Rattle.net_model.specs.run_laws.specs.Lawful.{state_at}
+use Rattle.run_laws.specs.declared.steps.Step.{Step}
+use Rattle.run_laws.specs.declared.steps.Step.TheVariants as steps
+use Rattle.run_laws.specs.Cards.{Card, Works, size}
+use Rattle.run_laws.specs.Servers.{ServerState, done, done_so_far}
+use Rattle.run_laws.specs.Next.{next}
+use Rattle.run_laws.specs.Routes.{server_at}
+use Rattle.run_laws.specs.Views.{card_of}
+use Rattle.run_laws.specs.Lawful.{state_at}
 use Rattle.queue_sched.specs.index_links.Chains.{Chains}
 use Rattle.net_model.specs.stated_runs.Setups.{Setup, IsSetup, IsFirstOpen, IsStretch, rate_of}
 use Rattle.net_model.specs.stated_runs.DueSteps.{IsDue, work_kind}

@@ -3,18 +3,18 @@ use Rattle.std.specs.Prelude.{◌≡◌, ◌≢◌, ℕ, suc, ◌^◌, ◌<◌, 
 use Rattle.std.proofs.Common.{arith, refl, sym, ◌∙◌, subst, inl, inr}
 use Rattle.std.proofs.lemmas.Bool.{cases_eq, eq-eqb, ne_eqb}
 use Rattle.rational.specs.Rational.{ℚ}
-use Rattle.net_model.specs.run_laws.specs.declared.steps.Step.{Step}
-use Rattle.net_model.specs.run_laws.specs.declared.steps.Step.TheVariants.{Work, Visit}
-use Rattle.net_model.specs.run_laws.specs.Runs.{SpecRun}
-use Rattle.net_model.specs.run_laws.specs.Cards.{Card, ServerStep, Arrives, Works, Leaves, Visits}
-use Rattle.net_model.specs.run_laws.specs.Servers.{ServerState, queue_count}
-use Rattle.net_model.specs.run_laws.specs.Next.{next}
-use Rattle.net_model.specs.run_laws.specs.Allows.{Allows}
-use Rattle.net_model.specs.run_laws.specs.Routes.{Routes, server_at}
-use Rattle.net_model.specs.run_laws.specs.Views.{Entry, card_of, entered_after, server_of, seen, view_from}
-use Rattle.net_model.specs.run_laws.specs.Lawful.{RunState, state_at, next_run}
-use Rattle.net_model.specs.run_laws.proofs.States.{IsSound}
-use Rattle.net_model.specs.run_laws.proofs.Views.{own_state, other_state}
+use Rattle.run_laws.specs.declared.steps.Step.{Step}
+use Rattle.run_laws.specs.declared.steps.Step.TheVariants.{Work, Visit}
+use Rattle.run_laws.specs.Runs.{SpecRun}
+use Rattle.run_laws.specs.Cards.{Card, ServerStep, Arrives, Works, Leaves, Visits}
+use Rattle.run_laws.specs.Servers.{ServerState, queue_count}
+use Rattle.run_laws.specs.Next.{next}
+use Rattle.run_laws.specs.Allows.{Allows}
+use Rattle.run_laws.specs.Routes.{Routes, server_at}
+use Rattle.run_laws.specs.Views.{Entry, card_of, entered_after, server_of, seen, view_from}
+use Rattle.run_laws.specs.Lawful.{RunState, state_at, next_run}
+use Rattle.run_laws.proofs.States.{IsSound}
+use Rattle.run_laws.proofs.Views.{own_state, other_state}
 use Rattle.simulator.specs.declared.run_measures.gauge.Gauge.{Gauge}
 use Rattle.simulator.specs.run_measures.Gauges.{Gains, Loses, gauge_in, HasGauge, ChangesOne}
 use Rattle.simulator.specs.run_measures.Gauged.{IsGauged, AreGauged, state_after}

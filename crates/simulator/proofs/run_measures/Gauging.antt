@@ -8,15 +8,15 @@ use Rattle.rational.proofs.Linear.{with2, with5, with6}
 use Rattle.rational.proofs.Over.{le_q_out, lt_q_out}
 use Rattle.rational.proofs.MinMax.{le_q_not, lt_q_not}
 use Rattle.rational.proofs.Stretch.{not_earlier}
-use Rattle.net_model.specs.run_laws.specs.Cards.{Card, Class, of_queue, size, whole, ServerStep, Arrives, Works, Leaves, Visits, time_of}
-use Rattle.net_model.specs.run_laws.specs.Servers.{Discipline, Server, Under, ServerState, head_of, without_head}
-use Rattle.net_model.specs.run_laws.specs.Next.{next, next_inside, next_under, next_busy}
-use Rattle.net_model.specs.run_laws.specs.Allows.{Allows, MayLeave}
-use Rattle.net_model.specs.run_laws.specs.Counts.{when, total, arrives, leaves, upto, before}
-use Rattle.net_model.specs.run_laws.proofs.Sizes.{whole_le, whole_sum, size_nonneg}
-use Rattle.net_model.specs.run_laws.proofs.Sums.{when_true, when_false, when_nonneg}
-use Rattle.net_model.specs.run_laws.proofs.Heads.{same_some}
-use Rattle.net_model.specs.run_laws.proofs.States.{IsSoundFor, IsSound, leaving}
+use Rattle.run_laws.specs.Cards.{Card, Class, of_queue, size, whole, ServerStep, Arrives, Works, Leaves, Visits, time_of}
+use Rattle.run_laws.specs.Servers.{Discipline, Server, Under, ServerState, head_of, without_head}
+use Rattle.run_laws.specs.Next.{next, next_inside, next_under, next_busy}
+use Rattle.run_laws.specs.Allows.{Allows, MayLeave}
+use Rattle.run_laws.specs.Counts.{when, total, arrives, leaves, upto, before}
+use Rattle.run_laws.proofs.Sizes.{whole_le, whole_sum, size_nonneg}
+use Rattle.run_laws.proofs.Sums.{when_true, when_false, when_nonneg}
+use Rattle.run_laws.proofs.Heads.{same_some}
+use Rattle.run_laws.proofs.States.{IsSoundFor, IsSound, leaving}
 use Rattle.simulator.specs.declared.run_measures.gauge.Gauge.{Gauge}
 use Rattle.simulator.specs.run_measures.Gauges.{counted, level_at, Gains, Loses}
 use Rattle.simulator.specs.run_measures.Gauged.{bits_of, LeavesLater, WasThere, IsGauged}

@@ -4,7 +4,7 @@ use Rattle.std.proofs.Common.{arith, refl, inl, inr}
 use Rattle.rational.specs.Rational.{ℚ, int, ◌≤ℚ◌, ◌<ℚ◌}
 use Rattle.rational.specs.declared.Extended.TheVariants.{Fin}
 use Rattle.rational.proofs.Laws.{le_refl, le_trans, le_of_lt}
-use Rattle.net_model.specs.run_laws.specs.Delays.{AreAtMost}
+use Rattle.run_laws.specs.Delays.{AreAtMost}
 use Rattle.simulator.specs.run_measures.Worst.{IsLargest}
 
 pub largest_none : IsLargest [] (int (pos 0))

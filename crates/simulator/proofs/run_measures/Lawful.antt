@@ -3,12 +3,12 @@ use Rattle.std.specs.Prelude.{◌≡◌, suc, List, [], ◌∷◌, ◌++◌, len
 use Rattle.std.proofs.Common.{arith, subst}
 use Rattle.std.proofs.lemmas.List.{length_push}
 use Rattle.rational.specs.Rational.{ℚ}
-use Rattle.net_model.specs.run_laws.specs.declared.steps.Step.{Step}
-use Rattle.net_model.specs.run_laws.specs.declared.steps.Step.TheVariants.{Enter, Reach, Work, Leave, Visit}
-use Rattle.net_model.specs.run_laws.specs.Runs.{SpecRun}
-use Rattle.net_model.specs.run_laws.specs.Routes.{Routes}
-use Rattle.net_model.specs.run_laws.specs.Views.{Entry}
-use Rattle.net_model.specs.run_laws.specs.Lawful.{RunState, next_run, run_start, AllAllowedInRun, IsLawful}
+use Rattle.run_laws.specs.declared.steps.Step.{Step}
+use Rattle.run_laws.specs.declared.steps.Step.TheVariants.{Enter, Reach, Work, Leave, Visit}
+use Rattle.run_laws.specs.Runs.{SpecRun}
+use Rattle.run_laws.specs.Routes.{Routes}
+use Rattle.run_laws.specs.Views.{Entry}
+use Rattle.run_laws.specs.Lawful.{RunState, next_run, run_start, AllAllowedInRun, IsLawful}
 use Rattle.simulator.specs.run_measures.Numbered.{AreNumberedFrom}
 
 numbered_from : (net : Routes) (end : ℚ) (r : RunState) (xs : List Step) → AllAllowedInRun net end r xs → AreNumberedFrom (length r.entered) xs

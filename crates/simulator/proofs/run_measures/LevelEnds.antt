@@ -6,14 +6,14 @@ use Rattle.std.proofs.lemmas.List.{get_or-map, length-map, get_or-replicate, len
 use Rattle.rational.specs.Rational.{ℚ, int, le_q, ◌+ℚ◌, ◌-ℚ◌, ◌≤ℚ◌}
 use Rattle.rational.proofs.Laws.{le_refl}
 use Rattle.rational.proofs.Linear.{with2}
-use Rattle.net_model.specs.run_laws.specs.Runs.{SpecRun}
-use Rattle.net_model.specs.run_laws.specs.Cards.{of_queue, whole, ServerStep}
-use Rattle.net_model.specs.run_laws.specs.Servers.{Fifo, Discipline, ServerState, queue_count, start}
-use Rattle.net_model.specs.run_laws.specs.Delays.{backlog}
-use Rattle.net_model.specs.run_laws.specs.Routes.{Routes, server_at}
-use Rattle.net_model.specs.run_laws.specs.Views.{view, view_from}
-use Rattle.net_model.specs.run_laws.specs.Lawful.{state_at, run_start}
-use Rattle.net_model.specs.run_laws.proofs.Sums.{add_nothing}
+use Rattle.run_laws.specs.Runs.{SpecRun}
+use Rattle.run_laws.specs.Cards.{of_queue, whole, ServerStep}
+use Rattle.run_laws.specs.Servers.{Fifo, Discipline, ServerState, queue_count, start}
+use Rattle.run_laws.specs.Delays.{backlog}
+use Rattle.run_laws.specs.Routes.{Routes, server_at}
+use Rattle.run_laws.specs.Views.{view, view_from}
+use Rattle.run_laws.specs.Lawful.{state_at, run_start}
+use Rattle.run_laws.proofs.Sums.{add_nothing}
 use Rattle.net_model.specs.Networks.{Net, NetServer}
 use Rattle.net_model.specs.NetRoutes.{routes_of, server_for}
 use Rattle.simulator.specs.declared.run_measures.gauge.Gauge.{Gauge}
@@ -22,7 +22,7 @@ use Rattle.simulator.specs.run_measures.Gauges.{counted, level_at, empty_gauge, 
 use Rattle.simulator.specs.run_measures.Gauged.{WasThere, IsGauged, AreGauged, state_after}
 use Rattle.simulator.specs.run_measures.Levels.{Tells}
 use Rattle.simulator.specs.run_measures.Peaks.{backlog_at, IsReached, IsPeak, peak_in, ArePeaks}
-use Rattle.net_model.specs.run_laws.proofs.Views.{start_state}
+use Rattle.run_laws.proofs.Views.{start_state}
 
 -- one map after another
 pub mapped_twice : {X Y Z : Type 0} (g : Y → Z) (f : X → Y) (xs : List X) → map (λ x. g (f x)) xs ≡ map g (map f xs)

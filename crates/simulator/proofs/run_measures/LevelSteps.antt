@@ -5,18 +5,18 @@ use Rattle.std.proofs.lemmas.Bool.{eq-eqb}
 use Rattle.std.proofs.lemmas.List.{get_or-map, length-map, map_push}
 use Rattle.std.proofs.lemmas.Option.{slice_get-get_or}
 use Rattle.rational.specs.Rational.{ℚ}
-use Rattle.net_model.specs.run_laws.specs.declared.steps.Step.{Step}
-use Rattle.net_model.specs.run_laws.specs.declared.steps.Step.TheVariants.{Enter, Reach, Work, Leave, Visit}
-use Rattle.net_model.specs.run_laws.specs.Runs.{SpecRun}
-use Rattle.net_model.specs.run_laws.specs.Cards.{Card, of_queue, Arrives}
-use Rattle.net_model.specs.run_laws.specs.Servers.{ServerState, queue_count}
-use Rattle.net_model.specs.run_laws.specs.Next.{next}
-use Rattle.net_model.specs.run_laws.specs.Allows.{Allows}
-use Rattle.net_model.specs.run_laws.specs.Routes.{Routes, server_at, route_of, queue_at, first_server}
-use Rattle.net_model.specs.run_laws.specs.Views.{Entry, entry_of, card_of, server_of, seen}
-use Rattle.net_model.specs.run_laws.specs.Lawful.{RunState, state_at, next_run, IsLawful}
-use Rattle.net_model.specs.run_laws.proofs.Entries.{one_more, entry_last, each_due_at, IsDueAfter}
-use Rattle.net_model.specs.run_laws.proofs.Views.{own_state}
+use Rattle.run_laws.specs.declared.steps.Step.{Step}
+use Rattle.run_laws.specs.declared.steps.Step.TheVariants.{Enter, Reach, Work, Leave, Visit}
+use Rattle.run_laws.specs.Runs.{SpecRun}
+use Rattle.run_laws.specs.Cards.{Card, of_queue, Arrives}
+use Rattle.run_laws.specs.Servers.{ServerState, queue_count}
+use Rattle.run_laws.specs.Next.{next}
+use Rattle.run_laws.specs.Allows.{Allows}
+use Rattle.run_laws.specs.Routes.{Routes, server_at, route_of, queue_at, first_server}
+use Rattle.run_laws.specs.Views.{Entry, entry_of, card_of, server_of, seen}
+use Rattle.run_laws.specs.Lawful.{RunState, state_at, next_run, IsLawful}
+use Rattle.run_laws.proofs.Entries.{one_more, entry_last, each_due_at, IsDueAfter}
+use Rattle.run_laws.proofs.Views.{own_state}
 use Rattle.simulator.specs.declared.run_measures.gauge.Gauge.{Gauge}
 use Rattle.simulator.specs.declared.run_measures.levels.Levels.{Levels}
 use Rattle.simulator.specs.run_measures.Gauges.{gauge_in, gauges_of, Gains, Loses, HasGauge, HasRoom, ChangesOne}

@@ -2,9 +2,9 @@
 use Rattle.std.specs.Prelude.{Some, ◌≡◌, ℕ, zero, suc, ◌+◌, List, [], ◌∷◌, slice_get, drop}
 use Rattle.std.proofs.Common.{arith, ap}
 use Rattle.rational.specs.Rational.{ℚ}
-use Rattle.net_model.specs.run_laws.specs.declared.steps.Step.{Step}
-use Rattle.net_model.specs.run_laws.specs.declared.steps.Step.TheVariants.{Enter, Reach, Work, Leave, Visit}
-use Rattle.net_model.specs.run_laws.specs.Routes.{Routes}
+use Rattle.run_laws.specs.declared.steps.Step.{Step}
+use Rattle.run_laws.specs.declared.steps.Step.TheVariants.{Enter, Reach, Work, Leave, Visit}
+use Rattle.run_laws.specs.Routes.{Routes}
 use Rattle.simulator.specs.run_measures.Numbered.{AreNumberedFrom, flows_in}
 use Rattle.simulator.specs.run_measures.Worst.{DelaysFit}
 

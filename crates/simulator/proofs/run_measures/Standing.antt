@@ -4,21 +4,21 @@ use Rattle.std.proofs.Common.{arith, refl, sym, ap, ◌∙◌, subst, inl, inr}
 use Rattle.std.proofs.lemmas.Bool.{cases_Bool, cases_eq, eqb-true, and_parts}
 use Rattle.std.proofs.lemmas.List.{length-map, length-set}
 use Rattle.rational.specs.Rational.{ℚ, le_q, ◌+ℚ◌}
-use Rattle.net_model.specs.run_laws.specs.declared.steps.Step.{Step}
-use Rattle.net_model.specs.run_laws.specs.declared.steps.Step.TheVariants.{Enter, Reach, Work, Leave, Visit}
-use Rattle.net_model.specs.run_laws.specs.Runs.{SpecRun}
-use Rattle.net_model.specs.run_laws.specs.Cards.{Card, Class, all, Arrives, Works, Leaves, Visits, ServerStep}
-use Rattle.net_model.specs.run_laws.specs.Servers.{Fifo, Server, ServerState, queue_count, start, head_of, without_head}
-use Rattle.net_model.specs.run_laws.specs.Next.{next, next_inside}
-use Rattle.net_model.specs.run_laws.specs.Allows.{Allows, MayLeave}
-use Rattle.net_model.specs.run_laws.specs.Routes.{Routes, server_at, link_at, route_of, first_server, server_after}
-use Rattle.net_model.specs.run_laws.specs.Views.{Entry, entry_of, hops_of, card_of, server_of, seen}
-use Rattle.net_model.specs.run_laws.specs.Lawful.{Due, RunState, same_due, without, sent, state_at, next_run, run_start, after_run, AllAllowedInRun, IsLawful}
-use Rattle.net_model.specs.run_laws.proofs.Entries.{same_due_self, EachDue, IsDueAfter, due_next, entry_before, entry_last}
-use Rattle.net_model.specs.run_laws.proofs.Heads.{same_some}
-use Rattle.net_model.specs.run_laws.proofs.Members.{Has, contains_has}
-use Rattle.net_model.specs.run_laws.proofs.States.{IsSound, sound_next, leaving}
-use Rattle.net_model.specs.run_laws.proofs.Views.{own_state, other_state, start_state}
+use Rattle.run_laws.specs.declared.steps.Step.{Step}
+use Rattle.run_laws.specs.declared.steps.Step.TheVariants.{Enter, Reach, Work, Leave, Visit}
+use Rattle.run_laws.specs.Runs.{SpecRun}
+use Rattle.run_laws.specs.Cards.{Card, Class, all, Arrives, Works, Leaves, Visits, ServerStep}
+use Rattle.run_laws.specs.Servers.{Fifo, Server, ServerState, queue_count, start, head_of, without_head}
+use Rattle.run_laws.specs.Next.{next, next_inside}
+use Rattle.run_laws.specs.Allows.{Allows, MayLeave}
+use Rattle.run_laws.specs.Routes.{Routes, server_at, link_at, route_of, first_server, server_after}
+use Rattle.run_laws.specs.Views.{Entry, entry_of, hops_of, card_of, server_of, seen}
+use Rattle.run_laws.specs.Lawful.{Due, RunState, same_due, without, sent, state_at, next_run, run_start, after_run, AllAllowedInRun, IsLawful}
+use Rattle.run_laws.proofs.Entries.{same_due_self, EachDue, IsDueAfter, due_next, entry_before, entry_last}
+use Rattle.run_laws.proofs.Heads.{same_some}
+use Rattle.run_laws.proofs.Members.{Has, contains_has}
+use Rattle.run_laws.proofs.States.{IsSound, sound_next, leaving}
+use Rattle.run_laws.proofs.Views.{own_state, other_state, start_state}
 use Rattle.simulator.specs.run_measures.Gauged.{bits_of, AreFew, state_after}
 use Rattle.simulator.proofs.run_measures.Gauging.{bits_push, bits_without, counted_most}
 

@@ -5,11 +5,11 @@ use Rattle.std.proofs.Math.ListN.{length-set}
 use Rattle.std.proofs.lemmas.Bool.{cases_eq, eq-eqb, ne_eqb}
 use Rattle.std.proofs.lemmas.List.{get_or-set_same, get_or-set_other}
 use Rattle.rational.specs.Rational.{ℚ, int, ◌+ℚ◌, ◌-ℚ◌, ◌≤ℚ◌, ◌<ℚ◌}
-use Rattle.net_model.specs.run_laws.specs.declared.steps.Step.{Step}
-use Rattle.net_model.specs.run_laws.specs.declared.steps.Step.TheVariants.{Enter, Reach, Work, Leave, Visit}
-use Rattle.net_model.specs.run_laws.specs.Delays.{kept}
-use Rattle.net_model.specs.run_laws.specs.FlowDelays.{delivered_at, delays_from}
-use Rattle.net_model.specs.run_laws.specs.Routes.{Routes, link_at, route_of, last_server}
+use Rattle.run_laws.specs.declared.steps.Step.{Step}
+use Rattle.run_laws.specs.declared.steps.Step.TheVariants.{Enter, Reach, Work, Leave, Visit}
+use Rattle.run_laws.specs.Delays.{kept}
+use Rattle.run_laws.specs.FlowDelays.{delivered_at, delays_from}
+use Rattle.run_laws.specs.Routes.{Routes, link_at, route_of, last_server}
 use Rattle.simulator.specs.run_measures.Worst.{IsLargest, IsTallied}
 use Rattle.simulator.proofs.run_measures.Largest.{largest_none, largest_same, largest_new}
 

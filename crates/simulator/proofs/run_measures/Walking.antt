@@ -5,10 +5,10 @@ use Rattle.std.proofs.Math.Seq.{drop-cons}
 use Rattle.std.proofs.lemmas.Option.{slice_get-get_or, slice_get_within, get_or_from_slice_get}
 use Rattle.rational.specs.Rational.{ℚ, neg_ℚ}
 use Rattle.rational.specs.Ratio.{SumFits}
-use Rattle.net_model.specs.run_laws.specs.declared.steps.Step.{Step}
-use Rattle.net_model.specs.run_laws.specs.declared.steps.Step.TheVariants.{Enter, Reach, Work, Leave, Visit}
-use Rattle.net_model.specs.run_laws.specs.FlowDelays.{delivered_at}
-use Rattle.net_model.specs.run_laws.specs.Routes.{Routes, route_of, last_server}
+use Rattle.run_laws.specs.declared.steps.Step.{Step}
+use Rattle.run_laws.specs.declared.steps.Step.TheVariants.{Enter, Reach, Work, Leave, Visit}
+use Rattle.run_laws.specs.FlowDelays.{delivered_at}
+use Rattle.run_laws.specs.Routes.{Routes, route_of, last_server}
 use Rattle.simulator.specs.declared.run_measures.worst.Tally.{Tally}
 use Rattle.simulator.specs.run_measures.Numbered.{AreNumberedFrom, flows_in}
 use Rattle.simulator.specs.run_measures.Worst.{AreWorst, DelaysFit}

@@ -2,7 +2,7 @@
 use Rattle.std.specs.Prelude.{Some, None, ◌≡◌, ◌≢◌, ℕ, zero, suc, pos, ◌-◌, ◌<◌, List, [], ◌∷◌, length, get_or, map, slice_get}
 use Rattle.std.proofs.Common.{arith, refl, ap, ◌∙◌}
 use Rattle.std.proofs.lemmas.Bool.{eq-eqb, ne_eqb}
-use Rattle.net_model.specs.run_laws.specs.Routes.{queue_at, server_after, first_of, first_server, last_server, link_at}
+use Rattle.run_laws.specs.Routes.{queue_at, server_after, first_of, first_server, last_server, link_at}
 use Rattle.rational.specs.Rational.{int}
 use Rattle.net_model.specs.NetRoutes.{hops_along, link_for, routes_of}
 use Rattle.net_model.specs.Networks.{Net, NetServer}

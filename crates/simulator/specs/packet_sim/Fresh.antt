@@ -1,7 +1,7 @@
 -- Stations of servers without packets.
 use Rattle.std.specs.Prelude.{Some, ◌≡◌, ◌↔◌, ℕ, List, length, map, slice_get, All, AllPairs}
 use Rattle.rational.specs.Rational.{ℚ, ◌≤ℚ◌, ◌<ℚ◌}
-use Rattle.net_model.specs.run_laws.specs.Servers.{start}
+use Rattle.run_laws.specs.Servers.{start}
 use Rattle.net_model.specs.Networks.{NetServer}
 use Rattle.net_model.specs.Traces.{SpecTrace}
 use Rattle.net_model.specs.stated_runs.Setups.{StallTimes, IsStalled}

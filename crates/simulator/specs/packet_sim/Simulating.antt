@@ -1,7 +1,7 @@
 -- What holds of a simulation between two steps.
 use Rattle.std.specs.Prelude.{Option, Some, ◌≡◌, ℕ, ◌<◌, ◌^◌, List, length, slice_get}
 use Rattle.rational.specs.Rational.{ℚ}
-use Rattle.net_model.specs.run_laws.specs.declared.steps.Step.{Step}
+use Rattle.run_laws.specs.declared.steps.Step.{Step}
 use Rattle.queue_sched.specs.index_links.Chains.{Chains}
 use Rattle.queue_sched.specs.declared.turn.Turn.{Turn}
 use Rattle.net_model.specs.stated_runs.Setups.{Setup, IsSetup}

@@ -3,7 +3,7 @@ use Rattle.std.specs.Prelude.{Option, ◌≡◌, ◌+◌, length}
 use Rattle.queue_sched.specs.declared.turn.Turn.{Turn}
 use Rattle.net_model.specs.Networks.{Net}
 use Rattle.net_model.specs.Traces.{SpecTrace}
-use Rattle.net_model.specs.run_laws.specs.Lawful.{run_start}
+use Rattle.run_laws.specs.Lawful.{run_start}
 use Rattle.net_model.specs.stated_runs.FromTraces.{setup_of}
 use Rattle.net_model.specs.stated_runs.Simulated.{Follows}
 use Rattle.sim_servers.specs.declared.due.Due.{Due}

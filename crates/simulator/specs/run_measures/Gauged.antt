@@ -1,14 +1,14 @@
 -- What the gauges of the queues tell after some steps of a run.
 use Rattle.std.specs.Prelude.{Option, Some, None, ◌≡◌, ◌⊎◌, ℕ, ◌+◌, ◌^◌, ◌<◌, ◌≤◌, List, [], ◌∷◌, length, map, take, drop, slice_index_or}
 use Rattle.rational.specs.Rational.{ℚ, ◌+ℚ◌, ◌≤ℚ◌, ◌<ℚ◌}
-use Rattle.net_model.specs.run_laws.specs.declared.steps.Step.{Step}
-use Rattle.net_model.specs.run_laws.specs.Runs.{SpecRun}
-use Rattle.net_model.specs.run_laws.specs.Cards.{Card, Class, of_queue, whole, ServerStep}
-use Rattle.net_model.specs.run_laws.specs.Servers.{Under, ServerState, queue_count}
-use Rattle.net_model.specs.run_laws.specs.Delays.{backlog}
-use Rattle.net_model.specs.run_laws.specs.Routes.{Routes, server_at}
-use Rattle.net_model.specs.run_laws.specs.Views.{Entry, entry_of, view_from}
-use Rattle.net_model.specs.run_laws.specs.Lawful.{RunState, state_at, run_start, after_run}
+use Rattle.run_laws.specs.declared.steps.Step.{Step}
+use Rattle.run_laws.specs.Runs.{SpecRun}
+use Rattle.run_laws.specs.Cards.{Card, Class, of_queue, whole, ServerStep}
+use Rattle.run_laws.specs.Servers.{Under, ServerState, queue_count}
+use Rattle.run_laws.specs.Delays.{backlog}
+use Rattle.run_laws.specs.Routes.{Routes, server_at}
+use Rattle.run_laws.specs.Views.{Entry, entry_of, view_from}
+use Rattle.run_laws.specs.Lawful.{RunState, state_at, run_start, after_run}
 use Rattle.simulator.specs.declared.run_measures.gauge.Gauge.{Gauge}
 use Rattle.simulator.specs.run_measures.Gauges.{counted, level_at, gauge_in}
 use Rattle.simulator.specs.run_measures.Peaks.{backlog_at}

@@ -2,7 +2,7 @@
 use Rattle.std.specs.Prelude.{◌≡◌, ◌⊎◌, ℕ, pos, ◌+◌, ◌<◌, ◌≤◌, ◌^◌, Bool, List, [], length, map, replicate, slice_index_or, slice_set, if◌then◌else◌}
 use Rattle.std.specs.declared.vec.Vec.{Vec}
 use Rattle.rational.specs.Rational.{ℚ, int, le_q}
-use Rattle.net_model.specs.run_laws.specs.Servers.{queue_count}
+use Rattle.run_laws.specs.Servers.{queue_count}
 use Rattle.net_model.specs.Networks.{NetServer}
 use Rattle.simulator.specs.declared.run_measures.gauge.Gauge.{Gauge}
 

@@ -1,7 +1,7 @@
 -- What holds of the packets of lawful runs.
-use Rattle.net_model.specs.run_laws.specs.Lawful.{IsLawful}
-use Rattle.net_model.specs.run_laws.specs.Routes.{Routes}
-use Rattle.net_model.specs.run_laws.specs.Runs.{SpecRun}
+use Rattle.run_laws.specs.Lawful.{IsLawful}
+use Rattle.run_laws.specs.Routes.{Routes}
+use Rattle.run_laws.specs.Runs.{SpecRun}
 use Rattle.simulator.specs.run_measures.Numbered.{AreNumberedFrom}
 
 -- those of a lawful run are numbered in the order in which they enter

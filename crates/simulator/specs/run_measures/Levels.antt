@@ -1,8 +1,8 @@
 -- What is known of all packets and queues after some steps of a run.
 use Rattle.std.specs.Prelude.{◌≡◌, ℕ, ◌<◌, ◌≤◌, [], ◌∷◌, ◌++◌, length, slice_index_or}
 use Rattle.rational.specs.Rational.{ℚ}
-use Rattle.net_model.specs.run_laws.specs.Runs.{SpecRun}
-use Rattle.net_model.specs.run_laws.specs.Routes.{Routes, route_of, queue_at, first_server}
+use Rattle.run_laws.specs.Runs.{SpecRun}
+use Rattle.run_laws.specs.Routes.{Routes, route_of, queue_at, first_server}
 use Rattle.simulator.specs.declared.run_measures.levels.Levels.{Levels}
 use Rattle.simulator.specs.run_measures.Gauges.{Gains, Loses, HasRoom, HasGauge, ChangesOne, gauge_in, gauges_of}
 use Rattle.simulator.specs.run_measures.Gauged.{state_after, AreEntered, AreGauged}

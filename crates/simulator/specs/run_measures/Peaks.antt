@@ -2,12 +2,12 @@
 use Rattle.std.specs.Prelude.{◌≡◌, ◌⊎◌, ℕ, ◌<◌, List, [], length, map, slice_index_or}
 use Rattle.std.specs.declared.vec.Vec.{Vec}
 use Rattle.rational.specs.Rational.{ℚ, ◌≤ℚ◌}
-use Rattle.net_model.specs.run_laws.specs.Cards.{of_queue, whole}
-use Rattle.net_model.specs.run_laws.specs.Delays.{backlog}
-use Rattle.net_model.specs.run_laws.specs.Routes.{Routes, server_at}
-use Rattle.net_model.specs.run_laws.specs.Runs.{SpecRun}
-use Rattle.net_model.specs.run_laws.specs.Servers.{queue_count}
-use Rattle.net_model.specs.run_laws.specs.Views.{view}
+use Rattle.run_laws.specs.Cards.{of_queue, whole}
+use Rattle.run_laws.specs.Delays.{backlog}
+use Rattle.run_laws.specs.Routes.{Routes, server_at}
+use Rattle.run_laws.specs.Runs.{SpecRun}
+use Rattle.run_laws.specs.Servers.{queue_count}
+use Rattle.run_laws.specs.Views.{view}
 
 -- how many bits are in queue q of server s at a time
 abbrev pub backlog_at : Routes → SpecRun → ℕ → ℕ → ℚ → ℚ

@@ -2,9 +2,9 @@
 use Rattle.std.specs.Prelude.{Some, ◌≡◌, ℕ, pos, List, ◌∷◌, slice_get, slice_index_or}
 use Rattle.rational.specs.Rational.{ℚ, int, neg_ℚ}
 use Rattle.rational.specs.Ratio.{SumFits}
-use Rattle.net_model.specs.run_laws.specs.declared.steps.Step.{Step}
-use Rattle.net_model.specs.run_laws.specs.declared.steps.Step.TheVariants.{Enter, Reach, Work, Leave, Visit}
-use Rattle.net_model.specs.run_laws.specs.Routes.{Routes, link_at}
+use Rattle.run_laws.specs.declared.steps.Step.{Step}
+use Rattle.run_laws.specs.declared.steps.Step.TheVariants.{Enter, Reach, Work, Leave, Visit}
+use Rattle.run_laws.specs.Routes.{Routes, link_at}
 use Rattle.simulator.specs.declared.run_measures.worst.Tally.{Tally}
 use Rattle.simulator.specs.run_measures.Worst.{IsTallied}
 

@@ -3,11 +3,11 @@ use Rattle.std.specs.Prelude.{◌≡◌, ◌⊎◌, ℕ, pos, ◌<◌, List, [],
 use Rattle.rational.specs.Rational.{ℚ, int, neg_ℚ, ◌≤ℚ◌}
 use Rattle.rational.specs.Ratio.{SumFits}
 use Rattle.rational.specs.declared.Extended.TheVariants.{Fin}
-use Rattle.net_model.specs.run_laws.specs.declared.steps.Step.{Step}
-use Rattle.net_model.specs.run_laws.specs.declared.steps.Step.TheVariants.{Enter, Reach, Work, Leave, Visit}
-use Rattle.net_model.specs.run_laws.specs.Delays.{AreAtMost}
-use Rattle.net_model.specs.run_laws.specs.FlowDelays.{delivered_at, delays_from}
-use Rattle.net_model.specs.run_laws.specs.Routes.{Routes, link_at, route_of, last_server}
+use Rattle.run_laws.specs.declared.steps.Step.{Step}
+use Rattle.run_laws.specs.declared.steps.Step.TheVariants.{Enter, Reach, Work, Leave, Visit}
+use Rattle.run_laws.specs.Delays.{AreAtMost}
+use Rattle.run_laws.specs.FlowDelays.{delivered_at, delays_from}
+use Rattle.run_laws.specs.Routes.{Routes, link_at, route_of, last_server}
 
 -- w is the largest of 0 and of these
 pub record IsLargest (xs : List ℚ) (w : ℚ) : Type 0 where

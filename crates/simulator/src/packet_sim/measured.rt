@@ -12,8 +12,8 @@ ghost use Rattle.simulator.specs.run_measures.Worst.{AreWorst};
 use crate::packet_sim::run::run_of;
 use crate::run_measures::{peaks, worst_delays};
 use fraction128::Frac;
-use net_model::run_laws::Run;
 use net_model::{Network, Trace};
+use run_laws::Run;
 use std::alloc::{AllocError, Global};
 
 /// The stated run of a network and a trace, its worst delays and its peaks.

@@ -2,7 +2,7 @@
 
 ghost use Rattle.std.specs.Prelude.{◌≡◌, ◌+◌, ◌<◌, ◌^◌, ℕ, pos, IfOk, OnOk, length};
 ghost use Rattle.rational.specs.Rational.{ℚ, int};
-ghost use Rattle.net_model.specs.run_laws.specs.Lawful.{IsLawful};
+ghost use Rattle.run_laws.specs.Lawful.{IsLawful};
 ghost use Rattle.net_model.specs.NetRoutes.{routes_of};
 ghost use Rattle.net_model.specs.Walks.{IsFeedForward};
 ghost use Rattle.net_model.specs.stated_runs.DueSteps.{step_time};
@@ -14,8 +14,8 @@ ghost use Rattle.simulator.specs.packet_sim.Stepping.{Simulates, ComesNext, HasS
 
 use crate::packet_sim::simulation::Simulation;
 use fraction128::Frac;
-use net_model::run_laws::{Run, Step};
 use net_model::{Network, Trace};
+use run_laws::{Run, Step};
 use sim_servers::sim_loop::first_due;
 use sim_servers::{Due, DueKind};
 use std::alloc::{AllocError, Global};

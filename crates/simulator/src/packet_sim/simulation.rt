@@ -1,7 +1,7 @@
 //! The state of a simulation between two steps.
 
-use net_model::run_laws::Step;
 use queue_sched::index_links::Links;
+use run_laws::Step;
 use sim_servers::Station;
 use sim_servers::sim_states::Arrival;
 

@@ -7,9 +7,9 @@ ghost use Rattle.simulator.specs.packet_sim.Stepping.{ComesNext, TakesTurn, HasS
 use crate::packet_sim::reads::{packet_at, rate_at, rest_at};
 use crate::packet_sim::simulation::Simulation;
 use fraction128::{Frac, quotient};
-use net_model::run_laws::Step;
 use net_model::{Network, Trace};
 use queue_sched::Turn;
+use run_laws::Step;
 use sim_servers::sim_loop::{turn_at, work_at};
 use sim_servers::{Due, DueKind};
 use std::alloc::AllocError;

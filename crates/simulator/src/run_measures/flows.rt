@@ -3,7 +3,7 @@
 ghost use Rattle.std.specs.Prelude.{◌≡◌, IfOk};
 ghost use Rattle.simulator.specs.run_measures.Numbered.{flows_in};
 
-use net_model::run_laws::Step;
+use run_laws::Step;
 use std::alloc::{AllocError, Global};
 
 /// The flows of the packets that enter, in their order.

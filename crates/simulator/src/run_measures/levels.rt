@@ -1,7 +1,7 @@
 //! The greatest backlog of each queue, found from the first step to the last.
 
 ghost use Rattle.std.specs.Prelude.{◌≡◌, ◌+◌, ◌<◌, IfOk, OnOk, length};
-ghost use Rattle.net_model.specs.run_laws.specs.Lawful.{IsLawful};
+ghost use Rattle.run_laws.specs.Lawful.{IsLawful};
 ghost use Rattle.net_model.specs.NetRoutes.{routes_of};
 ghost use Rattle.simulator.specs.run_measures.Levels.{IsKnown, SamePackets, MayEnter, MayReach, MayLeave, Enters, Reaches, Leaves, Tells};
 ghost use Rattle.simulator.specs.run_measures.Peaks.{rows_of, ArePeaks};
@@ -11,7 +11,7 @@ use crate::run_measures::gauges::{arrive, empty_rows, leave, peaks_of};
 use crate::sim_routes::{entrance, queue_of};
 use fraction128::Frac;
 use net_model::Network;
-use net_model::run_laws::{Run, Step};
+use run_laws::{Run, Step};
 use std::alloc::{AllocError, Global};
 
 /// What some steps of a run tell of its packets and of its queues.

@@ -4,8 +4,8 @@
 ghost use Rattle.std.specs.Prelude.{◌≡◌, ℕ, [], IfOk, Some, length, pos, slice_get, slice_index_or};
 ghost use Rattle.rational.specs.Rational.{int, neg_ℚ};
 ghost use Rattle.rational.specs.Ratio.{SumFits};
-ghost use Rattle.net_model.specs.run_laws.specs.declared.steps.Step.TheVariants as steps;
-ghost use Rattle.net_model.specs.run_laws.specs.Routes.{Routes, link_at};
+ghost use Rattle.run_laws.specs.declared.steps.Step.TheVariants as steps;
+ghost use Rattle.run_laws.specs.Routes.{Routes, link_at};
 ghost use Rattle.net_model.specs.NetRoutes.{routes_of};
 ghost use Rattle.simulator.specs.run_measures.Numbered.{AreNumberedFrom, flows_in};
 ghost use Rattle.simulator.specs.run_measures.Tallies.{IsTold, MayTell, Tells};
@@ -15,7 +15,7 @@ use crate::run_measures::flows::flows_of;
 use crate::sim_routes::{exit, link_of};
 use fraction128::{Frac, difference, is_less, sum};
 use net_model::Network;
-use net_model::run_laws::{Run, Step};
+use run_laws::{Run, Step};
 use std::alloc::{AllocError, Global};
 
 /// What the steps from a place on tell: for each packet when it is delivered, and for each flow the worst delay.

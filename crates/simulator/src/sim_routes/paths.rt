@@ -1,7 +1,7 @@
 //! Paths.
 
 ghost use Rattle.std.specs.Prelude.{◌≡◌, ◌<◌, length, slice_get};
-ghost use Rattle.net_model.specs.run_laws.specs.Routes.{queue_at, server_after, first_server, last_server};
+ghost use Rattle.run_laws.specs.Routes.{queue_at, server_after, first_server, last_server};
 ghost use Rattle.net_model.specs.NetRoutes.{hops_along};
 
 /// The server at a place of a path, if it has the place.

@@ -1,7 +1,7 @@
 //! The paths of flows.
 
 ghost use Rattle.std.specs.Prelude.{◌≡◌};
-ghost use Rattle.net_model.specs.run_laws.specs.Routes.{queue_at, server_after, route_of, link_at, first_server, last_server};
+ghost use Rattle.run_laws.specs.Routes.{queue_at, server_after, route_of, link_at, first_server, last_server};
 ghost use Rattle.net_model.specs.NetRoutes.{routes_of};
 
 use crate::sim_routes::paths::{first_on, last_on, queue_on, server_after_on};

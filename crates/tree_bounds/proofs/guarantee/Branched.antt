@@ -3,11 +3,11 @@ use Rattle.std.proofs.Common.{◌≡◌, ◌≢◌, ℕ, zero, suc, ◌<◌, ◌
 use Rattle.std.specs.Prelude.{slice_get}
 use Rattle.std.proofs.lemmas.List.{get_or-map}
 use Rattle.std.proofs.lemmas.Option.{get_or_from_slice_get, slice_get_cases}
-use Rattle.min_plus.specs.rational.specs.Rational.{int, ◌+ℚ◌}
-use Rattle.min_plus.specs.rational.specs.Extended.{Ext, ◌+ₑ◌}
-use Rattle.min_plus.specs.rational.specs.declared.Extended.TheVariants.{Fin}
-use Rattle.min_plus.specs.rational.proofs.ExtendedOrder.{add_ext_comm, add_ext_assoc, add_zero_ext}
-use Rattle.min_plus.specs.rational.proofs.Laws.{zero_mul, add_assoc}
+use Rattle.rational.specs.Rational.{int, ◌+ℚ◌}
+use Rattle.rational.specs.Extended.{Ext, ◌+ₑ◌}
+use Rattle.rational.specs.declared.Extended.TheVariants.{Fin}
+use Rattle.rational.proofs.ExtendedOrder.{add_ext_comm, add_ext_assoc, add_zero_ext}
+use Rattle.rational.proofs.Laws.{zero_mul, add_assoc}
 use Rattle.run_laws.specs.Runs.{SpecRun}
 use Rattle.run_laws.specs.Delays.{AreAtMost}
 use Rattle.run_laws.specs.Routes.{Hop, Routes, PassesServer, link_at, queue_at, last_server}

@@ -5,12 +5,12 @@ use Rattle.std.specs.List.{sum_by}
 use Rattle.std.proofs.Common.{arith, ap, ◌∙◌, refl, inl, inr}
 use Rattle.std.proofs.lemmas.Bool.{cases_lt}
 use Rattle.std.proofs.lemmas.List.Sums.{sum_by-cons}
-use Rattle.min_plus.specs.rational.specs.Rational.{ℚ, ◌+ℚ◌, ◌*ℚ◌, ◌/ℚ◌, ◌≤ℚ◌, ◌<ℚ◌}
-use Rattle.min_plus.specs.rational.specs.MinMax.{max_q}
-use Rattle.min_plus.specs.rational.proofs.Laws.{le_refl, le_trans, zero_mul, mul_comm, mul_le_mul, add_mul, mul_le_mul_right, div_mul, not_zero}
-use Rattle.min_plus.specs.rational.proofs.MinMax.{min_q_le_left, min_q_le_right, min_q_ge, max_q_ge_left, max_q_ge_right}
-use Rattle.min_plus.specs.rational.proofs.Quotients.{div_nonneg}
-use Rattle.min_plus.specs.rational.proofs.Linear.{with1, with2, with4, with5, with6}
+use Rattle.rational.specs.Rational.{ℚ, ◌+ℚ◌, ◌*ℚ◌, ◌/ℚ◌, ◌≤ℚ◌, ◌<ℚ◌}
+use Rattle.rational.specs.MinMax.{max_q}
+use Rattle.rational.proofs.Laws.{le_refl, le_trans, zero_mul, mul_comm, mul_le_mul, add_mul, mul_le_mul_right, div_mul, not_zero}
+use Rattle.rational.proofs.MinMax.{min_q_le_left, min_q_le_right, min_q_ge, max_q_ge_left, max_q_ge_right}
+use Rattle.rational.proofs.Quotients.{div_nonneg}
+use Rattle.rational.proofs.Linear.{with1, with2, with4, with5, with6}
 use Rattle.min_plus.specs.Functions.{zero_q, whole}
 use Rattle.arrival_lines.specs.Excess.{IsEndless}
 use Rattle.arrival_lines.specs.Grid.{grain, grain_a_second, bits, speed, line_value, lesser, part_value, parts_value}

@@ -4,9 +4,9 @@ use Rattle.std.proofs.lemmas.Bool.{cases_lt}
 use Rattle.std.proofs.lemmas.List.{get_or-map, length-map, get_or_past, get_or_append_left, get_or_at, map-append}
 use Rattle.std.specs.Prelude.{slice_get}
 use Rattle.std.proofs.lemmas.Option.{get_or_from_slice_get, slice_get_cases}
-use Rattle.min_plus.specs.rational.proofs.Laws.{le_refl}
+use Rattle.rational.proofs.Laws.{le_refl}
 use Rattle.port_bounds.specs.Ports.{server_of}
-use Rattle.min_plus.specs.rational.specs.Rational.{ℚ, int, ◌≤ℚ◌}
+use Rattle.rational.specs.Rational.{ℚ, int, ◌≤ℚ◌}
 use Rattle.run_laws.specs.Routes.{PassesServer, link_at}
 use Rattle.net_laws.specs.Paths.{IsPath}
 use Rattle.tree_runs.specs.Trees as trees

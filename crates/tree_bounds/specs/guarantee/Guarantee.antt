@@ -2,9 +2,9 @@
 -- their service curves, no frame stays longer at a queue than its delay, no queue holds more bits than its backlog, and no frame takes longer
 -- from its entry to the end of the link behind a port of its tree than the bound there.
 use Rattle.std.specs.Prelude.{Option, Some, None, ◌≡◌, ◌<◌, ℕ, length, get_or, slice_get}
-use Rattle.min_plus.specs.rational.specs.Rational.{ℚ}
-use Rattle.min_plus.specs.rational.specs.Extended.{Ext}
-use Rattle.min_plus.specs.rational.specs.declared.Extended.TheVariants.{Fin, Inf}
+use Rattle.rational.specs.Rational.{ℚ}
+use Rattle.rational.specs.Extended.{Ext}
+use Rattle.rational.specs.declared.Extended.TheVariants.{Fin, Inf}
 use Rattle.min_plus.specs.Formulas.{stair_value}
 use Rattle.run_laws.specs.Runs.{SpecRun}
 use Rattle.run_laws.specs.Cards.{whole}

@@ -1,6 +1,6 @@
 -- A network as runs over trees know it: ports as servers, links as trees of them.
 use Rattle.std.specs.Prelude.{Option, Some, None, ℕ, true, List, map}
-use Rattle.min_plus.specs.rational.specs.Rational.{ℚ}
+use Rattle.rational.specs.Rational.{ℚ}
 use Rattle.tree_runs.specs.Trees as trees
 use Rattle.tree_runs.specs.Trees.{Tree, TreeRoutes, IsOverTrees}
 use Rattle.tree_runs.specs.Orders.{TreeGoesForward}

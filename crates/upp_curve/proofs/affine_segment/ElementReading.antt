@@ -1,10 +1,10 @@
 -- The parts of an answer read at a time of one of them, or of none.
 use Rattle.std.specs.Prelude.{◌≡◌, Option, Some, None}
 use Rattle.std.proofs.Common.{arith, refl, subst, ap₂, inl, inr}
-use Rattle.min_plus.specs.rational.specs.Rational.{ℚ, ◌<ℚ◌}
-use Rattle.min_plus.specs.rational.specs.Extended.{Ext, ◌<ₑ◌, min_ext}
-use Rattle.min_plus.specs.rational.specs.declared.Extended.TheVariants.{Fin, Inf}
-use Rattle.min_plus.specs.rational.proofs.Linear.{with2, with3}
+use Rattle.rational.specs.Rational.{ℚ, ◌<ℚ◌}
+use Rattle.rational.specs.Extended.{Ext, ◌<ₑ◌, min_ext}
+use Rattle.rational.specs.declared.Extended.TheVariants.{Fin, Inf}
+use Rattle.rational.proofs.Linear.{with2, with3}
 use Rattle.upp_curve.specs.declared.affine_segment.element.Element.{Element}
 use Rattle.upp_curve.specs.declared.affine_segment.element.Element.TheVariants.{Point, Open}
 use Rattle.upp_curve.specs.declared.affine_segment.element.Joined.{Joined}

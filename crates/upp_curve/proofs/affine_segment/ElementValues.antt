@@ -1,14 +1,14 @@
 -- Elements read at any time, and the parts of an answer read together.
 use Rattle.std.specs.Prelude.{◌≡◌, ◌⊎◌, Bool, true, false, cond, ◌&&◌, Option, Some, None}
 use Rattle.std.proofs.Common.{sym, ap, ap₂, ◌∙◌, refl, subst, inl, inr, true≢false}
-use Rattle.min_plus.specs.rational.specs.Rational.{ℚ, ◌≤ℚ◌}
-use Rattle.min_plus.specs.rational.specs.Extended.{Ext, ◌≤ₑ◌, ◌<ₑ◌, min_ext}
-use Rattle.min_plus.specs.rational.specs.declared.Extended.TheVariants.{Fin, Inf}
-use Rattle.min_plus.specs.rational.specs.Bounds.{IsInfimum}
-use Rattle.min_plus.specs.rational.proofs.Laws.{le_refl, antisym}
-use Rattle.min_plus.specs.rational.proofs.Over.{le_q_out, lt_q_out, le_q_in, lt_q_in}
-use Rattle.min_plus.specs.rational.proofs.ExtendedOrder.{le_inf, le_ext_trans, same_le_ext, min_ext_of_le, min_left, min_right}
-use Rattle.min_plus.specs.rational.proofs.Bounds.{infimum_unique, all_infinite}
+use Rattle.rational.specs.Rational.{ℚ, ◌≤ℚ◌}
+use Rattle.rational.specs.Extended.{Ext, ◌≤ₑ◌, ◌<ₑ◌, min_ext}
+use Rattle.rational.specs.declared.Extended.TheVariants.{Fin, Inf}
+use Rattle.rational.specs.Bounds.{IsInfimum}
+use Rattle.rational.proofs.Laws.{le_refl, antisym}
+use Rattle.rational.proofs.Over.{le_q_out, lt_q_out, le_q_in, lt_q_in}
+use Rattle.rational.proofs.ExtendedOrder.{le_inf, le_ext_trans, same_le_ext, min_ext_of_le, min_left, min_right}
+use Rattle.rational.proofs.Bounds.{infimum_unique, all_infinite}
 use Rattle.upp_curve.specs.declared.affine_segment.element.Element.{Element}
 use Rattle.upp_curve.specs.declared.affine_segment.element.Element.TheVariants.{Point, Open}
 use Rattle.upp_curve.specs.declared.affine_segment.element.Joined.{Joined}

@@ -1,11 +1,11 @@
 -- The values of a line at two times.
 use Rattle.std.specs.Prelude.{◌≡◌, pos, Option, Some, None}
 use Rattle.std.proofs.Common.{refl, inl, inr, sym, ap, ◌∙◌}
-use Rattle.min_plus.specs.rational.specs.Rational.{ℚ, ◌+ℚ◌, ◌*ℚ◌, ◌≤ℚ◌, ◌<ℚ◌, int}
-use Rattle.min_plus.specs.rational.specs.declared.Extended.TheVariants.{Fin}
-use Rattle.min_plus.specs.rational.proofs.Laws.{le_or_lt, lt_irrefl, lt_le_trans, zero_mul, add_zero}
-use Rattle.min_plus.specs.rational.proofs.ExtendedOrder.{same_le_ext}
-use Rattle.min_plus.specs.rational.proofs.Lines.{line_rises, line_moved}
+use Rattle.rational.specs.Rational.{ℚ, ◌+ℚ◌, ◌*ℚ◌, ◌≤ℚ◌, ◌<ℚ◌, int}
+use Rattle.rational.specs.declared.Extended.TheVariants.{Fin}
+use Rattle.rational.proofs.Laws.{le_or_lt, lt_irrefl, lt_le_trans, zero_mul, add_zero}
+use Rattle.rational.proofs.ExtendedOrder.{same_le_ext}
+use Rattle.rational.proofs.Lines.{line_rises, line_moved}
 use Rattle.upp_curve.specs.declared.affine_segment.line.Line.{Line}
 use Rattle.upp_curve.specs.affine_segment.Values.{line_at, line_value}
 

@@ -1,13 +1,13 @@
 -- The lower of two lines before and after they meet.
 use Rattle.std.specs.Prelude.{◌≡◌, ◌≢◌, ◌⊎◌, Option, Some, None, IfSome}
 use Rattle.std.proofs.Common.{arith, sym, ap, refl, inl, inr, ◌∙◌}
-use Rattle.min_plus.specs.rational.specs.Rational.{ℚ, ◌+ℚ◌, ◌-ℚ◌, ◌*ℚ◌, ◌≤ℚ◌, ◌<ℚ◌}
-use Rattle.min_plus.specs.rational.specs.MinMax.{min_q}
-use Rattle.min_plus.specs.rational.specs.Extended.{Ext, ◌<ₑ◌}
-use Rattle.min_plus.specs.rational.specs.declared.Extended.TheVariants.{Fin, Inf}
-use Rattle.min_plus.specs.rational.proofs.Linear.{with2, with3, with4, with8}
-use Rattle.min_plus.specs.rational.proofs.Laws.{le_or_lt, mul_sub, mul_le_mul_right, antisym}
-use Rattle.min_plus.specs.rational.proofs.MinMax.{min_q_left, min_q_right, min_q_comm}
+use Rattle.rational.specs.Rational.{ℚ, ◌+ℚ◌, ◌-ℚ◌, ◌*ℚ◌, ◌≤ℚ◌, ◌<ℚ◌}
+use Rattle.rational.specs.MinMax.{min_q}
+use Rattle.rational.specs.Extended.{Ext, ◌<ₑ◌}
+use Rattle.rational.specs.declared.Extended.TheVariants.{Fin, Inf}
+use Rattle.rational.proofs.Linear.{with2, with3, with4, with8}
+use Rattle.rational.proofs.Laws.{le_or_lt, mul_sub, mul_le_mul_right, antisym}
+use Rattle.rational.proofs.MinMax.{min_q_left, min_q_right, min_q_comm}
 use Rattle.upp_curve.specs.declared.affine_segment.line.Line.{Line}
 use Rattle.upp_curve.specs.declared.affine_segment.cut.Cut.{Cut}
 use Rattle.upp_curve.specs.affine_segment.Values.{line_at}

@@ -1,9 +1,9 @@
 -- Where two lines meet.
 use Rattle.std.specs.Prelude.{◌≡◌, ◌≢◌, pos}
 use Rattle.std.proofs.Common.{arith, sym, ap, ap₂, ◌∙◌}
-use Rattle.min_plus.specs.rational.specs.Rational.{ℚ, ◌+ℚ◌, ◌-ℚ◌, ◌*ℚ◌, ◌/ℚ◌, int}
-use Rattle.min_plus.specs.rational.proofs.Linear.{with2, with5}
-use Rattle.min_plus.specs.rational.proofs.Laws.{div_mul, mul_comm, mul_sub}
+use Rattle.rational.specs.Rational.{ℚ, ◌+ℚ◌, ◌-ℚ◌, ◌*ℚ◌, ◌/ℚ◌, int}
+use Rattle.rational.proofs.Linear.{with2, with5}
+use Rattle.rational.proofs.Laws.{div_mul, mul_comm, mul_sub}
 use Rattle.upp_curve.specs.declared.affine_segment.line.Line.{Line}
 use Rattle.upp_curve.specs.affine_segment.Values.{line_at}
 

@@ -1,9 +1,9 @@
 -- Where the piece after a time starts, and how it is looked up.
 use Rattle.std.specs.Prelude.{◌≡◌, ℕ, zero, suc, ◌+◌, ◌<◌, ◌≤◌, cond, List, [], ◌∷◌, length, drop, Option, Some}
 use Rattle.std.proofs.Common.{arith, sym, ap, ap₂, ◌∙◌, refl, get_or, drop_of_length-le, drop-cons}
-use Rattle.min_plus.specs.rational.specs.Rational.{ℚ, ◌≤ℚ◌, ◌<ℚ◌}
-use Rattle.min_plus.specs.rational.proofs.Over.{le_q_out}
-use Rattle.min_plus.specs.rational.proofs.MinMax.{le_q_not}
+use Rattle.rational.specs.Rational.{ℚ, ◌≤ℚ◌, ◌<ℚ◌}
+use Rattle.rational.proofs.Over.{le_q_out}
+use Rattle.rational.proofs.MinMax.{le_q_not}
 use Rattle.upp_curve.specs.declared.affine_segment.line.Piece.{Piece}
 use Rattle.upp_curve.specs.affine_segment.Pieces.{start_after}
 use Rattle.upp_curve.specs.affine_segment.Reading.{next_in}

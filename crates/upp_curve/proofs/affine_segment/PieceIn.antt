@@ -1,18 +1,18 @@
 -- How a piece is found and read.
 use Rattle.std.specs.Prelude.{◌≡◌, ℕ, zero, suc, ◌-◌, ◌<◌, ◌≤◌, pos, Bool, true, false, List, [], ◌∷◌, length}
 use Rattle.std.proofs.Common.{arith, get_or, sym, ap, ◌∙◌, refl, subst, inl, inr, Ordering, Less, Equal, Greater, is_le, true≢false}
-use Rattle.min_plus.specs.rational.specs.Rational.{ℚ, ◌-ℚ◌, ◌≤ℚ◌, ◌<ℚ◌, int, le_q}
-use Rattle.min_plus.specs.rational.proofs.Linear.{with1}
-use Rattle.min_plus.specs.rational.proofs.Laws.{le_refl, le_of_lt, le_trans, lt_le_trans, le_lt_trans, le_or_lt}
+use Rattle.rational.specs.Rational.{ℚ, ◌-ℚ◌, ◌≤ℚ◌, ◌<ℚ◌, int, le_q}
+use Rattle.rational.proofs.Linear.{with1}
+use Rattle.rational.proofs.Laws.{le_refl, le_of_lt, le_trans, lt_le_trans, le_lt_trans, le_or_lt}
 use Rattle.upp_curve.specs.affine_segment.Pieces.{RisesFrom, StartsAtZero}
-use Rattle.min_plus.specs.rational.specs.Ratio.{cmp_q}
-use Rattle.min_plus.specs.rational.proofs.Comparison.{cmp_greater, cmp_not_greater, cmp_less, cmp_equal}
-use Rattle.min_plus.specs.rational.proofs.Over.{le_q_out, le_q_in}
+use Rattle.rational.specs.Ratio.{cmp_q}
+use Rattle.rational.proofs.Comparison.{cmp_greater, cmp_not_greater, cmp_less, cmp_equal}
+use Rattle.rational.proofs.Over.{le_q_out, le_q_in}
 use Rattle.upp_curve.specs.declared.affine_segment.line.Piece.{Piece}
 use Rattle.upp_curve.specs.affine_segment.Reading.{piece_value, piece_in, read, nothing_at}
 use Rattle.upp_curve.specs.affine_segment.Values.{line_value}
-use Rattle.min_plus.specs.rational.proofs.MinMax.{le_q_not}
-use Rattle.min_plus.specs.rational.specs.declared.Extended.TheVariants.{Inf}
+use Rattle.rational.proofs.MinMax.{le_q_not}
+use Rattle.rational.specs.declared.Extended.TheVariants.{Inf}
 
 pub value_later : (p : Piece) (t : ℚ) (r : Ordering) → r ≡ cmp_q t p.x → r ≡ Greater → piece_value p t ≡ line_value p.line t
 unfolding piece_value

@@ -1,9 +1,9 @@
 -- Lists of pieces joined and cut: what stays of the order of their starts, and of what holds of each.
 use Rattle.std.specs.Prelude.{◌≡◌, ◌<◌, List, [], ◌∷◌, ◌++◌, length}
 use Rattle.std.proofs.Common.{arith, refl, inl, inr}
-use Rattle.min_plus.specs.rational.specs.Rational.{ℚ, ◌≤ℚ◌, ◌<ℚ◌}
-use Rattle.min_plus.specs.rational.proofs.Laws.{le_lt_trans}
-use Rattle.min_plus.specs.rational.proofs.Linear.{with3}
+use Rattle.rational.specs.Rational.{ℚ, ◌≤ℚ◌, ◌<ℚ◌}
+use Rattle.rational.proofs.Laws.{le_lt_trans}
+use Rattle.rational.proofs.Linear.{with3}
 use Rattle.upp_curve.specs.declared.affine_segment.line.Piece.{Piece}
 use Rattle.upp_curve.specs.affine_segment.Pieces.{Each, HasStart, RisesFrom, StartsAtZero}
 

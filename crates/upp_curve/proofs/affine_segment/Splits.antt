@@ -1,18 +1,18 @@
 -- The splits of a time into the times of two elements, and the infimum of the sums over them.
 use Rattle.std.specs.Prelude.{◌≡◌, pos, [], ◌∷◌}
 use Rattle.std.proofs.Common.{arith, sym, ap, ◌∙◌, refl, subst}
-use Rattle.min_plus.specs.rational.specs.Rational.{ℚ, ◌+ℚ◌, ◌-ℚ◌, ◌*ℚ◌, ◌≤ℚ◌, ◌<ℚ◌, int}
-use Rattle.min_plus.specs.rational.specs.MinMax.{min_q, max_q}
-use Rattle.min_plus.specs.rational.specs.Extended.{Ext, ◌<ₑ◌, ◌+ₑ◌}
-use Rattle.min_plus.specs.rational.specs.declared.Extended.TheVariants.{Fin, Inf}
-use Rattle.min_plus.specs.rational.specs.Bounds.{IsInfimum}
-use Rattle.min_plus.specs.rational.specs.Stretch.{Between}
-use Rattle.min_plus.specs.rational.proofs.Linear.{with2, with3, with5, with7, with_atoms}
-use Rattle.min_plus.specs.rational.proofs.Laws.{le_lt_trans, mul_add, mul_sub, sub_mul}
-use Rattle.min_plus.specs.rational.proofs.MinMax.{max_q_ge_left, max_q_ge_right, max_q_lt, below_min_in, below_min_out, min_q_left, min_q_is_right}
-use Rattle.min_plus.specs.rational.proofs.ExtendedOrder.{same_le_ext}
-use Rattle.min_plus.specs.rational.proofs.Bounds.{same_infimum}
-use Rattle.min_plus.specs.rational.proofs.Stretch.{falling_infimum}
+use Rattle.rational.specs.Rational.{ℚ, ◌+ℚ◌, ◌-ℚ◌, ◌*ℚ◌, ◌≤ℚ◌, ◌<ℚ◌, int}
+use Rattle.rational.specs.MinMax.{min_q, max_q}
+use Rattle.rational.specs.Extended.{Ext, ◌<ₑ◌, ◌+ₑ◌}
+use Rattle.rational.specs.declared.Extended.TheVariants.{Fin, Inf}
+use Rattle.rational.specs.Bounds.{IsInfimum}
+use Rattle.rational.specs.Stretch.{Between}
+use Rattle.rational.proofs.Linear.{with2, with3, with5, with7, with_atoms}
+use Rattle.rational.proofs.Laws.{le_lt_trans, mul_add, mul_sub, sub_mul}
+use Rattle.rational.proofs.MinMax.{max_q_ge_left, max_q_ge_right, max_q_lt, below_min_in, below_min_out, min_q_left, min_q_is_right}
+use Rattle.rational.proofs.ExtendedOrder.{same_le_ext}
+use Rattle.rational.proofs.Bounds.{same_infimum}
+use Rattle.rational.proofs.Stretch.{falling_infimum}
 use Rattle.upp_curve.specs.declared.affine_segment.line.Line.{Line}
 use Rattle.upp_curve.specs.declared.affine_segment.element.Element.TheVariants.{Open}
 use Rattle.upp_curve.specs.affine_segment.Values.{line_at}

@@ -1,8 +1,8 @@
 -- The line of a slope that has a value at a time.
 use Rattle.std.specs.Prelude.{◌≡◌}
 use Rattle.std.proofs.Common.{arith, refl}
-use Rattle.min_plus.specs.rational.specs.Rational.{ℚ, ◌+ℚ◌, ◌-ℚ◌, ◌*ℚ◌}
-use Rattle.min_plus.specs.rational.proofs.Linear.{with4}
+use Rattle.rational.specs.Rational.{ℚ, ◌+ℚ◌, ◌-ℚ◌, ◌*ℚ◌}
+use Rattle.rational.proofs.Linear.{with4}
 use Rattle.upp_curve.specs.affine_segment.Segments.{IsThrough}
 
 -- it starts at 0 as far below as it rises

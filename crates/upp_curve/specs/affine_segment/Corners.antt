@@ -1,7 +1,7 @@
 -- The types that the convolution of two elements uses within: segments, and where two of them start or turn.
 -- Own choice.
 use Rattle.std.specs.Prelude.{◌≡◌}
-use Rattle.min_plus.specs.rational.specs.Rational.{ℚ, ◌+ℚ◌}
+use Rattle.rational.specs.Rational.{ℚ, ◌+ℚ◌}
 use Rattle.upp_curve.specs.declared.affine_segment.line.Line.{Line}
 use Rattle.upp_curve.specs.declared.affine_segment.convolution.Stretch.{Stretch}
 use Rattle.upp_curve.specs.declared.affine_segment.convolution.Corner.{Corner}

@@ -1,8 +1,8 @@
 -- How elements and the parts of an answer are read. (Bouillard, Boyer and Le Corronc: an elementary function is
 -- infinite outside its times.)
 use Rattle.std.specs.Prelude.{◌≡◌, Option, Some, None}
-use Rattle.min_plus.specs.rational.specs.Rational.{ℚ}
-use Rattle.min_plus.specs.rational.specs.declared.Extended.TheVariants.{Fin, Inf}
+use Rattle.rational.specs.Rational.{ℚ}
+use Rattle.rational.specs.declared.Extended.TheVariants.{Fin, Inf}
 use Rattle.upp_curve.specs.declared.affine_segment.element.Element.{Element}
 use Rattle.upp_curve.specs.declared.affine_segment.element.Joined.{Joined}
 use Rattle.upp_curve.specs.affine_segment.Elements.{Covers, level, element_value, joined_value, AreAdjoined}

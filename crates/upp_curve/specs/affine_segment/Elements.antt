@@ -2,10 +2,10 @@
 -- make.
 -- (Bouillard, Boyer and Le Corronc: elementary functions and their convolution.)
 use Rattle.std.specs.Prelude.{◌≡◌, ◌↔◌, ◌⊎◌, Bool, true, cond, ◌&&◌, Option, Some, None, IsSome}
-use Rattle.min_plus.specs.rational.specs.Rational.{ℚ, ◌+ℚ◌, ◌<ℚ◌, le_q, lt_q}
-use Rattle.min_plus.specs.rational.specs.Extended.{Ext, ◌<ₑ◌, min_ext}
-use Rattle.min_plus.specs.rational.specs.declared.Extended.TheVariants.{Fin, Inf}
-use Rattle.min_plus.specs.rational.specs.Bounds.{IsInfimum}
+use Rattle.rational.specs.Rational.{ℚ, ◌+ℚ◌, ◌<ℚ◌, le_q, lt_q}
+use Rattle.rational.specs.Extended.{Ext, ◌<ₑ◌, min_ext}
+use Rattle.rational.specs.declared.Extended.TheVariants.{Fin, Inf}
+use Rattle.rational.specs.Bounds.{IsInfimum}
 use Rattle.upp_curve.specs.declared.affine_segment.element.Element.{Element}
 use Rattle.upp_curve.specs.declared.affine_segment.element.Element.TheVariants.{Point, Open}
 use Rattle.upp_curve.specs.declared.affine_segment.element.Joined.{Joined}

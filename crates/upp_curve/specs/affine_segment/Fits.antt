@@ -1,7 +1,7 @@
 -- Which steps fit where a line, or the pieces that it is one of, are read at a time. Own choice.
 use Rattle.std.specs.Prelude.{List, [], ◌∷◌, Option, Some, None}
-use Rattle.min_plus.specs.rational.specs.Rational.{ℚ, ◌*ℚ◌, ◌<ℚ◌}
-use Rattle.min_plus.specs.rational.specs.Ratio.{IsSmall, SumFits}
+use Rattle.rational.specs.Rational.{ℚ, ◌*ℚ◌, ◌<ℚ◌}
+use Rattle.rational.specs.Ratio.{IsSmall, SumFits}
 use Rattle.upp_curve.specs.declared.affine_segment.line.Line.{Line}
 use Rattle.upp_curve.specs.declared.affine_segment.line.Piece.{Piece}
 use Rattle.upp_curve.specs.affine_segment.Reading.{piece_in}

@@ -1,9 +1,9 @@
 -- What two elements make, part by part: where each part starts and ends, its slope, and its value at its start.
 -- Own choice.
 use Rattle.std.specs.Prelude.{◌≡◌, ◌⊎◌, Some, None}
-use Rattle.min_plus.specs.rational.specs.Rational.{ℚ, ◌+ℚ◌, ◌<ℚ◌}
-use Rattle.min_plus.specs.rational.specs.Extended.{Ext, ◌+ₑ◌}
-use Rattle.min_plus.specs.rational.specs.declared.Extended.TheVariants.{Fin, Inf}
+use Rattle.rational.specs.Rational.{ℚ, ◌+ℚ◌, ◌<ℚ◌}
+use Rattle.rational.specs.Extended.{Ext, ◌+ₑ◌}
+use Rattle.rational.specs.declared.Extended.TheVariants.{Fin, Inf}
 use Rattle.upp_curve.specs.declared.affine_segment.line.Line.{Line}
 use Rattle.upp_curve.specs.declared.affine_segment.element.Element.{Element}
 use Rattle.upp_curve.specs.declared.affine_segment.element.Element.TheVariants.{Point, Open}

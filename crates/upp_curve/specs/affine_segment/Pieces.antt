@@ -1,6 +1,6 @@
 -- Pieces one after another, in the order of their starts. (Bouillard, Boyer and Le Corronc: piecewise affine functions.)
 use Rattle.std.specs.Prelude.{◌≡◌, pos, List, [], ◌∷◌, Option, Some, ◌⊎◌}
-use Rattle.min_plus.specs.rational.specs.Rational.{ℚ, ◌<ℚ◌, int}
+use Rattle.rational.specs.Rational.{ℚ, ◌<ℚ◌, int}
 use Rattle.upp_curve.specs.declared.affine_segment.line.Piece.{Piece}
 
 -- P holds of each piece

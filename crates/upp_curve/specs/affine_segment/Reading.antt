@@ -1,9 +1,9 @@
 -- Pieces in the order of their starts, read as a function of time. Each piece gives the value at its start and, by its
 -- line, those after it up to the next start. (Bouillard, Boyer and Le Corronc: piecewise affine functions.)
 use Rattle.std.specs.Prelude.{cond, List, [], ◌∷◌, Option, Some, None}
-use Rattle.min_plus.specs.rational.specs.Rational.{ℚ, le_q, lt_q}
-use Rattle.min_plus.specs.rational.specs.Extended.{Ext}
-use Rattle.min_plus.specs.rational.specs.declared.Extended.TheVariants.{Inf}
+use Rattle.rational.specs.Rational.{ℚ, le_q, lt_q}
+use Rattle.rational.specs.Extended.{Ext}
+use Rattle.rational.specs.declared.Extended.TheVariants.{Inf}
 use Rattle.upp_curve.specs.declared.affine_segment.line.Line.{Line}
 use Rattle.upp_curve.specs.declared.affine_segment.line.Piece.{Piece}
 use Rattle.upp_curve.specs.affine_segment.Values.{line_value}

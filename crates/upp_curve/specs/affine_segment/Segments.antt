@@ -1,8 +1,8 @@
 -- Segments: lines strictly between two times, and the line of a slope that has a value at a time. Own choice.
 use Rattle.std.specs.Prelude.{◌≡◌}
-use Rattle.min_plus.specs.rational.specs.Rational.{ℚ}
-use Rattle.min_plus.specs.rational.specs.Extended.{Ext, ◌<ₑ◌}
-use Rattle.min_plus.specs.rational.specs.declared.Extended.TheVariants.{Fin}
+use Rattle.rational.specs.Rational.{ℚ}
+use Rattle.rational.specs.Extended.{Ext, ◌<ₑ◌}
+use Rattle.rational.specs.declared.Extended.TheVariants.{Fin}
 use Rattle.upp_curve.specs.declared.affine_segment.line.Line.{Line}
 use Rattle.upp_curve.specs.declared.affine_segment.element.Element.{Element}
 use Rattle.upp_curve.specs.declared.affine_segment.element.Element.TheVariants.{Open}

@@ -1,7 +1,7 @@
 -- Which step of arithmetic was too wide: each names the step, and says that its numbers do not fit. Own choice.
 use Rattle.std.specs.Prelude.{◌≡◌, ◌⊎◌}
-use Rattle.min_plus.specs.rational.specs.Rational.{ℚ, ◌-ℚ◌, ◌*ℚ◌, ◌/ℚ◌, neg_ℚ}
-use Rattle.min_plus.specs.rational.specs.Ratio.{IsSmall, SumFits}
+use Rattle.rational.specs.Rational.{ℚ, ◌-ℚ◌, ◌*ℚ◌, ◌/ℚ◌, neg_ℚ}
+use Rattle.rational.specs.Ratio.{IsSmall, SumFits}
 use Rattle.fraction128.specs.declared.fault.Op.TheVariants.{Add, Sub, Mul, Div}
 use Rattle.fraction128.specs.declared.fault.Wide.{Wide}
 use Rattle.fraction128.specs.Fits.{wide_step}

@@ -1,8 +1,8 @@
 -- Which step of the convolution of two elements was too wide. Own choice.
 use Rattle.std.specs.Prelude.{◌≡◌, ◌⊎◌}
-use Rattle.min_plus.specs.rational.specs.Rational.{ℚ, ◌+ℚ◌, ◌*ℚ◌, ◌<ℚ◌}
-use Rattle.min_plus.specs.rational.specs.Extended.{Ext}
-use Rattle.min_plus.specs.rational.specs.declared.Extended.TheVariants.{Fin, Inf}
+use Rattle.rational.specs.Rational.{ℚ, ◌+ℚ◌, ◌*ℚ◌, ◌<ℚ◌}
+use Rattle.rational.specs.Extended.{Ext}
+use Rattle.rational.specs.declared.Extended.TheVariants.{Fin, Inf}
 use Rattle.fraction128.specs.declared.fault.Wide.{Wide}
 use Rattle.upp_curve.specs.declared.affine_segment.line.Line.{Line}
 use Rattle.upp_curve.specs.declared.affine_segment.element.Element.{Element}

@@ -1,8 +1,8 @@
 //! The min-plus convolution of two elements.
 
 ghost use Rattle.std.specs.Prelude.{◌≡◌, IfOk, IfErr, Some, None};
-ghost use Rattle.min_plus.specs.rational.specs.Rational.{◌+ℚ◌, ◌≤ℚ◌, ◌<ℚ◌};
-ghost use Rattle.min_plus.specs.rational.specs.Extended.{◌<ₑ◌, ◌+ₑ◌};
+ghost use Rattle.rational.specs.Rational.{◌+ℚ◌, ◌≤ℚ◌, ◌<ℚ◌};
+ghost use Rattle.rational.specs.Extended.{◌<ₑ◌, ◌+ₑ◌};
 ghost use Rattle.upp_curve.specs.affine_segment.Values.{line_at};
 ghost use Rattle.upp_curve.specs.affine_segment.Elements.{IsProper, IsConvolved};
 ghost use Rattle.upp_curve.specs.affine_segment.Segments.{open_of, IsProperSegment, IsThrough};
@@ -14,7 +14,7 @@ ghost use Rattle.upp_curve.specs.affine_segment.WideConvolution.{IsWideCorner, I
 use crate::affine_segment::element::{Element, Joined};
 use crate::affine_segment::line::{Line, value};
 use fraction128::{Ext, Frac, Wide};
-use min_plus::rational::Extended;
+use rational::Extended;
 use std::cmp::Ordering;
 
 // A line strictly between two times.

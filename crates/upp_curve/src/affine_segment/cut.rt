@@ -1,15 +1,15 @@
 //! The lower of two lines on an open interval.
 
 ghost use Rattle.std.specs.Prelude.{◌≡◌, ◌≢◌, ◌↔◌, IfOk, IfErr, IsOk, IsTrue};
-ghost use Rattle.min_plus.specs.rational.specs.Rational.{◌≤ℚ◌};
-ghost use Rattle.min_plus.specs.rational.specs.Extended.{◌<ₑ◌};
+ghost use Rattle.rational.specs.Rational.{◌≤ℚ◌};
+ghost use Rattle.rational.specs.Extended.{◌<ₑ◌};
 ghost use Rattle.upp_curve.specs.affine_segment.Values.{line_at};
 ghost use Rattle.upp_curve.specs.affine_segment.Steps.{IsWideCross};
 ghost use Rattle.upp_curve.specs.affine_segment.Cuts.{IsLowerCut, IsLowerThroughout};
 
 use crate::affine_segment::line::{Line, cross};
 use fraction128::{Ext, Frac, Wide};
-use min_plus::rational::Extended;
+use rational::Extended;
 use std::cmp::Ordering;
 
 /// The lower of two lines on an open interval: one of them up to a time, and the other after it.

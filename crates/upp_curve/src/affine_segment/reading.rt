@@ -1,7 +1,7 @@
 //! How pieces are read at a time, where each step fits.
 
 ghost use Rattle.std.specs.Prelude.{◌≡◌, pos, List, ◌∷◌};
-ghost use Rattle.min_plus.specs.rational.specs.Rational.{int, ◌≤ℚ◌, ◌<ℚ◌, le_q};
+ghost use Rattle.rational.specs.Rational.{int, ◌≤ℚ◌, ◌<ℚ◌, le_q};
 ghost use Rattle.upp_curve.specs.affine_segment.Values.{line_at, line_value};
 ghost use Rattle.upp_curve.specs.affine_segment.Pieces.{StartsAtZero};
 ghost use Rattle.upp_curve.specs.affine_segment.Reading.{piece_in, piece_value, read, next_in};
@@ -9,7 +9,7 @@ ghost use Rattle.upp_curve.specs.affine_segment.Fits.{LineFits, LineFitsAt, Read
 
 use crate::affine_segment::line::{Line, Piece, value};
 use fraction128::{Ext, Frac};
-use min_plus::rational::Extended;
+use rational::Extended;
 use std::cmp::Ordering;
 
 /// The value of a line at t.

@@ -1,5 +1,5 @@
 use Rattle.std.proofs.Common.{List}
-use Rattle.upp_limits.specs.rational.specs.Extended.{Ext}
+use Rattle.rational.specs.Extended.{Ext}
 use Rattle.net_cells.specs.Means.{HaveNumbers}
 use Rattle.cell_eval.specs.Tallies.{AreAdded}
 use Rattle.cell_eval.proofs.PathSums.{delays_to}

@@ -1,8 +1,8 @@
 use Rattle.std.proofs.Common.{sym, ap, ◌∙◌, subst}
 use Rattle.std.specs.Prelude.{Some}
 use Rattle.upp_limits.specs.declared.op_kind.OpKind.TheVariants.{Sum}
-use Rattle.plain_operators.specs.curve_call.specs.Calls.{Applies}
-use Rattle.plain_operators.specs.curve_call.proofs.Applied.{applied_seen}
+use Rattle.curve_call.specs.Calls.{Applies}
+use Rattle.curve_call.proofs.Applied.{applied_seen}
 use Rattle.net_cells.specs.Meanings.{curve}
 use Rattle.cell_eval.proofs.SumSteps.{adds_made, adds_refused}
 use Rattle.cell_eval.proofs.curve_sums.with_cell.Goals as goal

@@ -1,7 +1,7 @@
 use Rattle.std.proofs.Common.{◌≡◌, ◌+◌, ◌-◌, sym, ap, ◌∙◌, subst, arith}
 use Rattle.std.specs.Prelude.{Some}
 use Rattle.upp_limits.specs.declared.op_kind.OpKind.TheVariants.{Vertical}
-use Rattle.upp_limits.specs.min_plus.specs.Deviations.{IsVerticalDeviation}
+use Rattle.min_plus.specs.Deviations.{IsVerticalDeviation}
 use Rattle.residuals.proofs.calls.Placed.{if_err}
 use Rattle.net_cells.specs.Meanings.{curve, number}
 use Rattle.net_cells.specs.Answers.{MakesNumber, Deviates}

@@ -1,10 +1,10 @@
 use Rattle.std.proofs.Common.{◌≡◌, sym, ap, ◌∙◌, subst}
 use Rattle.std.specs.Prelude.{Some}
-use Rattle.upp_limits.specs.upp_curve.specs.Curve.{value_at}
-use Rattle.upp_limits.specs.min_plus.specs.Functions.{IsFinite}
+use Rattle.upp_curve.specs.Curve.{value_at}
+use Rattle.min_plus.specs.Functions.{IsFinite}
 use Rattle.upp_limits.specs.declared.op_kind.OpKind.TheVariants.{PosMinus}
-use Rattle.net_model.specs.run_laws.specs.Cards.{whole}
-use Rattle.plain_operators.specs.curve_call.specs.Calls.{AppliesTo}
+use Rattle.run_laws.specs.Cards.{whole}
+use Rattle.curve_call.specs.Calls.{AppliesTo}
 use Rattle.residuals.proofs.calls.Placed.{if_err}
 use Rattle.net_cells.specs.Meanings.{curve}
 use Rattle.net_cells.specs.Formulas.{value_of}

@@ -1,7 +1,7 @@
 use Rattle.std.proofs.Common.{sym, ap, ◌∙◌}
 use Rattle.std.specs.Prelude.{Some}
 use Rattle.upp_limits.specs.declared.op_kind.OpKind.TheVariants.{FifoLeft}
-use Rattle.plain_operators.specs.curve_call.specs.Calls.{Applies}
+use Rattle.curve_call.specs.Calls.{Applies}
 use Rattle.net_cells.specs.Meanings.{curve}
 use Rattle.net_cells.specs.Answers.{MakesCurve}
 use Rattle.net_cells.specs.cell_table.Values.{answer_of, meaning_of}

@@ -1,5 +1,5 @@
 use Rattle.std.proofs.Common.{sym, refl, []}
-use Rattle.upp_limits.specs.rational.proofs.Gauges.{den_from_end}
+use Rattle.rational.proofs.Gauges.{den_from_end}
 use Rattle.cell_eval.proofs.Tallying.{tallied_some}
 use Rattle.cell_eval.proofs.number_sums.no_number.Goals as goal
 

@@ -1,6 +1,6 @@
 use Rattle.std.proofs.Common.{sym, ◌∙◌, subst}
-use Rattle.upp_limits.specs.rational.specs.Rational.{◌≤ℚ◌, ◌<ℚ◌}
-use Rattle.upp_limits.specs.rational.proofs.Compared.{is_greater, not_greater}
+use Rattle.rational.specs.Rational.{◌≤ℚ◌, ◌<ℚ◌}
+use Rattle.rational.proofs.Compared.{is_greater, not_greater}
 use Rattle.cell_eval.proofs.Totals.{size_below, size_from}
 use Rattle.cell_eval.proofs.number_sums.size.Goals as goal
 

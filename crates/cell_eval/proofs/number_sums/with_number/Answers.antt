@@ -1,8 +1,8 @@
 use Rattle.std.proofs.Common.{◌≡◌, ◌≤◌, ◌^◌, sym, ap, ◌∙◌, subst}
 use Rattle.std.specs.Prelude.{IfOk, MatchOption}
-use Rattle.upp_limits.specs.rational.specs.Rational.{◌+ℚ◌}
-use Rattle.upp_limits.specs.rational.specs.Ratio.{SumFits}
-use Rattle.upp_limits.specs.rational.specs.Gauge.{lcm}
+use Rattle.rational.specs.Rational.{◌+ℚ◌}
+use Rattle.rational.specs.Ratio.{SumFits}
+use Rattle.rational.specs.Gauge.{lcm}
 use Rattle.cell_eval.specs.Tallies.{size_of}
 use Rattle.cell_eval.proofs.Tallying.{some_tallies, both_fit, den_wide}
 use Rattle.cell_eval.proofs.number_sums.with_number.Goals as goal

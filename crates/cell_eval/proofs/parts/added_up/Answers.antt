@@ -8,7 +8,7 @@ use Rattle.outcomes.proofs.Spending.{counts_none}
 use Rattle.cell_eval.proofs.Handing.{again_out, shared_makes}
 use Rattle.cell_eval.proofs.PartSums.{no_parts, one_part, shared_sum, held_at}
 use Rattle.cell_eval.proofs.SharedCounts.{shared_counts}
-use Rattle.plain_operators.specs.curve_call.specs.Again.{IsAgain}
+use Rattle.curve_call.specs.Again.{IsAgain}
 use Rattle.net_cells.specs.Meanings.{curve}
 use Rattle.net_cells.specs.Answers.{MakesCurve, SumsOf}
 use Rattle.net_cells.specs.Refusals.{SumsRefused}

@@ -9,8 +9,8 @@ use Rattle.net_cells.specs.Formulas.{cut}
 use Rattle.net_cells.specs.cell_table.Values.{answer_of}
 use Rattle.cell_eval.proofs.Choosing.{part_picked}
 use Rattle.outcomes.specs.Spending.{Counts}
-use Rattle.upp_limits.specs.rational.specs.Rational.{◌≤ℚ◌}
-use Rattle.upp_limits.specs.min_plus.specs.Functions.{zero_q}
+use Rattle.rational.specs.Rational.{◌≤ℚ◌}
+use Rattle.min_plus.specs.Functions.{zero_q}
 use Rattle.cell_eval.proofs.LinkRates.{rate_low}
 use Rattle.cell_eval.proofs.PartSteps.{cut_is}
 use Rattle.std.specs.Prelude.{IfErr}

@@ -1,7 +1,7 @@
 use Rattle.std.proofs.Common.{◌≡◌, ◌+◌, ◌-◌, map, subst, arith}
 use Rattle.std.specs.Prelude.{Ok, Err}
 use Rattle.upp_limits.specs.declared.op_kind.OpKind.TheVariants.{Sum}
-use Rattle.plain_operators.specs.curve_call.specs.Calls.{Applies}
+use Rattle.curve_call.specs.Calls.{Applies}
 use Rattle.net_cells.specs.Meanings.{curve}
 use Rattle.cell_eval.specs.Parts.{curve_of}
 use Rattle.cell_eval.proofs.PartSums.{first_sum, first_refused, next_sum, next_refused, last_sum, held_at}

@@ -1,7 +1,7 @@
 use Rattle.std.proofs.Common.{sym, subst}
 use Rattle.net_cells.specs.Answers.{MakesCurve}
 use Rattle.cell_eval.specs.Parts.{curve_of}
-use Rattle.plain_operators.specs.curve_call.specs.Again.{IsAgain}
+use Rattle.curve_call.specs.Again.{IsAgain}
 use Rattle.net_cells.specs.cell_table.Values.{answer_of, meaning_of}
 use Rattle.cell_eval.proofs.Handing.{again_out, shared_makes}
 use Rattle.cell_eval.proofs.PartSums.{again_makes}

@@ -1,7 +1,7 @@
 use Rattle.upp_limits.specs.declared.op_kind.OpKind.TheVariants.{Sum}
 use Rattle.std.proofs.Common.{subst}
-use Rattle.plain_operators.specs.curve_call.specs.Calls.{Applies}
-use Rattle.plain_operators.specs.curve_call.proofs.Applied.{applied_seen}
+use Rattle.curve_call.specs.Calls.{Applies}
+use Rattle.curve_call.proofs.Applied.{applied_seen}
 use Rattle.cell_eval.proofs.parts.part_added.Goals as goal
 
 pub returns-clause-sum : goal.returns-clause-sum

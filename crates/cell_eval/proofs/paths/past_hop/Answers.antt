@@ -1,8 +1,8 @@
 use Rattle.std.proofs.Common.{◌≡◌, ◌+◌, ◌-◌, sym, ap, ◌∙◌, subst, arith}
 use Rattle.std.specs.Prelude.{Some}
 use Rattle.upp_limits.specs.declared.op_kind.OpKind.TheVariants.{Convolve}
-use Rattle.plain_operators.specs.curve_call.specs.Calls.{Applies}
-use Rattle.plain_operators.specs.curve_call.proofs.Applied.{applied_seen}
+use Rattle.curve_call.specs.Calls.{Applies}
+use Rattle.curve_call.proofs.Applied.{applied_seen}
 use Rattle.net_cells.specs.declared.cell.Kind.TheVariants.{Residual}
 use Rattle.net_cells.specs.Cells.{cell_of}
 use Rattle.net_cells.specs.Meanings.{curve}

@@ -1,8 +1,8 @@
 use Rattle.std.proofs.Common.{◌≡◌, ◌+◌, ◌-◌, subst, arith}
 use Rattle.std.specs.Prelude.{Ok}
 use Rattle.upp_limits.specs.declared.op_kind.OpKind.TheVariants.{Convolve}
-use Rattle.plain_operators.specs.curve_call.specs.Calls.{Applies}
-use Rattle.plain_operators.specs.curve_call.proofs.Applied.{applied_seen}
+use Rattle.curve_call.specs.Calls.{Applies}
+use Rattle.curve_call.proofs.Applied.{applied_seen}
 use Rattle.residuals.proofs.calls.Placed.{if_err}
 use Rattle.net_cells.specs.Meanings.{curve}
 use Rattle.net_cells.specs.Answers.{Answers}

@@ -1,6 +1,6 @@
 use Rattle.std.proofs.Common.{◌≡◌, ◌<◌, ◌-◌, arith, sym, ap, ◌∙◌, subst}
 use Rattle.std.specs.Prelude.{IfErr, Option}
-use Rattle.plain_operators.specs.curve_call.specs.Again.{IsAgain}
+use Rattle.curve_call.specs.Again.{IsAgain}
 use Rattle.residuals.specs.left.Left.{EachBefore, IsFit, left_work}
 use Rattle.residuals.proofs.calls.Placed.{if_err}
 use Rattle.net_model.specs.Accepted.{HasFewQueues}

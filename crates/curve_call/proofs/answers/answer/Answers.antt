@@ -1,5 +1,5 @@
 use Rattle.std.proofs.Common.{subst, sym, ◌<◌, ◌^◌}
-use Rattle.upp_limits.specs.upp_curve.specs.Curve.{value_at}
+use Rattle.upp_curve.specs.Curve.{value_at}
 use Rattle.curve_call.proofs.Answering.{small_grids, answer_room_is, answer_grids, periodic_grids}
 use Rattle.curve_call.proofs.answers.answer.Goals as goal
 

@@ -1,5 +1,5 @@
 use Rattle.std.proofs.Common.{arith}
-use Rattle.upp_limits.specs.rational.specs.Rational.{◌+ℚ◌}
+use Rattle.rational.specs.Rational.{◌+ℚ◌}
 use Rattle.curve_call.proofs.LeastNumber.{times_small}
 use Rattle.curve_call.proofs.BoundedNumber.{bounds_are}
 use Rattle.curve_call.proofs.bounds.bounds_below.Goals as goal

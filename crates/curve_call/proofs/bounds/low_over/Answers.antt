@@ -1,5 +1,5 @@
 use Rattle.std.proofs.Common.{arith}
-use Rattle.upp_limits.specs.rational.specs.Rational.{◌+ℚ◌}
+use Rattle.rational.specs.Rational.{◌+ℚ◌}
 use Rattle.curve_call.proofs.LeastNumber.{compared_window, gap_answer, times_small}
 use Rattle.curve_call.proofs.BoundedNumber.{low_is}
 use Rattle.curve_call.proofs.bounds.low_over.Goals as goal

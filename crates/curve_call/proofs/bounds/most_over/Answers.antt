@@ -1,7 +1,7 @@
 use Rattle.std.proofs.Common.{sym, subst, ap, ap₂, ◌∙◌, true≢false}
-use Rattle.upp_limits.specs.rational.specs.Rational.{ℚ, ◌+ℚ◌}
-use Rattle.upp_limits.specs.rational.specs.Extended.{◌<ₑ◌}
-use Rattle.upp_limits.specs.upp_curve.specs.Steady.{rate, rise_over}
+use Rattle.rational.specs.Rational.{ℚ, ◌+ℚ◌}
+use Rattle.rational.specs.Extended.{◌<ₑ◌}
+use Rattle.upp_curve.specs.Steady.{rate, rise_over}
 use Rattle.curve_call.specs.Bounds.{IsMost}
 use Rattle.curve_call.proofs.OwnPeriods.{first_looked, second_looked}
 use Rattle.curve_call.proofs.MostAbove.{depth_finite, most_is, own_rise_small, first_sum_fits, second_sum_fits}

@@ -1,5 +1,5 @@
 use Rattle.std.proofs.Common.{ap, ◌∙◌}
-use Rattle.upp_limits.specs.rational.specs.Rational.{◌+ℚ◌}
+use Rattle.rational.specs.Rational.{◌+ℚ◌}
 use Rattle.curve_call.proofs.OwnPeriods.{named_fits, named_windows}
 use Rattle.curve_call.proofs.bounds.own_end.Goals as goal
 

@@ -1,5 +1,5 @@
 use Rattle.std.proofs.Common.{refl, sym, subst, true≢false}
-use Rattle.upp_limits.specs.upp_curve.specs.Curve.{value_at}
+use Rattle.upp_curve.specs.Curve.{value_at}
 use Rattle.curve_call.proofs.GapWalk.{GapWalk, walk_time, walk_start, walk_step, walk_fewer, walk_end, stretch_sizes, next_found, next_past}
 use Rattle.curve_call.proofs.gaps.side_gap.Goals as goal
 

@@ -1,5 +1,5 @@
 use Rattle.std.proofs.Common.{subst, sym, ap₂, ◌∙◌}
-use Rattle.upp_limits.specs.rational.proofs.Laws.{le_trans, le_of_lt}
+use Rattle.rational.proofs.Laws.{le_trans, le_of_lt}
 use Rattle.curve_call.specs.Gaps.{InWindow, IsGap}
 use Rattle.curve_call.specs.GapSteps.{gap_of, larger, GapStands}
 use Rattle.curve_call.proofs.GapParts.{stretch_gap_is}

@@ -1,7 +1,7 @@
 use Rattle.std.proofs.Common.{pos, sym, subst, ap₂, ◌∙◌}
-use Rattle.upp_limits.specs.rational.specs.Rational.{ℚ, ◌+ℚ◌, ◌-ℚ◌, ◌<ℚ◌, int, neg_ℚ}
-use Rattle.upp_limits.specs.rational.specs.Ratio.{SumFits}
-use Rattle.upp_limits.specs.upp_curve.specs.Steady.{rise_over}
+use Rattle.rational.specs.Rational.{ℚ, ◌+ℚ◌, ◌-ℚ◌, ◌<ℚ◌, int, neg_ℚ}
+use Rattle.rational.specs.Ratio.{SumFits}
+use Rattle.upp_curve.specs.Steady.{rise_over}
 use Rattle.upp_normal.specs.Ahead.{AnswerValue}
 use Rattle.upp_normal.proofs.AnswerRoom.{value_difference_stands}
 use Rattle.curve_call.proofs.LeastNumber.{lead_is, rise_small, lead_fits}

@@ -1,8 +1,8 @@
 use Rattle.std.proofs.Common.{arith, pos, subst}
-use Rattle.upp_limits.specs.rational.specs.Rational.{◌*ℚ◌, ◌≤ℚ◌, int}
+use Rattle.rational.specs.Rational.{◌*ℚ◌, ◌≤ℚ◌, int}
 use Rattle.upp_limits.specs.Windows.{IsLeast}
 use Rattle.curve_call.proofs.LeastNumber.{largest_finite, gap_answer, times_small}
-use Rattle.upp_limits.specs.rational.specs.Rational.{◌+ℚ◌}
+use Rattle.rational.specs.Rational.{◌+ℚ◌}
 use Rattle.curve_call.proofs.least.least_over.Goals as goal
 
 pub lead_over-requires-clause-first : goal.lead_over-requires-clause-first

@@ -1,7 +1,7 @@
 use Rattle.std.proofs.Common.{pos, sym, subst, ap, ◌∙◌, refl, true≢false}
-use Rattle.upp_limits.specs.rational.specs.Rational.{◌*ℚ◌, ◌≤ℚ◌, ◌<ℚ◌, int}
-use Rattle.upp_limits.specs.rational.specs.Gauge.{size_up}
-use Rattle.upp_limits.specs.rational.proofs.Laws.{le_of_not_lt, not_zero}
+use Rattle.rational.specs.Rational.{◌*ℚ◌, ◌≤ℚ◌, ◌<ℚ◌, int}
+use Rattle.rational.specs.Gauge.{size_up}
+use Rattle.rational.proofs.Laws.{le_of_not_lt, not_zero}
 use Rattle.upp_limits.specs.Windows.{IsLeast}
 use Rattle.curve_call.proofs.LeastNumber.{number_zero, number_least}
 use Rattle.curve_call.proofs.least.least_times.Goals as goal

@@ -1,5 +1,5 @@
 use Rattle.std.proofs.Common.{sym, subst, ◌∙◌}
-use Rattle.upp_limits.specs.rational.specs.Ratio.{IsSmall}
+use Rattle.rational.specs.Ratio.{IsSmall}
 use Rattle.curve_call.proofs.RateRises.{rate_rise, rate_none}
 use Rattle.curve_call.proofs.least.rise_of.Goals as goal
 

@@ -1,9 +1,9 @@
 use Rattle.std.proofs.Common.{sym, ◌∙◌, ap₂, subst}
 use Rattle.std.specs.Prelude.{◌≡◌}
 use Rattle.std.proofs.lemmas.Bool.{true≢false}
-use Rattle.upp_limits.specs.rational.specs.Rational.{◌/ℚ◌}
-use Rattle.upp_limits.specs.rational.specs.Ratio.{IsSmall}
-use Rattle.upp_limits.specs.upp_curve.proofs.affine_segment.Meeting.{apart, lines_meet}
+use Rattle.rational.specs.Rational.{◌/ℚ◌}
+use Rattle.rational.specs.Ratio.{IsSmall}
+use Rattle.upp_curve.proofs.affine_segment.Meeting.{apart, lines_meet}
 use Rattle.curve_call.proofs.CrossFits.{apart_fits, closing_fits, quotient_fits}
 use Rattle.curve_call.proofs.LinesLie.{meets_by}
 use Rattle.curve_call.proofs.lie.lie_of_lines.Goals as goal

@@ -1,7 +1,7 @@
 use Rattle.std.proofs.Common.{sym, subst}
 use Rattle.std.specs.Prelude.{Some}
-use Rattle.upp_limits.specs.rational.proofs.Laws.{le_of_lt, le_trans}
-use Rattle.upp_limits.specs.rational.proofs.Compared.{not_greater, not_less}
+use Rattle.rational.proofs.Laws.{le_of_lt, le_trans}
+use Rattle.rational.proofs.Compared.{not_greater, not_less}
 use Rattle.curve_call.specs.Lies.{IsLie}
 use Rattle.curve_call.proofs.LinesLie.{before_turn, after_turn}
 use Rattle.curve_call.proofs.lie.meeting_lie.Goals as goal

@@ -1,7 +1,7 @@
 use Rattle.std.proofs.Common.{sym, subst}
 use Rattle.std.specs.Prelude.{Some}
-use Rattle.upp_limits.specs.rational.proofs.Laws.{le_of_lt}
-use Rattle.upp_limits.specs.rational.proofs.Compared.{is_greater, not_greater}
+use Rattle.rational.proofs.Laws.{le_of_lt}
+use Rattle.rational.proofs.Compared.{is_greater, not_greater}
 use Rattle.curve_call.specs.Lies.{IsLie}
 use Rattle.curve_call.proofs.LinesLie.{parallel_lines}
 use Rattle.curve_call.proofs.lie.parallel_lie.Goals as goal

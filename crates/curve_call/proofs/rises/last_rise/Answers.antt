@@ -1,8 +1,8 @@
 use Rattle.std.proofs.Common.{ap, sym, subst, ◌∙◌}
 use Rattle.std.specs.Prelude.{Option}
-use Rattle.upp_limits.specs.upp_curve.specs.declared.affine_segment.line.Line.{Line}
-use Rattle.upp_limits.specs.upp_curve.specs.Steady.{slope_times}
-use Rattle.upp_limits.specs.upp_curve.proofs.PieceLoops.{last_is}
+use Rattle.upp_curve.specs.declared.affine_segment.line.Line.{Line}
+use Rattle.upp_curve.specs.Steady.{slope_times}
+use Rattle.upp_curve.proofs.PieceLoops.{last_is}
 use Rattle.curve_call.specs.Rises.{SlopeTimesFits}
 use Rattle.curve_call.proofs.rises.last_rise.Goals as goal
 

@@ -1,9 +1,9 @@
 use Rattle.std.proofs.Common.{ap, sym, subst, ◌∙◌}
-use Rattle.upp_limits.specs.rational.specs.Rational.{◌*ℚ◌}
-use Rattle.upp_limits.specs.rational.proofs.Laws.{not_zero}
-use Rattle.upp_limits.specs.upp_curve.specs.declared.curve.Tail.{Tail}
+use Rattle.rational.specs.Rational.{◌*ℚ◌}
+use Rattle.rational.proofs.Laws.{not_zero}
+use Rattle.upp_curve.specs.declared.curve.Tail.{Tail}
 use Rattle.upp_limits.specs.Periods.{HasPeriod}
-use Rattle.upp_limits.specs.upp_curve.specs.Steady.{rise_over, rise_in, slope_times, last_line}
+use Rattle.upp_curve.specs.Steady.{rise_over, rise_in, slope_times, last_line}
 use Rattle.upp_limits.proofs.Operands.{curve_period}
 use Rattle.curve_call.proofs.rises.rise_over.Goals as goal
 

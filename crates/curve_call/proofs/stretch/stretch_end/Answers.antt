@@ -1,4 +1,4 @@
-use Rattle.upp_limits.specs.rational.proofs.Compared.{is_less, not_less}
+use Rattle.rational.proofs.Compared.{is_less, not_less}
 use Rattle.curve_call.proofs.NextSteps.{step_on, got_some, got_none, ends_left, ends_right, ends_first, ends_second}
 use Rattle.curve_call.proofs.stretch.stretch_end.Goals as goal
 

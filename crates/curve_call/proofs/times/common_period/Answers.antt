@@ -1,7 +1,7 @@
 use Rattle.std.proofs.Common.{◌≡◌, ◌∙◌, ap, ap₂, sym, subst, refl}
 use Rattle.std.specs.Prelude.{None, Some, Option, IfSome, IsSome}
-use Rattle.upp_limits.specs.rational.specs.Rational.{ℚ}
-use Rattle.upp_limits.specs.rational.specs.Ratio.{IsSmall}
+use Rattle.rational.specs.Rational.{ℚ}
+use Rattle.rational.specs.Ratio.{IsSmall}
 use Rattle.upp_limits.specs.Periods.{own_period, common_period, common_of, period_of}
 use Rattle.curve_call.proofs.times.common_period.Goals as goal
 

@@ -1,7 +1,7 @@
 use Rattle.std.proofs.Common.{sym, subst}
-use Rattle.upp_limits.specs.rational.specs.Rational.{◌≤ℚ◌}
-use Rattle.upp_limits.specs.rational.proofs.Laws.{le_of_lt, le_refl}
-use Rattle.upp_limits.specs.rational.proofs.MinMax.{max_q_left, max_q_right}
+use Rattle.rational.specs.Rational.{◌≤ℚ◌}
+use Rattle.rational.proofs.Laws.{le_of_lt, le_refl}
+use Rattle.rational.proofs.MinMax.{max_q_left, max_q_right}
 use Rattle.curve_call.proofs.times.later_of.Goals as goal
 
 pub returns-in-Greater : goal.returns-in-Greater

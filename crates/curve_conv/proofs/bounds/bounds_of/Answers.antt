@@ -1,5 +1,5 @@
 use Rattle.std.proofs.Common.{refl, sym, subst, true≢false}
-use Rattle.upp_limits.specs.rational.specs.Rational.{◌<ℚ◌}
+use Rattle.rational.specs.Rational.{◌<ℚ◌}
 use Rattle.curve_conv.proofs.BoundsFound.{begins_early, bounds_none, bounds_after}
 use Rattle.curve_conv.proofs.bounds.bounds_of.Goals as goal
 

@@ -1,8 +1,8 @@
 use Rattle.std.proofs.Common.{pos, sym, subst, true≢false}
-use Rattle.upp_limits.specs.rational.specs.Rational.{int}
-use Rattle.upp_limits.specs.rational.specs.Extended.{◌<ₑ◌}
-use Rattle.upp_limits.specs.upp_curve.specs.Steady.{rate}
-use Rattle.plain_operators.specs.curve_call.specs.Levels.{level_curve}
+use Rattle.rational.specs.Rational.{int}
+use Rattle.rational.specs.Extended.{◌<ₑ◌}
+use Rattle.upp_curve.specs.Steady.{rate}
+use Rattle.curve_call.specs.Levels.{level_curve}
 use Rattle.curve_conv.proofs.BoundsFound.{begins_early, far_number_is}
 use Rattle.curve_conv.proofs.bounds.far_number.Goals as goal
 

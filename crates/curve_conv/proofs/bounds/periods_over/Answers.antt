@@ -1,6 +1,6 @@
 use Rattle.std.specs.Prelude.{◌≤◌, ◌+◌}
 use Rattle.std.proofs.Common.{arith, sym, true≢false}
-use Rattle.upp_limits.specs.rational.proofs.Laws.{not_zero, le_of_not_lt}
+use Rattle.rational.proofs.Laws.{not_zero, le_of_not_lt}
 use Rattle.curve_conv.proofs.BoundsFound.{over_up, over_one}
 use Rattle.curve_conv.proofs.bounds.periods_over.Goals as goal
 

@@ -1,5 +1,5 @@
 use Rattle.std.proofs.Common.{sym, true≢false}
-use Rattle.upp_limits.specs.rational.proofs.Laws.{le_of_not_lt}
+use Rattle.rational.proofs.Laws.{le_of_not_lt}
 use Rattle.curve_conv.proofs.LateNumbers.{late_times}
 use Rattle.curve_conv.proofs.SoonEnough.{soon_window, soon_at_once, soon_number_is}
 use Rattle.curve_conv.proofs.bounds.soon_number.Goals as goal

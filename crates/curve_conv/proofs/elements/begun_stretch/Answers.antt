@@ -1,8 +1,8 @@
 use Rattle.std.specs.Prelude.{Some}
 use Rattle.std.proofs.Common.{refl, sym, subst, true≢false}
-use Rattle.upp_limits.specs.rational.specs.declared.Extended.TheVariants.{Fin}
-use Rattle.upp_limits.specs.upp_curve.specs.declared.affine_segment.element.Element.TheVariants.{Open}
-use Rattle.upp_limits.specs.upp_curve.specs.affine_segment.Elements.{element_value}
+use Rattle.rational.specs.declared.Extended.TheVariants.{Fin}
+use Rattle.upp_curve.specs.declared.affine_segment.element.Element.TheVariants.{Open}
+use Rattle.upp_curve.specs.affine_segment.Elements.{element_value}
 use Rattle.upp_normal.specs.Ahead.{GoesOn}
 use Rattle.curve_conv.specs.Stretches.{SumStretch}
 use Rattle.curve_conv.proofs.ElementStretches.{open_within, open_after, within_stands}

@@ -1,5 +1,5 @@
-use Rattle.upp_limits.specs.upp_curve.specs.affine_segment.Elements.{element_value, part_value}
-use Rattle.upp_limits.specs.rational.specs.Extended.{min_ext}
+use Rattle.upp_curve.specs.affine_segment.Elements.{element_value, part_value}
+use Rattle.rational.specs.Extended.{min_ext}
 use Rattle.curve_conv.proofs.PairStretches.{second_proper}
 use Rattle.curve_conv.proofs.elements.joined_stretch.Goals as goal
 

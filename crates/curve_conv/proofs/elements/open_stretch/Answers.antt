@@ -1,10 +1,10 @@
 use Rattle.std.specs.Prelude.{Some}
 use Rattle.std.proofs.Common.{sym, subst}
-use Rattle.upp_limits.specs.rational.specs.declared.Extended.TheVariants.{Inf}
-use Rattle.upp_limits.specs.upp_curve.specs.declared.affine_segment.element.Element.TheVariants.{Open}
-use Rattle.upp_limits.specs.upp_curve.specs.affine_segment.Elements.{element_value}
+use Rattle.rational.specs.declared.Extended.TheVariants.{Inf}
+use Rattle.upp_curve.specs.declared.affine_segment.element.Element.TheVariants.{Open}
+use Rattle.upp_curve.specs.affine_segment.Elements.{element_value}
 use Rattle.upp_normal.specs.Ahead.{GoesOn}
-use Rattle.upp_limits.specs.rational.proofs.Compared.{is_less}
+use Rattle.rational.proofs.Compared.{is_less}
 use Rattle.curve_conv.specs.Stretches.{SumStretch}
 use Rattle.curve_conv.proofs.ElementStretches.{open_before, open_here, here_stands}
 use Rattle.curve_conv.proofs.elements.open_stretch.Goals as goal

@@ -1,8 +1,8 @@
 use Rattle.std.proofs.Common.{sym, subst}
-use Rattle.upp_limits.specs.upp_curve.specs.declared.affine_segment.element.Element.TheVariants.{Point}
-use Rattle.upp_limits.specs.upp_curve.specs.affine_segment.Elements.{element_value}
+use Rattle.upp_curve.specs.declared.affine_segment.element.Element.TheVariants.{Point}
+use Rattle.upp_curve.specs.affine_segment.Elements.{element_value}
 use Rattle.upp_normal.specs.Ahead.{GoesOn}
-use Rattle.upp_limits.specs.rational.proofs.Compared.{is_less, is_greater}
+use Rattle.rational.proofs.Compared.{is_less, is_greater}
 use Rattle.curve_conv.proofs.ElementStretches.{point_before, point_here, point_after, point_stands}
 use Rattle.curve_conv.proofs.elements.point_stretch.Goals as goal
 

@@ -1,11 +1,11 @@
 use Rattle.std.specs.Prelude.{pos, Some, None, IfSome}
 use Rattle.std.proofs.Common.{refl, sym, subst, inl, true≢false}
-use Rattle.upp_limits.specs.rational.specs.Rational.{int}
-use Rattle.upp_limits.specs.rational.proofs.Laws.{le_refl}
-use Rattle.upp_limits.specs.rational.proofs.Grid.{whole_int}
-use Rattle.upp_limits.specs.upp_curve.specs.Curve.{value_at}
+use Rattle.rational.specs.Rational.{int}
+use Rattle.rational.proofs.Laws.{le_refl}
+use Rattle.rational.proofs.Grid.{whole_int}
+use Rattle.upp_curve.specs.Curve.{value_at}
 use Rattle.element_envelope.specs.ElementRoom.{WindowTime}
-use Rattle.plain_operators.specs.curve_call.specs.Gaps.{InWindow, IsGap}
+use Rattle.curve_call.specs.Gaps.{InWindow, IsGap}
 use Rattle.curve_conv.specs.Parts.{PartSplit, part_sum}
 use Rattle.curve_conv.specs.PartGaps.{ArePartValues}
 use Rattle.curve_conv.specs.Scans.{sizes_in, InPart}

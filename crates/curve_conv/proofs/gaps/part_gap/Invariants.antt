@@ -1,4 +1,4 @@
-use Rattle.upp_limits.specs.upp_curve.specs.Curve.{value_at}
+use Rattle.upp_curve.specs.Curve.{value_at}
 use Rattle.curve_conv.specs.Scans.{sizes_in}
 use Rattle.curve_conv.proofs.GapWalks.{PartGapWalk}
 use Rattle.curve_conv.proofs.GridSteps.{steps_to}

@@ -1,7 +1,7 @@
 use Rattle.std.proofs.Common.{subst, sym, ap₂, ◌∙◌}
-use Rattle.plain_operators.specs.curve_call.specs.Gaps.{InWindow, IsGap}
-use Rattle.plain_operators.specs.curve_call.specs.GapSteps.{gap_of, larger}
-use Rattle.plain_operators.specs.curve_call.proofs.GapParts.{stretch_gap_is}
+use Rattle.curve_call.specs.Gaps.{InWindow, IsGap}
+use Rattle.curve_call.specs.GapSteps.{gap_of, larger}
+use Rattle.curve_call.proofs.GapParts.{stretch_gap_is}
 use Rattle.curve_conv.specs.PartGaps.{PartGapStands}
 use Rattle.curve_conv.proofs.GapStretches.{here_to, differ_at, line_fits, lines_differ, stretch_stands}
 use Rattle.curve_conv.proofs.gaps.stretch_gap.Goals as goal

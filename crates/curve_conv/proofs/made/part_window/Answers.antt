@@ -1,6 +1,6 @@
 use Rattle.std.specs.Prelude.{None}
 use Rattle.std.proofs.Common.{sym, subst}
-use Rattle.upp_limits.specs.upp_curve.specs.Curve.{value_at}
+use Rattle.upp_curve.specs.Curve.{value_at}
 use Rattle.upp_normal.proofs.NormaliseForm.{ok_map}
 use Rattle.curve_conv.specs.Scans.{sizes_in}
 use Rattle.curve_conv.specs.SpanElements.{AreSpanElements}

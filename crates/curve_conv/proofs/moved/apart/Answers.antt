@@ -1,6 +1,6 @@
 use Rattle.std.proofs.Common.{refl, subst}
-use Rattle.upp_limits.specs.rational.specs.Rational.{◌<ℚ◌}
-use Rattle.upp_limits.specs.rational.proofs.Laws.{not_zero}
+use Rattle.rational.specs.Rational.{◌<ℚ◌}
+use Rattle.rational.proofs.Laws.{not_zero}
 use Rattle.curve_conv.proofs.moved.apart.Goals as goal
 
 pub div-requires : goal.div-requires

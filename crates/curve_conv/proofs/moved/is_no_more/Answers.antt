@@ -1,5 +1,5 @@
 use Rattle.std.proofs.Common.{sym, true≢false}
-use Rattle.upp_limits.specs.rational.proofs.Laws.{le_of_not_lt}
+use Rattle.rational.proofs.Laws.{le_of_not_lt}
 use Rattle.curve_conv.proofs.OwnMoves.{move_window, move_enough}
 use Rattle.curve_conv.proofs.moved.is_no_more.Goals as goal
 

@@ -1,6 +1,6 @@
 use Rattle.std.proofs.Common.{refl, sym, subst, true≢false}
-use Rattle.upp_limits.specs.rational.specs.Rational.{◌<ℚ◌}
-use Rattle.upp_limits.specs.rational.proofs.Laws.{le_of_not_lt}
+use Rattle.rational.specs.Rational.{◌<ℚ◌}
+use Rattle.rational.proofs.Laws.{le_of_not_lt}
 use Rattle.curve_conv.proofs.OwnExtremes.{fast_own_fits}
 use Rattle.curve_conv.proofs.OwnMoves.{is_move}
 use Rattle.curve_conv.proofs.moved.move_by.Goals as goal

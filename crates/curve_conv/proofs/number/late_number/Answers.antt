@@ -1,14 +1,14 @@
 use Rattle.std.specs.Prelude.{◌≡◌, pos, Some, None, IfSome}
 use Rattle.std.proofs.Common.{sym, subst, true≢false}
-use Rattle.upp_limits.specs.rational.specs.Rational.{ℚ, ◌/ℚ◌, ◌≤ℚ◌, ◌<ℚ◌, ◌*ℚ◌, int}
-use Rattle.upp_limits.specs.rational.specs.Ratio.{IsSmall}
-use Rattle.upp_limits.specs.upp_curve.specs.Curve.{SpecCurve, value_at}
-use Rattle.upp_limits.specs.rational.specs.Extended.{Ext}
-use Rattle.upp_limits.specs.upp_curve.specs.Steady.{steady, rise_over}
+use Rattle.rational.specs.Rational.{ℚ, ◌/ℚ◌, ◌≤ℚ◌, ◌<ℚ◌, ◌*ℚ◌, int}
+use Rattle.rational.specs.Ratio.{IsSmall}
+use Rattle.upp_curve.specs.Curve.{SpecCurve, value_at}
+use Rattle.rational.specs.Extended.{Ext}
+use Rattle.upp_curve.specs.Steady.{steady, rise_over}
 use Rattle.upp_limits.specs.Windows.{IsLeast}
 use Rattle.element_envelope.specs.ElementRoom.{WindowTime}
-use Rattle.plain_operators.specs.curve_call.specs.declared.gaps.Gap.{Gap}
-use Rattle.plain_operators.specs.curve_call.specs.Gaps.{InWindow, IsGap}
+use Rattle.curve_call.specs.declared.gaps.Gap.{Gap}
+use Rattle.curve_call.specs.Gaps.{InWindow, IsGap}
 use Rattle.curve_conv.specs.PartGaps.{PartGapStands, ArePartValues, HavePartValues}
 use Rattle.curve_conv.specs.Scans.{sizes_in}
 use Rattle.curve_conv.specs.SpanElements.{IsPartWindow}

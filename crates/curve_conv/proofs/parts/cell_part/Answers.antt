@@ -1,5 +1,5 @@
-use Rattle.upp_limits.specs.rational.specs.Rational.{◌≤ℚ◌}
-use Rattle.upp_limits.specs.upp_curve.specs.Curve.{value_at}
+use Rattle.rational.specs.Rational.{◌≤ℚ◌}
+use Rattle.upp_curve.specs.Curve.{value_at}
 use Rattle.curve_conv.specs.Scans.{sizes_in}
 use Rattle.curve_conv.specs.Stretches.{PartRow, part_row_sum}
 use Rattle.curve_conv.proofs.Families.{both_ahead}

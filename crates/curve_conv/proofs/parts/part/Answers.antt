@@ -1,8 +1,8 @@
 use Rattle.std.specs.Prelude.{◌<◌}
 use Rattle.std.proofs.Common.{sym, subst, ap, ◌∙◌, ◌⊎◌}
-use Rattle.upp_limits.specs.rational.specs.Rational.{◌≤ℚ◌}
-use Rattle.upp_limits.specs.rational.specs.Families.{either}
-use Rattle.upp_limits.specs.upp_curve.specs.Curve.{value_at}
+use Rattle.rational.specs.Rational.{◌≤ℚ◌}
+use Rattle.rational.specs.Families.{either}
+use Rattle.upp_curve.specs.Curve.{value_at}
 use Rattle.curve_conv.specs.Stretches.{SumTimeIn, IsAhead, PartRow, part_row_sum, IsProperPart, OperandPart, open_at}
 use Rattle.curve_conv.specs.Scans.{sizes_in, or_else}
 use Rattle.curve_conv.proofs.GridSteps.{steps_while}

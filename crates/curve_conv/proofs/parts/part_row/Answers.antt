@@ -1,7 +1,7 @@
 use Rattle.std.specs.Prelude.{None}
 use Rattle.std.proofs.Common.{sym, subst}
-use Rattle.upp_limits.specs.rational.specs.Rational.{◌≤ℚ◌}
-use Rattle.upp_limits.specs.upp_curve.specs.Curve.{value_at}
+use Rattle.rational.specs.Rational.{◌≤ℚ◌}
+use Rattle.upp_curve.specs.Curve.{value_at}
 use Rattle.curve_conv.specs.Stretches.{IsAhead, PartRow, part_row_sum}
 use Rattle.curve_conv.proofs.PairStretches.{none_ahead}
 use Rattle.curve_conv.proofs.parts.part_row.Goals as goal

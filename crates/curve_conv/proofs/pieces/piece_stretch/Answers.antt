@@ -1,5 +1,5 @@
 use Rattle.std.proofs.Common.{◌∙◌}
-use Rattle.upp_limits.specs.upp_curve.proofs.affine_segment.PieceIn.{read_found}
+use Rattle.upp_curve.proofs.affine_segment.PieceIn.{read_found}
 use Rattle.curve_conv.proofs.PieceStretches.{found_line, found_fits, pieces_go, pieces_stand}
 use Rattle.curve_conv.proofs.pieces.piece_stretch.Goals as goal
 

@@ -1,6 +1,6 @@
 use Rattle.std.proofs.Common.{ap, ◌∙◌}
-use Rattle.upp_limits.specs.rational.specs.Rational.{◌+ℚ◌}
-use Rattle.upp_limits.specs.upp_curve.specs.affine_segment.Values.{line_value}
+use Rattle.rational.specs.Rational.{◌+ℚ◌}
+use Rattle.upp_curve.specs.affine_segment.Values.{line_value}
 use Rattle.curve_conv.proofs.RisesFound.{above_as}
 use Rattle.curve_conv.proofs.rises.line_above.Goals as goal
 

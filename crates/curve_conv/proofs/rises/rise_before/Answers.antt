@@ -1,5 +1,5 @@
 use Rattle.std.proofs.Common.{refl, sym, true≢false}
-use Rattle.upp_limits.specs.rational.proofs.Laws.{le_of_not_lt}
+use Rattle.rational.proofs.Laws.{le_of_not_lt}
 use Rattle.curve_conv.proofs.RisesFound.{none_looked, all_looked}
 use Rattle.curve_conv.proofs.rises.rise_before.Goals as goal
 

@@ -1,5 +1,5 @@
 use Rattle.std.proofs.Common.{sym, subst}
-use Rattle.upp_limits.specs.upp_curve.specs.Curve.{value_at}
+use Rattle.upp_curve.specs.Curve.{value_at}
 use Rattle.upp_normal.specs.Ahead.{IsTimeIn, GoesOn}
 use Rattle.curve_conv.proofs.RisesFound.{step_times, step_found, step_on}
 use Rattle.curve_conv.proofs.rises.step.Goals as goal

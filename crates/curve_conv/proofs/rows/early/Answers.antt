@@ -1,6 +1,6 @@
 use Rattle.std.proofs.Common.{sym, subst, true≢false}
-use Rattle.upp_limits.specs.rational.specs.Rational.{◌≤ℚ◌}
-use Rattle.upp_limits.specs.rational.proofs.Laws.{le_of_not_lt}
+use Rattle.rational.specs.Rational.{◌≤ℚ◌}
+use Rattle.rational.proofs.Laws.{le_of_not_lt}
 use Rattle.upp_normal.specs.Ahead.{AtNext}
 use Rattle.curve_conv.proofs.rows.early.Goals as goal
 

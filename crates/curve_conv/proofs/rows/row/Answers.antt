@@ -1,7 +1,7 @@
 use Rattle.std.specs.Prelude.{◌<◌}
 use Rattle.std.proofs.Common.{sym, subst, ap, ◌∙◌, ◌⊎◌}
-use Rattle.upp_limits.specs.rational.specs.Rational.{◌-ℚ◌}
-use Rattle.upp_limits.specs.rational.specs.Families.{either}
+use Rattle.rational.specs.Rational.{◌-ℚ◌}
+use Rattle.rational.specs.Families.{either}
 use Rattle.curve_conv.specs.Stretches.{SumTimeIn, IsAhead, PartPair, part_pair_sum, IsProperPart, OperandPart, open_at}
 use Rattle.curve_conv.specs.Scans.{sizes_in}
 use Rattle.curve_conv.proofs.GridSteps.{steps_while}

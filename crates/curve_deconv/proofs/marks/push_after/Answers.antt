@@ -1,5 +1,5 @@
 use Rattle.std.proofs.Common.{◌∙◌, ◌++◌, sym, ap, append-nil}
-use Rattle.upp_limits.specs.rational.proofs.Compared.{not_less}
+use Rattle.rational.proofs.Compared.{not_less}
 use Rattle.curve_deconv.proofs.MarkWindows.{after_none}
 use Rattle.curve_deconv.proofs.marks.push_after.Goals as goal
 

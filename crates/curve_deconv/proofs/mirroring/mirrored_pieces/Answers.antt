@@ -1,8 +1,8 @@
 use Rattle.std.proofs.Common.{◌≡◌, ◌≤◌, ◌<◌, ◌+◌, ◌-◌, ◌∷◌, length, drop, arith, refl, sym, subst}
 use Rattle.std.proofs.lemmas.List.{drop_all}
-use Rattle.upp_limits.specs.rational.specs.Rational.{neg_ℚ}
-use Rattle.upp_limits.specs.rational.specs.Ratio.{SumFits}
-use Rattle.upp_limits.specs.upp_curve.proofs.affine_segment.NextPiece.{next_piece}
+use Rattle.rational.specs.Rational.{neg_ℚ}
+use Rattle.rational.specs.Ratio.{SumFits}
+use Rattle.upp_curve.proofs.affine_segment.NextPiece.{next_piece}
 use Rattle.upp_normal.proofs.NormaliseRank.{each_index}
 use Rattle.curve_deconv.specs.Mirrored.{IsMirrorable}
 use Rattle.curve_deconv.proofs.MirroredPieces.{MirrorLoop, fits_from, mirror_next, mirror_last}

@@ -1,11 +1,11 @@
 use Rattle.std.proofs.Common.{◌∙◌, ap, sym, subst}
-use Rattle.upp_limits.specs.upp_curve.specs.Curve.{SpecCurve}
+use Rattle.upp_curve.specs.Curve.{SpecCurve}
 use Rattle.upp_limits.specs.Periods.{period_of, period_or}
 use Rattle.upp_limits.specs.declared.op_kind.OpKind.TheVariants.{Deconvolve}
 use Rattle.upp_normal.proofs.NormaliseForm.{ok_map}
-use Rattle.plain_operators.specs.curve_call.specs.Rises.{CurveRiseFits}
-use Rattle.plain_operators.specs.curve_call.specs.Frames.{sizes_at}
-use Rattle.plain_operators.specs.curve_call.proofs.Operands.{operand_to}
+use Rattle.curve_call.specs.Rises.{CurveRiseFits}
+use Rattle.curve_call.specs.Frames.{sizes_at}
+use Rattle.curve_call.proofs.Operands.{operand_to}
 use Rattle.curve_deconv.proofs.DeconvolveCall.{deconvolve_call, begin_fits, past_fits, reach_fits, reach_named, windows_by, deconvolve_answer_by, deconvolve_values_by}
 use Rattle.curve_deconv.proofs.operator.deconvolved_within.Goals as goal
 

@@ -1,7 +1,7 @@
 use Rattle.std.proofs.Common.{sym, subst}
 use Rattle.std.proofs.lemmas.Result.{err_from_is_err_and}
-use Rattle.upp_limits.specs.upp_curve.specs.Curve.{value_at}
-use Rattle.upp_limits.specs.min_plus.specs.Convolution.{IsDeconvolution}
+use Rattle.upp_curve.specs.Curve.{value_at}
+use Rattle.min_plus.specs.Convolution.{IsDeconvolution}
 use Rattle.curve_deconv.proofs.Slower.{faster_deconvolves}
 use Rattle.curve_deconv.proofs.DeconvolveCall.{known_within}
 use Rattle.curve_deconv.proofs.operator.faster_answer.Goals as goal

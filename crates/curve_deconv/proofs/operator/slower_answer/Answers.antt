@@ -1,6 +1,6 @@
 use Rattle.std.proofs.lemmas.Result.{err_from_is_err_and}
 use Rattle.upp_limits.specs.declared.op_kind.OpKind.TheVariants.{Deconvolve}
-use Rattle.plain_operators.specs.curve_call.proofs.Limited.{deconvolve_least, frame_within, refused_cause}
+use Rattle.curve_call.proofs.Limited.{deconvolve_least, frame_within, refused_cause}
 use Rattle.curve_deconv.proofs.operator.slower_answer.Goals as goal
 
 pub returns-in_err-frame-clause-limits : goal.returns-in_err-frame-clause-limits

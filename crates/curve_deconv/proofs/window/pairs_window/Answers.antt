@@ -1,7 +1,7 @@
 use Rattle.std.proofs.Common.{◌∙◌, ap₂, sym, subst, List}
-use Rattle.upp_limits.specs.rational.proofs.Laws.{le_of_lt}
-use Rattle.upp_limits.specs.rational.specs.Extended.{Ext}
-use Rattle.upp_limits.specs.upp_curve.specs.declared.affine_segment.line.Piece.{Piece}
+use Rattle.rational.proofs.Laws.{le_of_lt}
+use Rattle.rational.specs.Extended.{Ext}
+use Rattle.upp_curve.specs.declared.affine_segment.line.Piece.{Piece}
 use Rattle.curve_deconv.specs.Mirrored.{mirror_pieces, AreMirrorable}
 use Rattle.curve_deconv.proofs.Pairs.{mirrors_fit, reach_fits, pairs_room, ok_pairs}
 use Rattle.curve_deconv.proofs.window.pairs_window.Goals as goal

@@ -1,5 +1,5 @@
 use Rattle.std.proofs.Common.{◌∙◌, sym, subst}
-use Rattle.upp_limits.specs.rational.proofs.Laws.{le_of_lt}
+use Rattle.rational.proofs.Laws.{le_of_lt}
 use Rattle.curve_deconv.specs.DeconvolutionWindows.{IsRaisedWindow}
 use Rattle.curve_deconv.proofs.Moved.{raised_starts, zero_fits, each_left_fits, ok_deconvolved}
 use Rattle.curve_deconv.proofs.window.window_deconvolution.Goals.{After-deref}

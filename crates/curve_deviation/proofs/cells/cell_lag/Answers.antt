@@ -1,10 +1,10 @@
 use Rattle.std.proofs.Common.{refl, sym, subst}
-use Rattle.upp_limits.specs.upp_curve.specs.affine_segment.Values.{line_at}
+use Rattle.upp_curve.specs.affine_segment.Values.{line_at}
 use Rattle.curve_deviation.specs.Cells.{IsCellLag}
 use Rattle.curve_deviation.proofs.CellLag.{apart_lag}
 use Rattle.curve_deviation.proofs.CellSizes.{times_differ, less_as, not_less_as}
 use Rattle.curve_deviation.proofs.cells.cell_lag.Goals as goal
-use Rattle.upp_limits.specs.rational.proofs.Compared.{least_by_test}
+use Rattle.rational.proofs.Compared.{least_by_test}
 
 pub difference-requires : goal.difference-requires
 difference-requires c = let w = c.requires.sizes in times_differ w.0 w.1 c.args.c.now.until c.args.c.now.start w.2.limited w.2.until w.2.start

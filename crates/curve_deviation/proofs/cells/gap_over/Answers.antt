@@ -1,5 +1,5 @@
 use Rattle.std.proofs.Common.{◌∙◌}
-use Rattle.upp_limits.specs.rational.proofs.Laws.{not_zero}
+use Rattle.rational.proofs.Laws.{not_zero}
 use Rattle.curve_deviation.proofs.CellSizes.{value_fits, gap_as, gap_is, quotient_as, quotient_is}
 use Rattle.curve_deviation.proofs.cells.gap_over.Goals as goal
 

@@ -1,6 +1,6 @@
 use Rattle.std.proofs.Common.{refl, sym, subst}
-use Rattle.upp_limits.specs.rational.proofs.Laws.{lt_le_trans}
-use Rattle.upp_limits.specs.upp_curve.specs.affine_segment.Values.{line_at}
+use Rattle.rational.proofs.Laws.{lt_le_trans}
+use Rattle.upp_curve.specs.affine_segment.Values.{line_at}
 use Rattle.curve_deviation.specs.Cells.{IsCellLag}
 use Rattle.curve_deviation.proofs.CellLag.{gets_higher, starting_lag, owed_lag}
 use Rattle.curve_deviation.proofs.CellSizes.{less_as, not_less_as}

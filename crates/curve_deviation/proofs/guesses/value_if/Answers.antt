@@ -1,6 +1,6 @@
 use Rattle.std.proofs.Common.{subst}
-use Rattle.upp_limits.specs.rational.specs.Rational.{ℚ, ◌≤ℚ◌}
-use Rattle.upp_limits.specs.rational.proofs.Compared.{least_by_test}
+use Rattle.rational.specs.Rational.{ℚ, ◌≤ℚ◌}
+use Rattle.rational.proofs.Compared.{least_by_test}
 use Rattle.curve_deviation.proofs.guesses.value_if.Goals as goal
 
 pub value_at-requires : goal.value_at-requires

@@ -1,5 +1,5 @@
 use Rattle.std.proofs.Common.{sym, subst, ◌∙◌}
-use Rattle.curve_call.specs.upp_normal.specs.Ahead.{IsTimeIn}
+use Rattle.upp_normal.specs.Ahead.{IsTimeIn}
 use Rattle.upp_limits.specs.declared.op_kind.OpKind.TheVariants.{Horizontal}
 use Rattle.curve_call.specs.Frames.{sizes_at}
 use Rattle.curve_deviation.proofs.WindowTimes.{window_times, once_is}

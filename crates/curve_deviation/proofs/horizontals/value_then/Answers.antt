@@ -1,9 +1,9 @@
 use Rattle.std.proofs.Common.{sym, subst, pos, ◌∙◌}
-use Rattle.upp_limits.specs.rational.specs.Rational.{int, ◌≤ℚ◌}
-use Rattle.upp_limits.specs.min_plus.proofs.FiniteValues.{no_inf}
+use Rattle.rational.specs.Rational.{int, ◌≤ℚ◌}
+use Rattle.min_plus.proofs.FiniteValues.{no_inf}
 use Rattle.curve_deviation.proofs.PeriodsFound.{steady_not_wide}
 use Rattle.curve_deviation.proofs.horizontals.value_then.Goals as goal
-use Rattle.upp_limits.specs.upp_curve.proofs.SteadyTimes.{steady_nonneg}
+use Rattle.upp_curve.proofs.SteadyTimes.{steady_nonneg}
 
 pub value_at-requires : goal.value_at-requires
 value_at-requires c = subst (λ t. int (pos 0) ≤ℚ t) (sym c.requires.time) (steady_nonneg c.args.c.now c.keeps.ensures)

@@ -1,4 +1,4 @@
-use Rattle.upp_limits.specs.rational.proofs.Compared.{iff_trans}
+use Rattle.rational.proofs.Compared.{iff_trans}
 use Rattle.upp_limits.proofs.LevelCurves.{levels_above}
 use Rattle.curve_deviation.proofs.known.ends_above.Goals as goal
 

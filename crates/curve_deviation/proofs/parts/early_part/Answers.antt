@@ -1,7 +1,7 @@
 use Rattle.std.proofs.Common.{ap, ◌∙◌, subst, sym}
-use Rattle.upp_limits.specs.upp_curve.specs.affine_segment.Pieces.{StartsAtZero}
-use Rattle.upp_limits.specs.upp_curve.specs.affine_segment.Fits.{ReadFits}
-use Rattle.upp_limits.specs.upp_curve.specs.affine_segment.Reading.{read, line_in}
+use Rattle.upp_curve.specs.affine_segment.Pieces.{StartsAtZero}
+use Rattle.upp_curve.specs.affine_segment.Fits.{ReadFits}
+use Rattle.upp_curve.specs.affine_segment.Reading.{read, line_in}
 use Rattle.curve_deviation.proofs.EarlyParts.{early_here, kept_goes, kept_stands, as_until}
 use Rattle.curve_deviation.proofs.parts.early_part.Goals as goal
 

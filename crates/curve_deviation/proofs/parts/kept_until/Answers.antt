@@ -1,4 +1,4 @@
-use Rattle.upp_limits.specs.upp_curve.specs.declared.curve.Tail.TheVariants.{Affine, Infinite}
+use Rattle.upp_curve.specs.declared.curve.Tail.TheVariants.{Affine, Infinite}
 use Rattle.curve_deviation.proofs.EarlyParts.{kept_first, kept_whole}
 use Rattle.curve_deviation.proofs.parts.kept_until.Goals as goal
 

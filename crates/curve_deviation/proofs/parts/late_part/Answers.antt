@@ -1,5 +1,5 @@
 use Rattle.std.proofs.Common.{refl}
-use Rattle.upp_limits.specs.upp_curve.specs.Curve.{value_at}
+use Rattle.upp_curve.specs.Curve.{value_at}
 use Rattle.curve_deviation.proofs.EarlyParts.{seen_window, late_goes, late_stands}
 use Rattle.curve_deviation.proofs.parts.late_part.Goals as goal
 

@@ -1,5 +1,5 @@
-use Rattle.upp_limits.specs.rational.proofs.Laws.{le_lt_trans}
-use Rattle.upp_limits.specs.rational.proofs.Compared.{least_by_test}
+use Rattle.rational.proofs.Laws.{le_lt_trans}
+use Rattle.rational.proofs.Compared.{least_by_test}
 use Rattle.curve_deviation.proofs.parts.part_at.Goals as goal
 
 pub late_part-requires-clause-late : goal.late_part-requires-clause-late

@@ -1,5 +1,5 @@
 use Rattle.std.proofs.Common.{◌∙◌, ap}
-use Rattle.upp_limits.specs.upp_curve.proofs.affine_segment.PieceIn.{read_found}
+use Rattle.upp_curve.proofs.affine_segment.PieceIn.{read_found}
 use Rattle.curve_deviation.proofs.EarlyParts.{fits_found, line_found}
 use Rattle.curve_deviation.proofs.parts.plain_part.Goals as goal
 use Rattle.curve_call.specs.GapSteps.{earlier_of}

@@ -1,13 +1,13 @@
 use Rattle.std.proofs.Common.{sym, subst, ap, ◌∙◌}
-use Rattle.upp_limits.specs.rational.specs.Rational.{◌-ℚ◌, neg_ℚ}
-use Rattle.upp_limits.specs.rational.specs.Ratio.{SumFits}
-use Rattle.curve_call.specs.upp_normal.specs.Ahead.{IsTimeIn}
+use Rattle.rational.specs.Rational.{◌-ℚ◌, neg_ℚ}
+use Rattle.rational.specs.Ratio.{SumFits}
+use Rattle.upp_normal.specs.Ahead.{IsTimeIn}
 use Rattle.upp_limits.specs.declared.op_kind.OpKind.TheVariants.{Horizontal}
 use Rattle.curve_call.specs.Frames.{sizes_at}
 use Rattle.curve_deviation.proofs.WindowTimes.{window_times}
 use Rattle.curve_deviation.proofs.Searching.{left_is}
 use Rattle.curve_deviation.proofs.search.has_left.Goals as goal
-use Rattle.upp_limits.specs.rational.proofs.Laws.{le_of_not_lt}
+use Rattle.rational.proofs.Laws.{le_of_not_lt}
 
 pub difference-requires : goal.difference-requires
 difference-requires c =

@@ -1,11 +1,11 @@
 use Rattle.std.proofs.Common.{sym, subst}
-use Rattle.curve_call.specs.upp_normal.specs.Ahead.{IsTimeIn}
+use Rattle.upp_normal.specs.Ahead.{IsTimeIn}
 use Rattle.upp_limits.specs.declared.op_kind.OpKind.TheVariants.{Horizontal}
 use Rattle.curve_call.specs.Frames.{sizes_at}
 use Rattle.curve_deviation.proofs.WindowTimes.{window_times}
 use Rattle.curve_deviation.proofs.Searching.{reached_is}
 use Rattle.curve_deviation.proofs.search.is_below.Goals as goal
-use Rattle.upp_limits.specs.rational.proofs.Laws.{le_of_not_lt}
+use Rattle.rational.proofs.Laws.{le_of_not_lt}
 
 pub difference-time-requires : goal.difference-time-requires
 difference-time-requires c =

@@ -1,7 +1,7 @@
 use Rattle.std.proofs.Common.{pos, sym, subst}
-use Rattle.upp_limits.specs.rational.specs.Rational.{int, ◌+ℚ◌}
-use Rattle.upp_limits.specs.upp_curve.specs.Curve.{value_at}
-use Rattle.curve_call.specs.upp_normal.specs.Ahead.{HasWindow, IsTimeIn}
+use Rattle.rational.specs.Rational.{int, ◌+ℚ◌}
+use Rattle.upp_curve.specs.Curve.{value_at}
+use Rattle.upp_normal.specs.Ahead.{HasWindow, IsTimeIn}
 use Rattle.curve_call.specs.declared.gaps.Gap.TheVariants.{NoTime, Never, Is}
 use Rattle.curve_call.specs.Gaps.{InWindow, IsGap}
 use Rattle.curve_call.proofs.LeastNumber.{end_fits}

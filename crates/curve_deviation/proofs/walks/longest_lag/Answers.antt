@@ -1,8 +1,8 @@
 use Rattle.std.proofs.Common.{refl, sym, subst}
-use Rattle.upp_limits.specs.rational.specs.Rational.{◌<ℚ◌}
-use Rattle.upp_limits.specs.rational.proofs.Laws.{le_lt_trans}
-use Rattle.upp_limits.specs.rational.proofs.Compared.{least_by_test}
-use Rattle.upp_limits.specs.upp_curve.specs.Curve.{value_at}
+use Rattle.rational.specs.Rational.{◌<ℚ◌}
+use Rattle.rational.proofs.Laws.{le_lt_trans}
+use Rattle.rational.proofs.Compared.{least_by_test}
+use Rattle.upp_curve.specs.Curve.{value_at}
 use Rattle.curve_deviation.proofs.RisingParts.{time_to, cell_rises}
 use Rattle.curve_deviation.proofs.Walk.{walk_start, walk_end}
 use Rattle.curve_deviation.proofs.Sights.{cell_seen, sizes_seen, levels_seen, one_passed, seen_first, passed_on, zero_in, end_to}

@@ -1,4 +1,4 @@
-use Rattle.upp_limits.specs.upp_curve.specs.Curve.{value_at}
+use Rattle.upp_curve.specs.Curve.{value_at}
 use Rattle.curve_deviation.specs.Sights.{Sees}
 use Rattle.curve_deviation.proofs.Walk.{IsWalked, steps_left}
 use Rattle.curve_deviation.proofs.walks.longest_lag.Given as goal

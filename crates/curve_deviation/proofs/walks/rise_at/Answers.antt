@@ -1,4 +1,4 @@
-use Rattle.upp_limits.specs.upp_curve.specs.Curve.{value_at}
+use Rattle.upp_curve.specs.Curve.{value_at}
 use Rattle.curve_deviation.proofs.CellSizes.{value_fits}
 use Rattle.curve_deviation.proofs.RisingParts.{part_line, time_to, rise_of, rise_sizes}
 use Rattle.curve_deviation.proofs.walks.rise_at.Goals as goal

@@ -1,5 +1,5 @@
 use Rattle.std.proofs.Common.{refl, sym, true≢false}
-use Rattle.upp_limits.specs.upp_curve.specs.Curve.{value_at}
+use Rattle.upp_curve.specs.Curve.{value_at}
 use Rattle.curve_deviation.proofs.RisingParts.{time_to}
 use Rattle.curve_deviation.proofs.Sights.{time_in, end_to, second_on, first_on, none_on}
 use Rattle.curve_deviation.proofs.walks.sight_after.Goals as goal

@@ -1,6 +1,6 @@
 use Rattle.std.proofs.Common.{arith, ap, ◌∙◌, ◌≡◌, pos}
 use Rattle.std.proofs.lemmas.Int.{ints}
-use Rattle.upp_limits.specs.rational.specs.Rational.{den}
+use Rattle.rational.specs.Rational.{den}
 use Rattle.curve_lang.proofs.Packets.{den_whole, num_whole}
 use Rattle.curve_lang.proofs.kinds.packet_bits.Goals as goal
 use Rattle.curve_lang.proofs.kinds.packet_bits.Goals.{then-bits-lt1-via-then-bits-lt1, then-bits-lt1-via-else-bits-lt1+then-bits-gt-MOST_BITS}

@@ -1,7 +1,7 @@
 use Rattle.std.proofs.Common.{subst, inl, inr}
-use Rattle.upp_limits.specs.rational.proofs.Laws.{lt_irrefl}
-use Rattle.upp_limits.specs.min_plus.specs.Functions.{zero_q}
-use Rattle.upp_limits.specs.upp_curve.specs.Kinds.{bucket}
+use Rattle.rational.proofs.Laws.{lt_irrefl}
+use Rattle.min_plus.specs.Functions.{zero_q}
+use Rattle.upp_curve.specs.Kinds.{bucket}
 use Rattle.curve_library.specs.Causes.{OneNegative}
 use Rattle.curve_lang.specs.Finding.{BucketFinds, zero_curve}
 use Rattle.curve_lang.specs.Views.{found}

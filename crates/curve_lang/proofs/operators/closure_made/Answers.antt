@@ -1,6 +1,6 @@
 use Rattle.std.proofs.Common.{subst}
 use Rattle.std.specs.Prelude.{IfOk}
-use Rattle.upp_limits.specs.upp_curve.specs.Curves.{IsCurve}
+use Rattle.upp_curve.specs.Curves.{IsCurve}
 use Rattle.curve_lang.specs.Sharing.{CallKept}
 use Rattle.curve_lang.specs.Views.{found}
 use Rattle.curve_lang.proofs.Kept.{close_found}

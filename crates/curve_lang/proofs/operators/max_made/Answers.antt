@@ -1,6 +1,6 @@
 use Rattle.std.proofs.Common.{inl}
 use Rattle.upp_limits.specs.declared.op_kind.OpKind.TheVariants as calls
-use Rattle.plain_operators.specs.curve_call.proofs.Applied.{applied_seen}
+use Rattle.curve_call.proofs.Applied.{applied_seen}
 use Rattle.curve_lang.specs.Views.{found}
 use Rattle.curve_lang.proofs.Kept.{call_found}
 use Rattle.curve_lang.proofs.operators.max_made.Goals as goal

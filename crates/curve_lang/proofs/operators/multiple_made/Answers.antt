@@ -1,9 +1,9 @@
 use Rattle.std.proofs.Common.{refl, sym, subst, inl, inr, true≢false}
-use Rattle.upp_limits.specs.rational.specs.Rational.{◌≤ℚ◌, ◌<ℚ◌}
-use Rattle.upp_limits.specs.rational.proofs.Compared.{not_less_out}
-use Rattle.upp_limits.specs.rational.proofs.Laws.{not_le_of_lt}
+use Rattle.rational.specs.Rational.{◌≤ℚ◌, ◌<ℚ◌}
+use Rattle.rational.proofs.Compared.{not_less_out}
+use Rattle.rational.proofs.Laws.{not_le_of_lt}
 use Rattle.upp_limits.specs.declared.op_kind.OpKind.TheVariants as calls
-use Rattle.plain_operators.specs.curve_call.proofs.Applied.{applied_seen}
+use Rattle.curve_call.proofs.Applied.{applied_seen}
 use Rattle.curve_lang.specs.Views.{found}
 use Rattle.curve_lang.proofs.Kept.{call_found}
 use Rattle.curve_lang.proofs.operators.multiple_made.Goals as goal

@@ -1,7 +1,7 @@
 use Rattle.std.proofs.Common.{refl, sym, subst, inl, inr, true≢false}
 use Rattle.std.specs.Prelude.{IfOk, Err}
-use Rattle.upp_limits.specs.min_plus.specs.Deviations.{IsHorizontalDeviation}
-use Rattle.upp_limits.specs.upp_curve.specs.Curve.{value_at}
+use Rattle.min_plus.specs.Deviations.{IsHorizontalDeviation}
+use Rattle.upp_curve.specs.Curve.{value_at}
 use Rattle.upp_limits.specs.Outcome.{KeepsLimits}
 use Rattle.upp_limits.specs.declared.op_kind.OpKind.TheVariants as calls
 use Rattle.curve_lang.specs.Finding.{CallFinds}

@@ -1,7 +1,7 @@
 use Rattle.std.proofs.Common.{refl, subst, inl, inr}
-use Rattle.upp_limits.specs.rational.specs.Rational.{◌≤ℚ◌, ◌<ℚ◌}
-use Rattle.upp_limits.specs.rational.proofs.Compared.{not_less_out}
-use Rattle.upp_limits.specs.rational.proofs.Laws.{not_le_of_lt}
+use Rattle.rational.specs.Rational.{◌≤ℚ◌, ◌<ℚ◌}
+use Rattle.rational.proofs.Compared.{not_less_out}
+use Rattle.rational.proofs.Laws.{not_le_of_lt}
 use Rattle.curve_lang.specs.Finding.{ValueFinds, goes_on, stops}
 use Rattle.curve_lang.proofs.questions.value_told.Goals as goal
 

@@ -1,13 +1,13 @@
 use Rattle.std.proofs.Common.{◌≡◌, sym, ap, subst, ◌∙◌}
-use Rattle.upp_limits.specs.rational.specs.Rational.{◌+ℚ◌, ◌-ℚ◌, neg_ℚ}
-use Rattle.upp_limits.specs.rational.specs.Ratio.{SumFits}
-use Rattle.upp_limits.specs.rational.specs.Extended.{◌+ₑ◌}
-use Rattle.upp_limits.specs.rational.specs.declared.Extended.TheVariants.{Fin, Inf}
-use Rattle.upp_limits.specs.upp_curve.specs.Curve.{value_at}
-use Rattle.upp_limits.specs.upp_curve.specs.Steady.{rise_over}
+use Rattle.rational.specs.Rational.{◌+ℚ◌, ◌-ℚ◌, neg_ℚ}
+use Rattle.rational.specs.Ratio.{SumFits}
+use Rattle.rational.specs.Extended.{◌+ₑ◌}
+use Rattle.rational.specs.declared.Extended.TheVariants.{Fin, Inf}
+use Rattle.upp_curve.specs.Curve.{value_at}
+use Rattle.upp_curve.specs.Steady.{rise_over}
 use Rattle.upp_limits.specs.Periods.{own_period}
 use Rattle.upp_normal.specs.Ahead.{IsTimeIn, GridValue}
-use Rattle.plain_operators.specs.curve_call.specs.Rises.{CurveRiseFits}
+use Rattle.curve_call.specs.Rises.{CurveRiseFits}
 use Rattle.curve_lang.specs.Finding.{value_end}
 use Rattle.curve_lang.proofs.ValueTimes.{value_sizes, past_steps, past_value, past_sum}
 use Rattle.curve_lang.proofs.values.late_value.Goals as goal

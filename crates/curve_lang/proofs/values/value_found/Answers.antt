@@ -1,7 +1,7 @@
 use Rattle.std.proofs.Common.{ap, subst, ◌∙◌}
-use Rattle.upp_limits.specs.rational.specs.Rational.{◌≤ℚ◌, ◌<ℚ◌}
-use Rattle.upp_limits.specs.rational.specs.MinMax.{max_q}
-use Rattle.upp_limits.specs.rational.proofs.Compared.{not_less_out}
+use Rattle.rational.specs.Rational.{◌≤ℚ◌, ◌<ℚ◌}
+use Rattle.rational.specs.MinMax.{max_q}
+use Rattle.rational.proofs.Compared.{not_less_out}
 use Rattle.curve_lang.specs.Finding.{value_end}
 use Rattle.curve_lang.proofs.ValueTimes.{value_sizes, none_is, no_window, window_end, has_window, early_time}
 use Rattle.curve_lang.proofs.values.value_found.Goals as goal

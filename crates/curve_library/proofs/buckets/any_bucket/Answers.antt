@@ -1,7 +1,7 @@
 use Rattle.std.proofs.Common.{subst, ◌<◌, ◌^◌}
 use Rattle.std.specs.Prelude.{nat_abs}
-use Rattle.upp_limits.specs.rational.specs.Ratio.{IsSmall}
-use Rattle.upp_limits.specs.upp_curve.proofs.ReadableKinds.{bucket_curve}
+use Rattle.rational.specs.Ratio.{IsSmall}
+use Rattle.upp_curve.proofs.ReadableKinds.{bucket_curve}
 use Rattle.curve_library.proofs.buckets.any_bucket.Goals as goal
 
 pub from_normal-requires : goal.from_normal-requires

@@ -1,5 +1,5 @@
-use Rattle.upp_limits.specs.min_plus.specs.Functions.{zero_q}
-use Rattle.upp_limits.specs.upp_curve.proofs.ByTail.{bucket_normal}
+use Rattle.min_plus.specs.Functions.{zero_q}
+use Rattle.upp_curve.proofs.ByTail.{bucket_normal}
 use Rattle.curve_library.proofs.formed.straight.Goals as goal
 
 pub of_normal-requires : goal.of_normal-requires

@@ -1,5 +1,5 @@
 use Rattle.upp_normal.specs.Normalising.{raw_curve}
-use Rattle.upp_limits.specs.upp_curve.proofs.OneForm.{normal_unique}
+use Rattle.upp_curve.proofs.OneForm.{normal_unique}
 use Rattle.curve_library.proofs.formed.unchanged.Goals as goal
 
 pub returns-in-Ok : goal.returns-in-Ok

@@ -1,12 +1,12 @@
 use Rattle.std.specs.Prelude.{◌≡◌}
 use Rattle.std.proofs.Common.{inl, inr}
-use Rattle.upp_limits.specs.rational.specs.Rational.{ℚ, ◌≤ℚ◌}
-use Rattle.upp_limits.specs.rational.proofs.Laws.{le_of_not_lt}
-use Rattle.upp_limits.specs.upp_curve.specs.Curve.{value_at}
-use Rattle.upp_limits.specs.min_plus.specs.Functions.{zero_q}
-use Rattle.upp_limits.specs.upp_curve.specs.Kinds.{gate}
-use Rattle.upp_limits.specs.min_plus.specs.Formulas.{gate_value}
-use Rattle.upp_limits.specs.upp_curve.proofs.GateValues.{gate_is}
+use Rattle.rational.specs.Rational.{ℚ, ◌≤ℚ◌}
+use Rattle.rational.proofs.Laws.{le_of_not_lt}
+use Rattle.upp_curve.specs.Curve.{value_at}
+use Rattle.min_plus.specs.Functions.{zero_q}
+use Rattle.upp_curve.specs.Kinds.{gate}
+use Rattle.min_plus.specs.Formulas.{gate_value}
+use Rattle.upp_curve.proofs.GateValues.{gate_is}
 use Rattle.curve_library.specs.Causes.{OneNegative, NoSlot}
 use Rattle.curve_library.proofs.Answering.{first_of, made_of, never_many}
 use Rattle.curve_library.proofs.GateParts.{slots_of, gate_few}

@@ -1,7 +1,7 @@
 use Rattle.std.proofs.Common.{sym, subst}
 use Rattle.std.proofs.lemmas.Bool.{true≢false}
-use Rattle.upp_limits.specs.rational.specs.Rational.{◌*ℚ◌}
-use Rattle.upp_limits.specs.rational.specs.Ratio.{IsSmall}
+use Rattle.rational.specs.Rational.{◌*ℚ◌}
+use Rattle.rational.specs.Ratio.{IsSmall}
 use Rattle.curve_library.proofs.GateParts.{gate_wide}
 use Rattle.curve_library.proofs.gates.gate_numbers.Goals as goal
 

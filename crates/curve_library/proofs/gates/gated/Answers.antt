@@ -1,4 +1,4 @@
-use Rattle.upp_limits.specs.upp_curve.proofs.KindForms.{gated_normal}
+use Rattle.upp_curve.proofs.KindForms.{gated_normal}
 use Rattle.curve_library.proofs.gates.gated.Goals as goal
 
 pub of_normal-requires : goal.of_normal-requires

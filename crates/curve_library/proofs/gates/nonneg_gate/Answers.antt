@@ -1,5 +1,5 @@
 use Rattle.std.proofs.Common.{subst}
-use Rattle.upp_limits.specs.rational.proofs.Compared.{not_less_out}
+use Rattle.rational.proofs.Compared.{not_less_out}
 use Rattle.curve_library.specs.Causes.{KeepsOwnLimits}
 use Rattle.curve_library.proofs.SignTests.{positive_out, nonpos_out}
 use Rattle.curve_library.proofs.GateParts.{no_rate, never_closed, is_gated}

@@ -1,7 +1,7 @@
 use Rattle.std.proofs.Common.{inl, inr}
-use Rattle.upp_limits.specs.rational.proofs.Laws.{antisym}
-use Rattle.upp_limits.specs.rational.proofs.Compared.{not_less_out}
-use Rattle.upp_limits.specs.upp_curve.specs.Kinds.{gate}
+use Rattle.rational.proofs.Laws.{antisym}
+use Rattle.rational.proofs.Compared.{not_less_out}
+use Rattle.upp_curve.specs.Kinds.{gate}
 use Rattle.curve_library.specs.Causes.{OneNegative, NoSlot}
 use Rattle.curve_library.proofs.Answering.{causes_of}
 use Rattle.curve_library.proofs.SignTests.{nonneg_out, nonpos_out, positive_out, none_negative}

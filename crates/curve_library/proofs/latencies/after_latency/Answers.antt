@@ -1,6 +1,6 @@
 use Rattle.std.proofs.Common.{sym}
 use Rattle.std.proofs.lemmas.Bool.{true≢false}
-use Rattle.upp_limits.specs.upp_curve.proofs.KindForms.{late_normal}
+use Rattle.upp_curve.proofs.KindForms.{late_normal}
 use Rattle.curve_library.proofs.LateParts.{late_wide}
 use Rattle.curve_library.proofs.latencies.after_latency.Goals as goal
 

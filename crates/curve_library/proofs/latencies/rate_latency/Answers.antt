@@ -1,11 +1,11 @@
 use Rattle.std.specs.Prelude.{◌≡◌}
-use Rattle.upp_limits.specs.rational.specs.Rational.{ℚ, ◌≤ℚ◌}
-use Rattle.upp_limits.specs.rational.proofs.Laws.{le_of_not_lt}
-use Rattle.upp_limits.specs.upp_curve.specs.Curve.{value_at}
-use Rattle.upp_limits.specs.min_plus.specs.Functions.{zero_q}
-use Rattle.upp_limits.specs.upp_curve.specs.Kinds.{rate_latency}
-use Rattle.upp_limits.specs.min_plus.specs.Formulas.{rate_latency_value}
-use Rattle.upp_limits.specs.upp_curve.proofs.KindValues.{service_is}
+use Rattle.rational.specs.Rational.{ℚ, ◌≤ℚ◌}
+use Rattle.rational.proofs.Laws.{le_of_not_lt}
+use Rattle.upp_curve.specs.Curve.{value_at}
+use Rattle.min_plus.specs.Functions.{zero_q}
+use Rattle.upp_curve.specs.Kinds.{rate_latency}
+use Rattle.min_plus.specs.Formulas.{rate_latency_value}
+use Rattle.upp_curve.proofs.KindValues.{service_is}
 use Rattle.std.proofs.Common.{inl, inr}
 use Rattle.curve_library.specs.Causes.{OneNegative}
 use Rattle.curve_library.proofs.Answering.{first_of, made_of, never_many}

@@ -1,4 +1,4 @@
-use Rattle.upp_limits.specs.upp_curve.specs.Curve.{SpecCurve}
+use Rattle.upp_curve.specs.Curve.{SpecCurve}
 use Rattle.curve_library.proofs.ListedParts.{both_of}
 use Rattle.curve_library.proofs.listing.limited_and_shaped.Goals as goal
 

@@ -1,8 +1,8 @@
 use Rattle.std.proofs.Common.{sym, subst, ap₂}
 use Rattle.std.proofs.lemmas.Bool.{true≢false}
-use Rattle.upp_limits.specs.rational.specs.Rational.{ℚ, ◌/ℚ◌}
-use Rattle.upp_limits.specs.rational.specs.Ratio.{IsSmall}
-use Rattle.upp_limits.specs.rational.proofs.Quotients.{quotient_small}
+use Rattle.rational.specs.Rational.{ℚ, ◌/ℚ◌}
+use Rattle.rational.specs.Ratio.{IsSmall}
+use Rattle.rational.proofs.Quotients.{quotient_small}
 use Rattle.curve_library.proofs.SharesAre.{grid_some, div_times}
 use Rattle.curve_library.proofs.shares.on_grid.Goals as goal
 

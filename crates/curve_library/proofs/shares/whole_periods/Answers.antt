@@ -1,6 +1,6 @@
 use Rattle.std.proofs.Common.{arith, ap₂, sym, ◌∙◌, ◌≡◌, ◌≤◌, ◌^◌, ◌*◌, ◌/◌, ℕ, subst}
-use Rattle.upp_limits.specs.rational.specs.Gauge.{lcm}
-use Rattle.upp_limits.specs.rational.specs.Rational.{den}
+use Rattle.rational.specs.Gauge.{lcm}
+use Rattle.rational.specs.Rational.{den}
 use Rattle.std.specs.Option.{MatchOption}
 use Rattle.curve_library.specs.Shares.{IsQuotient, SharesFit, AreShares}
 use Rattle.curve_library.proofs.SharesAre.{step_some, count_far, shares_are}

@@ -1,5 +1,5 @@
 use Rattle.std.proofs.Common.{subst, sym}
-use Rattle.upp_limits.specs.upp_curve.specs.Normal.{IsNormal}
+use Rattle.upp_curve.specs.Normal.{IsNormal}
 use Rattle.curve_library.specs.Causes.{KeepsOwnLimits}
 use Rattle.curve_library.proofs.SignTests.{nonpos_out, positive_out}
 use Rattle.curve_library.proofs.StairParts.{is_one, is_two, second_wide}

@@ -1,6 +1,6 @@
 use Rattle.std.proofs.Common.{arith, ap, sym, ◌∙◌, ◌≡◌, ◌+◌, ◌*◌, suc, pos}
-use Rattle.upp_limits.specs.rational.specs.Rational.{int}
-use Rattle.upp_limits.specs.rational.proofs.Integers.{int_mul}
+use Rattle.rational.specs.Rational.{int}
+use Rattle.rational.proofs.Integers.{int_mul}
 use Rattle.curve_library.proofs.stairs.packets.Goals as goal
 
 pub returns-in-Some : goal.returns-in-Some

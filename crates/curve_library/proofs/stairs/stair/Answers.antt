@@ -1,12 +1,12 @@
 use Rattle.std.specs.Prelude.{◌≡◌, pos}
-use Rattle.upp_limits.specs.rational.specs.Rational.{ℚ, int, ◌≤ℚ◌, ◌<ℚ◌}
-use Rattle.upp_limits.specs.rational.proofs.Laws.{le_of_not_lt, lt_of_not_le}
-use Rattle.upp_limits.specs.rational.proofs.Integers.{nat_nonneg}
-use Rattle.upp_limits.specs.upp_curve.specs.Curve.{value_at}
-use Rattle.upp_limits.specs.min_plus.specs.Functions.{zero_q}
-use Rattle.upp_limits.specs.upp_curve.specs.Kinds.{stair}
-use Rattle.upp_limits.specs.min_plus.specs.Formulas.{stair_value}
-use Rattle.upp_limits.specs.upp_curve.proofs.StairValues.{stair_is}
+use Rattle.rational.specs.Rational.{ℚ, int, ◌≤ℚ◌, ◌<ℚ◌}
+use Rattle.rational.proofs.Laws.{le_of_not_lt, lt_of_not_le}
+use Rattle.rational.proofs.Integers.{nat_nonneg}
+use Rattle.upp_curve.specs.Curve.{value_at}
+use Rattle.min_plus.specs.Functions.{zero_q}
+use Rattle.upp_curve.specs.Kinds.{stair}
+use Rattle.min_plus.specs.Formulas.{stair_value}
+use Rattle.upp_curve.proofs.StairValues.{stair_is}
 use Rattle.curve_library.proofs.Answering.{first_of, made_of, never_many}
 use Rattle.curve_library.proofs.StairParts.{stair_few}
 use Rattle.curve_library.proofs.stairs.stair.Goals as goal

@@ -1,7 +1,7 @@
 use Rattle.std.proofs.Common.{arith, subst, sym, ap, ◌∙◌, ◌<◌, ◌*◌, ◌^◌, suc, pos}
-use Rattle.upp_limits.specs.rational.specs.Rational.{int, ◌*ℚ◌, ◌≤ℚ◌}
-use Rattle.upp_limits.specs.min_plus.specs.Functions.{zero_q}
-use Rattle.upp_limits.specs.upp_curve.specs.Normal.{IsNormal}
+use Rattle.rational.specs.Rational.{int, ◌*ℚ◌, ◌≤ℚ◌}
+use Rattle.min_plus.specs.Functions.{zero_q}
+use Rattle.upp_curve.specs.Normal.{IsNormal}
 use Rattle.curve_library.specs.Causes.{KeepsOwnLimits}
 use Rattle.curve_library.proofs.StairParts.{steps_same, is_steps, steps_normal, late_low, stair_wide, first_of, late_of}
 use Rattle.curve_library.proofs.stairs.stair_steps.Goals as goal

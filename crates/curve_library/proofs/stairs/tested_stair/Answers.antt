@@ -1,8 +1,8 @@
 use Rattle.std.proofs.Common.{subst, sym, ap, ◌∙◌, pos}
-use Rattle.upp_limits.specs.rational.specs.Rational.{int, ◌≤ℚ◌, ◌<ℚ◌}
-use Rattle.upp_limits.specs.rational.proofs.Laws.{not_le_of_lt}
-use Rattle.upp_limits.specs.min_plus.specs.Functions.{zero_q}
-use Rattle.upp_limits.specs.upp_curve.specs.Kinds.{bucket, stair}
+use Rattle.rational.specs.Rational.{int, ◌≤ℚ◌, ◌<ℚ◌}
+use Rattle.rational.proofs.Laws.{not_le_of_lt}
+use Rattle.min_plus.specs.Functions.{zero_q}
+use Rattle.upp_curve.specs.Kinds.{bucket, stair}
 use Rattle.curve_library.specs.Causes.{KeepsOwnLimits}
 use Rattle.curve_library.proofs.Answering.{causes_of}
 use Rattle.curve_library.proofs.SignTests.{nonneg_out, nonpos_out, positive_out}

@@ -1,4 +1,4 @@
-use Rattle.upp_limits.specs.rational.proofs.Laws.{le_refl}
+use Rattle.rational.proofs.Laws.{le_refl}
 use Rattle.curve_library.proofs.text_limits.end_past.Goals as goal
 
 pub keeps_line-requires : goal.keeps_line-requires

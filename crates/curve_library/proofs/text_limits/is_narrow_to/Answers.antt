@@ -1,6 +1,6 @@
 use Rattle.std.proofs.Common.{◌↔◌, ◌<◌, ◌^◌, subst, sym, true≢false, IsTrue}
-use Rattle.upp_limits.specs.rational.specs.Rational.{◌<ℚ◌}
-use Rattle.upp_limits.specs.upp_curve.specs.affine_segment.Pieces.{Each}
+use Rattle.rational.specs.Rational.{◌<ℚ◌}
+use Rattle.upp_curve.specs.affine_segment.Pieces.{Each}
 use Rattle.upp_limits.specs.ClosedForm.{closed_numbers, closed_spans, tail_numbers}
 use Rattle.upp_limits.specs.Gathered.{Gathers}
 use Rattle.upp_limits.specs.Limits.{joined, no_numbers, time_alone}

@@ -1,6 +1,6 @@
 use Rattle.std.proofs.Common.{refl, true≢false, sym, subst, ◌∙◌}
-use Rattle.upp_limits.specs.rational.specs.Rational.{◌+ℚ◌, ◌<ℚ◌}
-use Rattle.upp_limits.specs.rational.proofs.Laws.{one_mul}
+use Rattle.rational.specs.Rational.{◌+ℚ◌, ◌<ℚ◌}
+use Rattle.rational.proofs.Laws.{one_mul}
 use Rattle.curve_library.specs.declared.texts.PieceText.{PieceText}
 use Rattle.curve_library.proofs.TextLoops.{all_on, all_off, all_end}
 use Rattle.curve_library.proofs.texts.are_before.Goals as goal

@@ -1,6 +1,6 @@
 use Rattle.std.specs.List.{AllByRecursion}
 use Rattle.std.proofs.Common.{◌↔◌, drop}
-use Rattle.upp_limits.specs.rational.specs.Rational.{◌+ℚ◌, ◌<ℚ◌}
+use Rattle.rational.specs.Rational.{◌+ℚ◌, ◌<ℚ◌}
 use Rattle.curve_library.proofs.texts.are_before.Given as goal
 
 abbrev pub invariant-loop-p : goal.invariant-loop-p

@@ -1,5 +1,5 @@
 use Rattle.std.proofs.Common.{true≢false, sym}
-use Rattle.upp_limits.specs.rational.proofs.Laws.{not_le_of_lt}
+use Rattle.rational.proofs.Laws.{not_le_of_lt}
 use Rattle.curve_library.proofs.SignTests.{nonneg_out, nonneg_test}
 use Rattle.curve_library.proofs.texts.is_nonneg_text.Goals as goal
 

@@ -1,5 +1,5 @@
 use Rattle.std.proofs.Common.{◌↔◌, drop}
-use Rattle.upp_limits.specs.upp_curve.specs.affine_segment.Pieces.{RisesFrom}
+use Rattle.upp_curve.specs.affine_segment.Pieces.{RisesFrom}
 use Rattle.curve_library.specs.Listed.{text_pieces}
 use Rattle.curve_library.proofs.texts.rise_after.Given as goal
 

@@ -1,5 +1,5 @@
 use Rattle.std.proofs.Common.{subst}
-use Rattle.upp_limits.specs.rational.proofs.Laws.{le_of_lt}
+use Rattle.rational.proofs.Laws.{le_of_lt}
 use Rattle.curve_library.specs.Listed.{HasLength}
 use Rattle.curve_library.proofs.texts.starts_below.Goals as goal
 

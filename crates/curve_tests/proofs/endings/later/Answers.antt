@@ -1,7 +1,7 @@
 use Rattle.std.proofs.Common.{arith, subst, sym}
-use Rattle.upp_limits.specs.rational.specs.Rational.{◌≤ℚ◌}
-use Rattle.upp_limits.specs.rational.proofs.Integers.{nat_le}
-use Rattle.upp_limits.specs.min_plus.specs.Functions.{zero_q}
+use Rattle.rational.specs.Rational.{◌≤ℚ◌}
+use Rattle.rational.proofs.Integers.{nat_le}
+use Rattle.min_plus.specs.Functions.{zero_q}
 use Rattle.curve_tests.proofs.endings.later.Goals as goal
 
 pub shift-requires : goal.shift-requires

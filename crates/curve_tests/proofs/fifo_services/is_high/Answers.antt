@@ -1,9 +1,9 @@
 use Rattle.std.proofs.Common.{subst, sym}
-use Rattle.upp_limits.specs.rational.specs.Rational.{◌≤ℚ◌}
-use Rattle.upp_limits.specs.rational.specs.Extended.{◌≤ₑ◌}
-use Rattle.upp_limits.specs.rational.specs.declared.Extended.TheVariants.{Fin}
-use Rattle.upp_limits.specs.rational.proofs.Compared.{not_less}
-use Rattle.upp_limits.specs.min_plus.specs.Functions.{zero_q}
+use Rattle.rational.specs.Rational.{◌≤ℚ◌}
+use Rattle.rational.specs.Extended.{◌≤ₑ◌}
+use Rattle.rational.specs.declared.Extended.TheVariants.{Fin}
+use Rattle.rational.proofs.Compared.{not_less}
+use Rattle.min_plus.specs.Functions.{zero_q}
 use Rattle.curve_tests.proofs.fifo_services.is_high.Goals as goal
 
 pub returns-in_default : goal.returns-in_default

@@ -1,4 +1,4 @@
-use Rattle.upp_limits.specs.upp_curve.specs.Curve.{value_at}
+use Rattle.upp_curve.specs.Curve.{value_at}
 use Rattle.residuals.proofs.fifo.TestStarts.{rising_nonneg}
 use Rattle.curve_tests.proofs.fifo_services.service.Goals as goal
 

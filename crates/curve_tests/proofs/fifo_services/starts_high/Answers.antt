@@ -1,7 +1,7 @@
 use Rattle.std.proofs.Common.{subst, sym}
-use Rattle.upp_limits.specs.rational.specs.Rational.{◌≤ℚ◌}
-use Rattle.upp_limits.specs.rational.proofs.Laws.{le_refl}
-use Rattle.upp_limits.specs.min_plus.specs.Functions.{zero_q}
+use Rattle.rational.specs.Rational.{◌≤ℚ◌}
+use Rattle.rational.proofs.Laws.{le_refl}
+use Rattle.min_plus.specs.Functions.{zero_q}
 use Rattle.curve_tests.proofs.fifo_services.starts_high.Goals as goal
 
 pub value_at-requires : goal.value_at-requires

@@ -1,4 +1,4 @@
-use Rattle.plain_operators.specs.curve_call.proofs.Worked.{worked_cuts}
+use Rattle.curve_call.proofs.Worked.{worked_cuts}
 use Rattle.curve_tests.proofs.inner_calls.both.Goals as goal
 
 pub overlay-requires-clause-fits : goal.overlay-requires-clause-fits

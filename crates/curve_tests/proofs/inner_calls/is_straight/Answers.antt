@@ -1,8 +1,8 @@
 use Rattle.std.specs.Prelude.{pos}
 use Rattle.std.proofs.Common.{sym, subst, true≢false}
-use Rattle.upp_limits.specs.rational.specs.Rational.{◌≤ℚ◌, int}
-use Rattle.upp_limits.specs.rational.proofs.Laws.{le_of_not_lt}
-use Rattle.plain_operators.specs.curve_call.proofs.KnownGauge.{any_period}
+use Rattle.rational.specs.Rational.{◌≤ℚ◌, int}
+use Rattle.rational.proofs.Laws.{le_of_not_lt}
+use Rattle.curve_call.proofs.KnownGauge.{any_period}
 use Rattle.curve_tests.proofs.inner_calls.is_straight.Goals as goal
 
 pub returns-in_default-tail : goal.returns-in_default-tail

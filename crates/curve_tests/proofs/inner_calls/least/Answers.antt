@@ -1,11 +1,11 @@
 use Rattle.std.specs.Prelude.{pos}
 use Rattle.std.proofs.Common.{arith, refl, sym, subst, ◌<◌, ◌^◌}
-use Rattle.upp_limits.specs.rational.specs.Rational.{◌≤ℚ◌, ◌<ℚ◌, ◌+ℚ◌, int}
-use Rattle.upp_limits.specs.rational.proofs.Integers.{nat_nonneg, nat_lt}
-use Rattle.upp_limits.specs.upp_curve.specs.Steady.{steady, IsWholePeriods}
+use Rattle.rational.specs.Rational.{◌≤ℚ◌, ◌<ℚ◌, ◌+ℚ◌, int}
+use Rattle.rational.proofs.Integers.{nat_nonneg, nat_lt}
+use Rattle.upp_curve.specs.Steady.{steady, IsWholePeriods}
 use Rattle.upp_limits.specs.Gauges.{gauge_over}
 use Rattle.upp_limits.specs.declared.op_kind.OpKind.TheVariants.{Min}
-use Rattle.plain_operators.specs.curve_call.proofs.KnownGauge.{min_sizes, known_compared}
+use Rattle.curve_call.proofs.KnownGauge.{min_sizes, known_compared}
 use Rattle.curve_tests.proofs.inner_calls.least.Goals as goal
 
 pub least_periods-requires : goal.least_periods-requires

@@ -1,7 +1,7 @@
 use Rattle.std.specs.Prelude.{pos}
 use Rattle.std.proofs.Common.{sym, subst}
-use Rattle.upp_limits.specs.rational.specs.Rational.{◌≤ℚ◌, int}
-use Rattle.upp_limits.specs.rational.proofs.Integers.{nat_nonneg}
+use Rattle.rational.specs.Rational.{◌≤ℚ◌, int}
+use Rattle.rational.proofs.Integers.{nat_nonneg}
 use Rattle.curve_tests.proofs.inner_calls.point.Goals as goal
 
 pub point_closure-requires-clause-time : goal.point_closure-requires-clause-time

@@ -1,10 +1,10 @@
 use Rattle.std.specs.Prelude.{pos}
 use Rattle.std.proofs.Common.{arith, refl, sym, subst, ◌∙◌, ◌<◌, ◌^◌}
-use Rattle.upp_limits.specs.rational.specs.Rational.{◌≤ℚ◌, ◌<ℚ◌, int}
-use Rattle.upp_limits.specs.rational.specs.Grid.{Whole}
-use Rattle.upp_limits.specs.rational.proofs.Grid.{whole_int}
-use Rattle.upp_limits.specs.rational.proofs.Integers.{nat_nonneg, nat_lt}
-use Rattle.upp_limits.specs.rational.proofs.Laws.{le_lt_trans, le_of_lt}
+use Rattle.rational.specs.Rational.{◌≤ℚ◌, ◌<ℚ◌, int}
+use Rattle.rational.specs.Grid.{Whole}
+use Rattle.rational.proofs.Grid.{whole_int}
+use Rattle.rational.proofs.Integers.{nat_nonneg, nat_lt}
+use Rattle.rational.proofs.Laws.{le_lt_trans, le_of_lt}
 use Rattle.upp_limits.specs.declared.op_kind.OpKind.TheVariants.{Itself}
 use Rattle.upp_limits.specs.Gauges.{gauge_over}
 use Rattle.upp_normal.specs.Ahead.{IsOverBy}

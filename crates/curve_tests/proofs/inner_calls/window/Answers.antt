@@ -1,4 +1,4 @@
-use Rattle.plain_operators.specs.curve_call.proofs.Worked.{level_first, ramp_first, worked_cuts, worked_sums}
+use Rattle.curve_call.proofs.Worked.{level_first, ramp_first, worked_cuts, worked_sums}
 use Rattle.curve_tests.proofs.inner_calls.window.Goals as goal
 
 pub window_sum-requires-clause-cuts : goal.window_sum-requires-clause-cuts

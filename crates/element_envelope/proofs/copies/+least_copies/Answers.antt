@@ -1,6 +1,6 @@
 use Rattle.std.proofs.Common.{arith, ℕ, ◌++◌, take, drop, ap₂, sym, ◌∙◌, subst, List, ◌≡◌}
 use Rattle.std.proofs.lemmas.List.{take-append-drop}
-use Rattle.upp_limits.specs.upp_curve.specs.declared.affine_segment.line.Piece.{Piece}
+use Rattle.upp_curve.specs.declared.affine_segment.line.Piece.{Piece}
 use Rattle.element_envelope.specs.CopyWindows.{IsCopyWindow}
 use Rattle.element_envelope.proofs.CopyWindows.{no_starts, empty_is, ok_none, front_room, rest_room, halves_ready, halves, ok_halves}
 use Rattle.element_envelope.proofs.copies.+least_copies.Goals as goal

@@ -1,13 +1,13 @@
 use Rattle.element_envelope.proofs.CopyReads.{starts_fit}
 use Rattle.std.proofs.Common.{◌+◌, ◌++◌, ◌∙◌, ap, drop, drop_of_length-le, subst, sym}
-use Rattle.upp_limits.specs.rational.specs.Rational.{◌≤ℚ◌, ◌<ℚ◌}
-use Rattle.upp_limits.specs.upp_curve.specs.Fitting.{LaterFits}
+use Rattle.rational.specs.Rational.{◌≤ℚ◌, ◌<ℚ◌}
+use Rattle.upp_curve.specs.Fitting.{LaterFits}
 use Rattle.element_envelope.specs.JoinedWindows.{lead_of}
-use Rattle.upp_limits.specs.upp_curve.specs.Unrolled.{each_later, upto}
-use Rattle.upp_limits.specs.rational.proofs.Compared.{not_less_out}
-use Rattle.upp_limits.specs.upp_curve.proofs.affine_segment.NextPiece.{next_piece}
-use Rattle.curve_call.specs.upp_normal.proofs.NormaliseRank.{each_index}
-use Rattle.curve_call.specs.upp_normal.proofs.UnrollLoops.{push_ends, push_more, push_stops}
+use Rattle.upp_curve.specs.Unrolled.{each_later, upto}
+use Rattle.rational.proofs.Compared.{not_less_out}
+use Rattle.upp_curve.proofs.affine_segment.NextPiece.{next_piece}
+use Rattle.upp_normal.proofs.NormaliseRank.{each_index}
+use Rattle.upp_normal.proofs.UnrollLoops.{push_ends, push_more, push_stops}
 use Rattle.element_envelope.proofs.copies.copy_of.Goals as goal
 
 pub later-requires : goal.later-requires

@@ -1,5 +1,5 @@
 use Rattle.std.proofs.Common.{◌≡◌, ◌++◌, drop}
-use Rattle.upp_limits.specs.upp_curve.specs.Unrolled.{each_later, upto}
+use Rattle.upp_curve.specs.Unrolled.{each_later, upto}
 use Rattle.element_envelope.proofs.copies.copy_of.Given as goal
 
 abbrev pub invariant-loop-p : goal.invariant-loop-p

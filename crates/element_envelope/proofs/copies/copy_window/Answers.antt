@@ -1,5 +1,5 @@
 use Rattle.std.proofs.Common.{◌∙◌, ◌≤◌, ap, drop, length, subst, sym}
-use Rattle.upp_limits.specs.rational.specs.Rational.{◌-ℚ◌}
+use Rattle.rational.specs.Rational.{◌-ℚ◌}
 use Rattle.element_envelope.proofs.CopyWindows.{room_fits, room_left, room_before, infinite_start, ok_copy, ok_none}
 use Rattle.element_envelope.proofs.Rests.{skipped_fits}
 use Rattle.element_envelope.proofs.copies.copy_window.Goals as goal

@@ -1,6 +1,6 @@
 use Rattle.std.proofs.Common.{arith, ℕ, ◌++◌, take, drop, ap₂, sym, ◌∙◌, subst, List, ◌≡◌}
 use Rattle.std.proofs.lemmas.List.{take-append-drop}
-use Rattle.upp_limits.specs.upp_curve.specs.declared.affine_segment.element.Element.{Element}
+use Rattle.upp_curve.specs.declared.affine_segment.element.Element.{Element}
 use Rattle.element_envelope.specs.EnvelopeWindows.{IsEnvelopeWindow}
 use Rattle.element_envelope.proofs.EnvelopeHalves.{none_left, none_right, none_late, empty_is, left_front, left_back, right_front, right_back, left_ready, right_ready, left_halves, right_halves, ok_lower, ok_nothing}
 use Rattle.element_envelope.proofs.least.+envelope.Goals as goal

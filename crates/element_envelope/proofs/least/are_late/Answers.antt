@@ -2,8 +2,8 @@ use Rattle.std.proofs.Common.{subst}
 use Rattle.std.specs.Prelude.{All}
 use Rattle.std.proofs.lemmas.List.{take_all}
 use Rattle.std.proofs.lemmas.List.Elements.{All-more}
-use Rattle.upp_limits.specs.rational.specs.Rational.{◌+ℚ◌, ◌≤ℚ◌}
-use Rattle.upp_limits.specs.upp_curve.specs.affine_segment.Elements.{start_of}
+use Rattle.rational.specs.Rational.{◌+ℚ◌, ◌≤ℚ◌}
+use Rattle.upp_curve.specs.affine_segment.Elements.{start_of}
 use Rattle.element_envelope.proofs.least.are_late.Goals as goal
 
 pub loop-x-preserved : goal.loop-x-preserved

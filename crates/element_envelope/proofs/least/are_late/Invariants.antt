@@ -1,7 +1,7 @@
 use Rattle.std.proofs.Common.{take}
 use Rattle.std.specs.Prelude.{All}
-use Rattle.upp_limits.specs.rational.specs.Rational.{◌+ℚ◌, ◌≤ℚ◌}
-use Rattle.upp_limits.specs.upp_curve.specs.affine_segment.Elements.{start_of}
+use Rattle.rational.specs.Rational.{◌+ℚ◌, ◌≤ℚ◌}
+use Rattle.upp_curve.specs.affine_segment.Elements.{start_of}
 use Rattle.element_envelope.proofs.least.are_late.Given as goal
 
 abbrev pub invariant-loop-x : goal.invariant-loop-x

@@ -1,5 +1,5 @@
 use Rattle.element_envelope.proofs.least.early.Goals as goal
-use Rattle.curve_call.specs.upp_normal.proofs.NormaliseShape.{taken_is}
+use Rattle.upp_normal.proofs.NormaliseShape.{taken_is}
 
 pub returns : goal.returns
 returns c =

@@ -1,6 +1,6 @@
 use Rattle.std.proofs.Common.{subst}
-use Rattle.upp_limits.specs.rational.specs.Rational.{◌≤ℚ◌}
-use Rattle.upp_limits.specs.rational.proofs.Compared.{not_less_out}
+use Rattle.rational.specs.Rational.{◌≤ℚ◌}
+use Rattle.rational.proofs.Compared.{not_less_out}
 use Rattle.element_envelope.proofs.StartTests.{is_false}
 use Rattle.element_envelope.proofs.near.is_far.Goals as goal
 

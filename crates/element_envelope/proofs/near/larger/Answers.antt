@@ -1,5 +1,5 @@
-use Rattle.upp_limits.specs.rational.proofs.Compared.{not_less_out}
-use Rattle.upp_limits.specs.rational.proofs.Laws.{le_of_lt, le_refl}
+use Rattle.rational.proofs.Compared.{not_less_out}
+use Rattle.rational.proofs.Laws.{le_of_lt, le_refl}
 use Rattle.element_envelope.proofs.near.larger.Goals as goal
 
 pub returns-then-is_less-clause-first : goal.returns-then-is_less-clause-first

@@ -1,7 +1,7 @@
 use Rattle.std.specs.Prelude.{Vec, ◌⊎◌}
 use Rattle.std.proofs.Common.{◌+◌, ◌∙◌, ◌≡◌, ◌++◌, ◌∷◌, [], ap, inl, inr, drop, drop_of_length-le, Global}
-use Rattle.upp_limits.specs.upp_curve.specs.declared.affine_segment.line.Piece.{Piece}
-use Rattle.upp_limits.specs.upp_curve.proofs.affine_segment.NextPiece.{next_piece}
+use Rattle.upp_curve.specs.declared.affine_segment.line.Piece.{Piece}
+use Rattle.upp_curve.proofs.affine_segment.NextPiece.{next_piece}
 use Rattle.element_envelope.specs.NearStarts.{IsFar}
 use Rattle.element_envelope.proofs.NearCopies.{near_step, near_end, near_none}
 use Rattle.element_envelope.proofs.near.near_starts.Goals as goal

@@ -1,7 +1,7 @@
 use Rattle.std.proofs.Common.{subst}
-use Rattle.upp_limits.specs.rational.specs.Rational.{◌≤ℚ◌}
-use Rattle.upp_limits.specs.rational.proofs.Compared.{not_less_out}
-use Rattle.upp_limits.specs.rational.proofs.Laws.{le_refl}
+use Rattle.rational.specs.Rational.{◌≤ℚ◌}
+use Rattle.rational.proofs.Compared.{not_less_out}
+use Rattle.rational.proofs.Laws.{le_refl}
 use Rattle.element_envelope.proofs.near.plain_slope.Goals as goal
 
 pub returns-else-is_less : goal.returns-else-is_less

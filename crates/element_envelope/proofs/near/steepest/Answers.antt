@@ -1,7 +1,7 @@
 use Rattle.std.proofs.Common.{◌+◌, drop, drop_of_length-le, subst, sym}
-use Rattle.upp_limits.specs.rational.proofs.Laws.{le_refl}
-use Rattle.upp_limits.specs.upp_curve.proofs.affine_segment.NextPiece.{next_piece}
-use Rattle.upp_limits.specs.upp_curve.specs.affine_segment.Pieces.{Each}
+use Rattle.rational.proofs.Laws.{le_refl}
+use Rattle.upp_curve.proofs.affine_segment.NextPiece.{next_piece}
+use Rattle.upp_curve.specs.affine_segment.Pieces.{Each}
 use Rattle.element_envelope.specs.NearStarts.{RisesWithin}
 use Rattle.element_envelope.proofs.Growth.{steeper}
 use Rattle.element_envelope.proofs.StartTests.{piece_there, line_there}

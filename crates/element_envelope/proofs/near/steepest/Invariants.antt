@@ -1,6 +1,6 @@
 use Rattle.std.proofs.Common.{drop}
-use Rattle.upp_limits.specs.rational.specs.Rational.{ℚ, ◌≤ℚ◌}
-use Rattle.upp_limits.specs.upp_curve.specs.affine_segment.Pieces.{Each}
+use Rattle.rational.specs.Rational.{ℚ, ◌≤ℚ◌}
+use Rattle.upp_curve.specs.affine_segment.Pieces.{Each}
 use Rattle.element_envelope.specs.NearStarts.{RisesWithin}
 use Rattle.element_envelope.proofs.near.steepest.Given as goal
 

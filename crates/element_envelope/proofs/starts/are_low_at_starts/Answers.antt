@@ -1,8 +1,8 @@
 use Rattle.std.proofs.Common.{sym, subst}
-use Rattle.upp_limits.specs.rational.proofs.Laws.{le_of_lt}
+use Rattle.rational.proofs.Laws.{le_of_lt}
 use Rattle.element_envelope.specs.ConvolutionWindows.{WindowPiece}
-use Rattle.curve_call.specs.upp_normal.proofs.AnswerRoom.{operand_line_fits}
-use Rattle.curve_call.specs.upp_normal.proofs.NormaliseRank.{each_index}
+use Rattle.upp_normal.proofs.AnswerRoom.{operand_line_fits}
+use Rattle.upp_normal.proofs.NormaliseRank.{each_index}
 use Rattle.element_envelope.proofs.starts.are_low_at_starts.Goals as goal
 
 pub is_below-requires : goal.is_below-requires

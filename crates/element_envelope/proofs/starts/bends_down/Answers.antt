@@ -1,5 +1,5 @@
 use Rattle.std.proofs.Common.{ap, ◌∙◌}
-use Rattle.upp_limits.specs.rational.specs.declared.Extended.TheVariants.{Fin}
+use Rattle.rational.specs.declared.Extended.TheVariants.{Fin}
 use Rattle.element_envelope.proofs.starts.bends_down.Goals as goal
 
 pub returns-in-Fin : goal.returns-in-Fin

@@ -1,10 +1,10 @@
 use Rattle.std.proofs.Common.{List, ◌++◌, drop}
 use Rattle.std.specs.Prelude.{None}
-use Rattle.upp_limits.specs.rational.specs.Rational.{ℚ}
-use Rattle.upp_limits.specs.upp_curve.specs.declared.affine_segment.line.Piece.{Piece}
-use Rattle.upp_limits.specs.upp_curve.specs.affine_segment.Pieces.{Each}
+use Rattle.rational.specs.Rational.{ℚ}
+use Rattle.upp_curve.specs.declared.affine_segment.line.Piece.{Piece}
+use Rattle.upp_curve.specs.affine_segment.Pieces.{Each}
 use Rattle.upp_limits.specs.Limits.{Sizes}
-use Rattle.curve_call.specs.upp_normal.specs.Operand.{OperandLineAt}
+use Rattle.upp_normal.specs.Operand.{OperandLineAt}
 use Rattle.element_envelope.specs.ConvolutionWindows.{WindowPiece}
 use Rattle.element_envelope.specs.Turnings.{IsThinned}
 use Rattle.element_envelope.proofs.starts.turning_starts.Given as goal

@@ -1,10 +1,10 @@
 use Rattle.std.proofs.Common.{List, [], ◌∷◌, ◌++◌, sym, ap₂, subst, ◌∙◌}
-use Rattle.upp_limits.specs.rational.specs.Rational.{ℚ, ◌≤ℚ◌, ◌<ℚ◌}
-use Rattle.upp_limits.specs.upp_curve.specs.declared.affine_segment.line.Piece.{Piece}
-use Rattle.upp_limits.specs.rational.proofs.Compared.{is_greater, not_greater}
+use Rattle.rational.specs.Rational.{ℚ, ◌≤ℚ◌, ◌<ℚ◌}
+use Rattle.upp_curve.specs.declared.affine_segment.line.Piece.{Piece}
+use Rattle.rational.proofs.Compared.{is_greater, not_greater}
 use Rattle.element_envelope.proofs.JoinedReads.{lead_empty, lead_one}
 use Rattle.element_envelope.proofs.window.lead.Goals as goal
-use Rattle.upp_limits.specs.upp_curve.specs.affine_segment.Reading.{nothing_at}
+use Rattle.upp_curve.specs.affine_segment.Reading.{nothing_at}
 
 pub returns-in_ok-push-in-Greater : goal.returns-in_ok-push-in-Greater
 returns-in_ok-push-in-Greater c =

@@ -1,5 +1,5 @@
 use Rattle.std.proofs.Common.{sym, true≢false}
-use Rattle.upp_limits.specs.rational.proofs.Laws.{le_of_not_lt}
+use Rattle.rational.proofs.Laws.{le_of_not_lt}
 use Rattle.flow_watch.proofs.Buckets.{kept_none, kept_more}
 use Rattle.flow_watch.proofs.flows.bucket_upto.Goals as goal
 

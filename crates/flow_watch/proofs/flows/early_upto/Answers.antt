@@ -1,5 +1,5 @@
 use Rattle.std.proofs.Common.{List, ℕ, ◌<◌, length, drop, refl, subst}
-use Rattle.upp_limits.specs.upp_curve.specs.declared.affine_segment.line.Piece.{Piece}
+use Rattle.upp_curve.specs.declared.affine_segment.line.Piece.{Piece}
 use Rattle.flow_watch.specs.Flows.{KeepsAt}
 use Rattle.flow_watch.proofs.Buckets.{none_crowded, times_rise}
 use Rattle.flow_watch.proofs.flows.early_upto.Goals as goal

@@ -1,4 +1,4 @@
-use Rattle.upp_limits.specs.upp_curve.specs.Curve.{value_at}
+use Rattle.upp_curve.specs.Curve.{value_at}
 use Rattle.flow_watch.specs.Flows.{NoneCrowded}
 use Rattle.flow_watch.proofs.flows.first_crowded.Given as goal
 

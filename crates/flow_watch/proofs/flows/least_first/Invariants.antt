@@ -1,5 +1,5 @@
 use Rattle.std.proofs.Common.{◌≡◌, ◌+◌, ◌-◌, ◌*◌, ◌^◌, ◌≤◌}
-use Rattle.upp_limits.specs.upp_curve.specs.Curve.{value_at}
+use Rattle.upp_curve.specs.Curve.{value_at}
 use Rattle.flow_watch.specs.watch_laws.Entries.{bits_between}
 use Rattle.flow_watch.specs.Flows.{FindsFirst}
 use Rattle.flow_watch.proofs.flows.least_first.Given as goal

@@ -1,6 +1,6 @@
 use Rattle.std.proofs.Common.{◌≡◌}
 use Rattle.std.proofs.lemmas.Result.{IfOk-weaker}
-use Rattle.upp_limits.specs.rational.specs.Rational.{ℚ, ◌+ℚ◌}
+use Rattle.rational.specs.Rational.{ℚ, ◌+ℚ◌}
 use Rattle.flow_watch.specs.Flows.{IsRaised}
 use Rattle.flow_watch.proofs.Buckets.{raised_is}
 use Rattle.flow_watch.proofs.flows.next_level.Goals as goal

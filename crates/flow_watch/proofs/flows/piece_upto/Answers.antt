@@ -1,5 +1,5 @@
 use Rattle.std.proofs.Common.{◌∙◌, Option, refl, sym, subst}
-use Rattle.upp_limits.specs.rational.specs.Rational.{ℚ}
+use Rattle.rational.specs.Rational.{ℚ}
 use Rattle.flow_watch.specs.Flows.{KeepsPiece}
 use Rattle.flow_watch.proofs.Buckets.{keeps_piece, keeps_flat}
 use Rattle.flow_watch.proofs.flows.piece_upto.Goals as goal

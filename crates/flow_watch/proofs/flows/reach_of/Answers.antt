@@ -1,5 +1,5 @@
 use Rattle.std.proofs.Common.{◌<◌, ◌-◌, ◌∙◌, length, ap, arith}
-use Rattle.upp_limits.specs.rational.specs.Rational.{◌-ℚ◌}
+use Rattle.rational.specs.Rational.{◌-ℚ◌}
 use Rattle.flow_watch.specs.Flows.{last_time}
 use Rattle.flow_watch.proofs.LeastFirst.{read_is}
 use Rattle.flow_watch.specs.declared.watch_laws.entering.Entering.{Entering}

@@ -1,5 +1,5 @@
 use Rattle.std.proofs.Common.{refl}
-use Rattle.upp_limits.specs.rational.proofs.Laws.{lt_irrefl, lt_le_trans}
+use Rattle.rational.proofs.Laws.{lt_irrefl, lt_le_trans}
 use Rattle.flow_watch.proofs.flows.read_upto.Goals as goal
 
 pub returns-then-is_less-clause-keeps : goal.returns-then-is_less-clause-keeps

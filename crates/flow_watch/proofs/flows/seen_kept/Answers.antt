@@ -1,4 +1,4 @@
-use Rattle.upp_limits.specs.upp_curve.specs.Curve.{value_at}
+use Rattle.upp_curve.specs.Curve.{value_at}
 use Rattle.flow_watch.proofs.StairPaces.{seen_none}
 use Rattle.flow_watch.proofs.flows.seen_kept.Goals as goal
 

@@ -1,5 +1,5 @@
 use Rattle.std.proofs.Common.{◌≤◌, arith}
-use Rattle.upp_limits.specs.upp_curve.specs.Curve.{value_at}
+use Rattle.upp_curve.specs.Curve.{value_at}
 use Rattle.flow_watch.proofs.FirstPackets.{reads_in, none_in}
 use Rattle.flow_watch.proofs.flows.seen_within.Goals as goal
 

@@ -1,6 +1,6 @@
 use Rattle.std.proofs.Common.{refl, sym, subst, ap, ◌∙◌, true≢false}
-use Rattle.upp_limits.specs.rational.specs.Rational.{ℚ, ◌-ℚ◌, ◌*ℚ◌, ◌≤ℚ◌, ◌<ℚ◌}
-use Rattle.upp_limits.specs.rational.proofs.Laws.{div_mul, le_of_not_lt, not_zero}
+use Rattle.rational.specs.Rational.{ℚ, ◌-ℚ◌, ◌*ℚ◌, ◌≤ℚ◌, ◌<ℚ◌}
+use Rattle.rational.proofs.Laws.{div_mul, le_of_not_lt, not_zero}
 use Rattle.flow_watch.proofs.repeats.climb_to.Goals as goal
 
 pub div-requires : goal.div-requires

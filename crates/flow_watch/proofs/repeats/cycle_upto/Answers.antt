@@ -1,6 +1,6 @@
 use Rattle.std.proofs.Common.{◌<◌, ◌∙◌, Option, length, ap, subst, arith}
 use Rattle.std.specs.Prelude.{unwrap_or}
-use Rattle.upp_limits.specs.rational.specs.Rational.{ℚ}
+use Rattle.rational.specs.Rational.{ℚ}
 use Rattle.flow_watch.specs.Repeats.{HoldsPiece}
 use Rattle.flow_watch.proofs.Repeated.{holds_more}
 use Rattle.flow_watch.proofs.repeats.cycle_upto.Goals as goal

@@ -1,7 +1,7 @@
 use Rattle.std.proofs.Common.{List, ℕ, ◌<◌, length, drop, subst}
 use Rattle.std.proofs.lemmas.Option.{IfSome_then}
-use Rattle.upp_limits.specs.rational.specs.Rational.{ℚ}
-use Rattle.upp_limits.specs.upp_curve.specs.declared.affine_segment.line.Piece.{Piece}
+use Rattle.rational.specs.Rational.{ℚ}
+use Rattle.upp_curve.specs.declared.affine_segment.line.Piece.{Piece}
 use Rattle.flow_watch.specs.Repeats.{HoldsAt}
 use Rattle.flow_watch.proofs.Buckets.{times_rise}
 use Rattle.flow_watch.proofs.Repeated.{none_repeated}

@@ -1,6 +1,6 @@
 use Rattle.std.proofs.Common.{refl, subst}
 use Rattle.std.proofs.lemmas.Option.{IfSome_then}
-use Rattle.upp_limits.specs.rational.specs.Rational.{ℚ, ◌<ℚ◌}
+use Rattle.rational.specs.Rational.{ℚ, ◌<ℚ◌}
 use Rattle.flow_watch.proofs.Repeated.{steps_kept}
 use Rattle.flow_watch.proofs.repeats.steps_upto.Goals as goal
 

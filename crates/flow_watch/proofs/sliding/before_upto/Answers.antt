@@ -1,6 +1,6 @@
 use Rattle.std.proofs.Common.{◌<◌, ◌^◌, refl, sym, subst, true≢false, arith}
-use Rattle.upp_limits.specs.rational.specs.Rational.{ℚ, ◌≤ℚ◌}
-use Rattle.upp_limits.specs.rational.proofs.Laws.{le_of_not_lt}
+use Rattle.rational.specs.Rational.{ℚ, ◌≤ℚ◌}
+use Rattle.rational.proofs.Laws.{le_of_not_lt}
 use Rattle.flow_watch.proofs.Slides.{wide_more, sliding_more}
 use Rattle.flow_watch.proofs.sliding.before_upto.Goals as goal
 

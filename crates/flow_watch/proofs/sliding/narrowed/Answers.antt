@@ -1,5 +1,5 @@
 use Rattle.std.proofs.Common.{◌≡◌, ◌+◌, ◌-◌, sym, true≢false, arith}
-use Rattle.upp_limits.specs.rational.proofs.Laws.{le_of_not_lt}
+use Rattle.rational.proofs.Laws.{le_of_not_lt}
 use Rattle.flow_watch.proofs.Slides.{bits_left, narrow_more}
 use Rattle.flow_watch.proofs.sliding.narrowed.Goals as goal
 

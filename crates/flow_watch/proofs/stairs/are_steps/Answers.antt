@@ -1,6 +1,6 @@
 use Rattle.std.proofs.Common.{◌<◌, ◌∙◌, Option, length, ap, below_more, refl, subst, arith}
 use Rattle.std.specs.Prelude.{unwrap_or}
-use Rattle.upp_limits.specs.rational.specs.Rational.{ℚ}
+use Rattle.rational.specs.Rational.{ℚ}
 use Rattle.flow_watch.specs.Stairs.{IsStep}
 use Rattle.flow_watch.proofs.StairPaces.{step_at}
 use Rattle.flow_watch.proofs.stairs.are_steps.Goals as goal

@@ -1,7 +1,7 @@
 use Rattle.std.proofs.Common.{sym, subst, true≢false}
-use Rattle.upp_limits.specs.rational.specs.Rational.{ℚ, ◌≤ℚ◌}
-use Rattle.upp_limits.specs.rational.specs.Whole.{whole_part}
-use Rattle.upp_limits.specs.rational.proofs.Laws.{le_of_not_lt, not_zero}
+use Rattle.rational.specs.Rational.{ℚ, ◌≤ℚ◌}
+use Rattle.rational.specs.Whole.{whole_part}
+use Rattle.rational.proofs.Laws.{le_of_not_lt, not_zero}
 use Rattle.flow_watch.proofs.stairs.count_under.Goals as goal
 
 pub div-requires : goal.div-requires

@@ -1,6 +1,6 @@
 use Rattle.std.proofs.Common.{◌∙◌, sym, subst}
-use Rattle.upp_limits.specs.rational.specs.Rational.{ℚ, ◌≤ℚ◌}
-use Rattle.upp_limits.specs.rational.proofs.Over.{le_q_in}
+use Rattle.rational.specs.Rational.{ℚ, ◌≤ℚ◌}
+use Rattle.rational.proofs.Over.{le_q_in}
 use Rattle.flow_watch.proofs.stairs.is_line_up_to.Goals as goal
 
 pub returns-in-Ok : goal.returns-in-Ok

@@ -1,6 +1,6 @@
 use Rattle.std.proofs.Common.{refl, sym, subst, true≢false}
-use Rattle.upp_limits.specs.rational.specs.Rational.{ℚ, ◌<ℚ◌}
-use Rattle.upp_limits.specs.rational.proofs.Laws.{le_of_not_lt}
+use Rattle.rational.specs.Rational.{ℚ, ◌<ℚ◌}
+use Rattle.rational.proofs.Laws.{le_of_not_lt}
 use Rattle.flow_watch.proofs.stairs.is_stair.Goals as goal
 
 pub returns : goal.returns

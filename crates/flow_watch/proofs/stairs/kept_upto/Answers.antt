@@ -1,8 +1,8 @@
 use Rattle.std.proofs.Common.{List, pos, refl, sym, subst}
 use Rattle.std.proofs.lemmas.Option.{IfSome_then}
-use Rattle.upp_limits.specs.rational.specs.Rational.{ℚ, int, ◌≤ℚ◌}
-use Rattle.upp_limits.specs.rational.proofs.Laws.{le_refl}
-use Rattle.upp_limits.specs.upp_curve.specs.declared.affine_segment.line.Piece.{Piece}
+use Rattle.rational.specs.Rational.{ℚ, int, ◌≤ℚ◌}
+use Rattle.rational.proofs.Laws.{le_refl}
+use Rattle.upp_curve.specs.declared.affine_segment.line.Piece.{Piece}
 use Rattle.flow_watch.specs.Stairs.{IsStair}
 use Rattle.flow_watch.proofs.StairPaces.{none_past_stair, always_climbed}
 use Rattle.flow_watch.proofs.stairs.kept_upto.Goals as goal

@@ -1,6 +1,6 @@
 use Rattle.std.proofs.Common.{◌≡◌, ◌∙◌, pos, refl}
 use Rattle.std.proofs.lemmas.Option.{IfSome_then}
-use Rattle.upp_limits.specs.rational.specs.Rational.{int}
+use Rattle.rational.specs.Rational.{int}
 use Rattle.flow_watch.proofs.StairPaces.{has_steps}
 use Rattle.flow_watch.proofs.stairs.steps_of.Goals as goal
 

@@ -1,8 +1,8 @@
 use Rattle.std.proofs.Common.{subst}
-use Rattle.upp_limits.specs.rational.specs.Extended.{Ext}
-use Rattle.upp_limits.specs.rational.specs.declared.Extended.TheVariants.{Fin, Inf}
-use Rattle.upp_limits.specs.min_plus.specs.Deviations.{IsVerticalDeviation}
-use Rattle.upp_limits.specs.upp_curve.specs.Curve.{SpecCurve, value_at}
+use Rattle.rational.specs.Extended.{Ext}
+use Rattle.rational.specs.declared.Extended.TheVariants.{Fin, Inf}
+use Rattle.min_plus.specs.Deviations.{IsVerticalDeviation}
+use Rattle.upp_curve.specs.Curve.{SpecCurve, value_at}
 use Rattle.measure_curve.proofs.Bursts.{not_infinite, least_burst}
 use Rattle.measure_curve.proofs.burst.least_burst.Goals as goal
 

@@ -1,6 +1,6 @@
 use Rattle.std.specs.Prelude.{List, ◌≡◌, ◌≤◌, ◌<◌, ◌^◌, length}
 use Rattle.std.proofs.Common.{arith, subst, ap, ◌∙◌}
-use Rattle.upp_limits.specs.upp_curve.specs.Curve.{value_at}
+use Rattle.upp_curve.specs.Curve.{value_at}
 use Rattle.net_model.specs.declared.trace.TracePacket.{TracePacket}
 use Rattle.measure_curve.specs.Grids.{width_of}
 use Rattle.measure_curve.specs.Limits.{grid_of}

@@ -1,5 +1,5 @@
 use Rattle.std.proofs.Common.{◌≡◌, ap, sym, ◌∙◌, Option, arith}
-use Rattle.net_model.specs.run_laws.specs.Servers as spec
+use Rattle.run_laws.specs.Servers as spec
 use Rattle.net_model.specs.declared.server.Server.{Server}
 use Rattle.net_model.specs.Networks.{NetServer}
 use Rattle.net_model.specs.Views as views

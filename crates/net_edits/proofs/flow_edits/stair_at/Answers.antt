@@ -1,8 +1,8 @@
 use Rattle.std.proofs.Common.{pos}
-use Rattle.upp_limits.specs.rational.specs.Rational.{int, ◌≤ℚ◌, ◌<ℚ◌}
-use Rattle.upp_limits.specs.rational.proofs.Laws.{not_le_of_lt}
-use Rattle.upp_limits.specs.min_plus.specs.Functions.{zero_q}
-use Rattle.upp_limits.specs.upp_curve.specs.Kinds.{stair}
+use Rattle.rational.specs.Rational.{int, ◌≤ℚ◌, ◌<ℚ◌}
+use Rattle.rational.proofs.Laws.{not_le_of_lt}
+use Rattle.min_plus.specs.Functions.{zero_q}
+use Rattle.upp_curve.specs.Kinds.{stair}
 use Rattle.net_edits.proofs.Signs.{own_of}
 use Rattle.net_edits.proofs.flow_edits.stair_at.Goals as goal
 

@@ -1,6 +1,6 @@
-use Rattle.upp_limits.specs.upp_curve.specs.Kinds.{rate_latency, gate}
+use Rattle.upp_curve.specs.Kinds.{rate_latency, gate}
 use Rattle.curve_library.specs.Causes.{OneNegative, NoSlot}
-use Rattle.upp_limits.specs.rational.proofs.Laws.{le_of_lt}
+use Rattle.rational.proofs.Laws.{le_of_lt}
 use Rattle.net_model.specs.Views.{server_of}
 use Rattle.net_edits.proofs.Signs.{own_of}
 use Rattle.net_edits.proofs.Making.{latency_kept, slot_kept, cycle_kept, none_below, some_slot, by_latency, by_gate}

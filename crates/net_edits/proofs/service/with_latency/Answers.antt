@@ -1,8 +1,8 @@
 use Rattle.std.proofs.Common.{ap, ◌∙◌, subst, Option}
 use Rattle.std.proofs.lemmas.Result.{err_from_is_err_and}
-use Rattle.upp_limits.specs.upp_curve.specs.Kinds.{rate_latency}
+use Rattle.upp_curve.specs.Kinds.{rate_latency}
 use Rattle.curve_library.specs.Causes.{OneNegative, KeepsOwnLimits}
-use Rattle.upp_limits.specs.upp_curve.specs.Curve.{SpecCurve}
+use Rattle.upp_curve.specs.Curve.{SpecCurve}
 use Rattle.net_model.specs.Networks.{NetServer}
 use Rattle.net_model.specs.declared.server.ServiceKind.TheVariants.{Latency}
 use Rattle.net_model.specs.Views.{server_of}

@@ -1,6 +1,6 @@
 use Rattle.std.proofs.Common.{pos}
-use Rattle.upp_limits.specs.rational.specs.Rational.{int}
-use Rattle.upp_limits.specs.upp_curve.proofs.ReadableKinds.{bucket_curve}
+use Rattle.rational.specs.Rational.{int}
+use Rattle.upp_curve.proofs.ReadableKinds.{bucket_curve}
 use Rattle.net_model.proofs.plain.bucket_of.Goals as goal
 
 pub from_normal-requires : goal.from_normal-requires

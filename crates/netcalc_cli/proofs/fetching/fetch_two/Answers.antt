@@ -1,8 +1,8 @@
 use Rattle.std.proofs.Common.{[], ◌∷◌, inl}
 use Rattle.std.proofs.lemmas.Result.{IfOk-weaker}
 use Rattle.outside.proofs.Fetches.{up_to_second, both_on_ok, stops_at_first, two_held, two_fit, second_ends}
-use Rattle.commands.specs.command_replies.specs.Replies.{cannot_read, too_long}
-use Rattle.commands.specs.command_replies.specs.View.{reply_of}
+use Rattle.command_replies.specs.Replies.{cannot_read, too_long}
+use Rattle.command_replies.specs.View.{reply_of}
 use Rattle.netcalc_cli.specs.Files.{most_bytes}
 use Rattle.netcalc_cli.proofs.fetching.fetch_two.Goals as goal
 

@@ -1,4 +1,4 @@
-use Rattle.commands.specs.command_replies.proofs.Statuses.{code_at_most_nine}
+use Rattle.command_replies.proofs.Statuses.{code_at_most_nine}
 use Rattle.netcalc_cli.proofs.top_call.give.Goals as goal
 
 pub returns-in-Ok-clause-status : goal.returns-in-Ok-clause-status

@@ -3,8 +3,8 @@ use Rattle.std.proofs.lemmas.Bool.{cases_eq}
 use Rattle.std.specs.Prelude.{is_some}
 use Rattle.outside.specs.Written.{output}
 use Rattle.outside.proofs.Fetches.{asks_none}
-use Rattle.commands.specs.command_replies.specs.Replies.{usage}
-use Rattle.commands.specs.command_replies.specs.View.{reply_of}
+use Rattle.command_replies.specs.Replies.{usage}
+use Rattle.command_replies.specs.View.{reply_of}
 use Rattle.netcalc_cli.specs.Commands.{names_of}
 use Rattle.netcalc_cli.specs.Reply.{commands}
 use Rattle.netcalc_cli.specs.View.{command_view}

@@ -1,6 +1,6 @@
 use Rattle.std.proofs.Common.{subst}
-use Rattle.upp_limits.specs.rational.specs.Rational.{◌≤ℚ◌}
-use Rattle.upp_limits.specs.rational.proofs.Compared.{least_by_test}
+use Rattle.rational.specs.Rational.{◌≤ℚ◌}
+use Rattle.rational.proofs.Compared.{least_by_test}
 use Rattle.netcalc_cli.proofs.words.rate_of.Goals as goal
 
 pub returns-clause-from : goal.returns-clause-from

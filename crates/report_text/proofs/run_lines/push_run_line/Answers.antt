@@ -1,6 +1,6 @@
 use Rattle.std.specs.Fmt.{decimal}
 use Rattle.std.proofs.Common.{◌≡◌, ◌++◌, List, ℕ, Result, Ok, Err, OnOk, codes, sym, ap, ◌∙◌, append_assoc}
-use Rattle.upp_curve.specs.fraction128.specs.Text.{text_of}
+use Rattle.fraction128.specs.Text.{text_of}
 use Rattle.report_text.specs.RunReport.{run_line}
 use Rattle.report_text.proofs.run_lines.push_run_line.Goals as goal
 

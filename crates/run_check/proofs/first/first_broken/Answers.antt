@@ -1,7 +1,7 @@
 use Rattle.std.specs.Prelude.{◌≡◌, length}
 use Rattle.std.proofs.Common.{ap, arith, refl, inr, subst, sym}
 use Rattle.net_model.specs.NetRoutes.{routes_of}
-use Rattle.net_model.specs.run_laws.specs.Lawful.{run_start, after_run}
+use Rattle.run_laws.specs.Lawful.{run_start, after_run}
 use Rattle.run_check.specs.broken_laws.FirstBroken.{IsUnfinished}
 use Rattle.run_check.proofs.broken_laws.WholeRuns.{unbroken_is_lawful}
 use Rattle.run_check.proofs.Along.{behind}

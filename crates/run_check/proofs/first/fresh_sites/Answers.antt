@@ -1,5 +1,5 @@
 use Rattle.net_model.specs.Views.{server_of}
-use Rattle.report_text.specs.net_cells.proofs.Stored.{server_stored, server_kept}
+use Rattle.net_cells.proofs.Stored.{server_stored, server_kept}
 use Rattle.run_check.proofs.Started.{fresh_push}
 use Rattle.run_check.proofs.first.fresh_sites.Goals as goal
 

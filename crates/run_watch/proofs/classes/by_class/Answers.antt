@@ -1,5 +1,5 @@
 use Rattle.std.proofs.Common.{List, subst}
-use Rattle.upp_limits.specs.rational.specs.Rational.{ℚ}
+use Rattle.rational.specs.Rational.{ℚ}
 use Rattle.run_watch.specs.WatchTimes.{HaveSameTimes}
 use Rattle.run_watch.proofs.OrderedTimes.{same_then, same_permuted}
 use Rattle.run_watch.proofs.classes.by_class.Goals as goal

@@ -1,4 +1,4 @@
-use Rattle.upp_limits.specs.rational.proofs.Laws.{not_zero}
+use Rattle.rational.proofs.Laws.{not_zero}
 use Rattle.run_watch.proofs.ClassTimes.{periods_seen}
 use Rattle.run_watch.proofs.classes.is_periods_after.Goals as goal
 

@@ -1,6 +1,6 @@
 use Rattle.std.proofs.Common.{Option, sym, subst}
 use Rattle.std.proofs.lemmas.Result.{IfOk-weaker}
-use Rattle.upp_limits.specs.rational.specs.Rational.{ℚ}
+use Rattle.rational.specs.Rational.{ℚ}
 use Rattle.run_watch.specs.WatchTimes.{HaveSameTimes}
 use Rattle.run_watch.specs.Classes.{AreLeads, AreLeadsBy}
 use Rattle.run_watch.proofs.ClassTimes.{leads_same}

@@ -1,6 +1,6 @@
 use Rattle.std.proofs.Common.{refl, subst}
-use Rattle.upp_limits.specs.rational.specs.Rational.{ℚ, ◌<ℚ◌}
-use Rattle.upp_limits.specs.rational.proofs.Laws.{not_zero}
+use Rattle.rational.specs.Rational.{ℚ, ◌<ℚ◌}
+use Rattle.rational.proofs.Laws.{not_zero}
 use Rattle.run_watch.proofs.classes.past_whole.Goals as goal
 
 pub div-requires : goal.div-requires

@@ -1,5 +1,5 @@
 use Rattle.std.proofs.Common.{List, refl, subst}
-use Rattle.upp_limits.specs.rational.specs.Rational.{ℚ}
+use Rattle.rational.specs.Rational.{ℚ}
 use Rattle.run_watch.specs.Classes.{IsLed}
 use Rattle.run_watch.proofs.ClassTimes.{led_now, led_pushed}
 use Rattle.run_watch.proofs.classes.push_not_led.Goals as goal

@@ -1,4 +1,4 @@
-use Rattle.upp_limits.specs.upp_curve.specs.Curve.{value_at}
+use Rattle.upp_curve.specs.Curve.{value_at}
 use Rattle.run_watch.proofs.FirstFound.{arrival_none, arrival_some}
 use Rattle.run_watch.proofs.found.arrival_breach.Goals as goal
 

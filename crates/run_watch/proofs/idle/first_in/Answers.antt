@@ -1,8 +1,8 @@
 use Rattle.std.proofs.Common.{◌≡◌, ◌∙◌, Option, sym, subst, ap, inl}
 use Rattle.std.proofs.lemmas.Result.{IfOk-weaker}
-use Rattle.upp_limits.specs.rational.specs.Rational.{ℚ, ◌-ℚ◌}
-use Rattle.upp_limits.specs.upp_curve.specs.Unrolled.{unroll}
-use Rattle.curve_call.specs.upp_normal.specs.Unrolling.{IsOperandTo}
+use Rattle.rational.specs.Rational.{ℚ, ◌-ℚ◌}
+use Rattle.upp_curve.specs.Unrolled.{unroll}
+use Rattle.upp_normal.specs.Unrolling.{IsOperandTo}
 use Rattle.flow_watch.specs.watch_laws.Segments.{segments}
 use Rattle.run_watch.specs.Ramps.{AreRamps}
 use Rattle.run_watch.specs.Reaches.{within_reach}

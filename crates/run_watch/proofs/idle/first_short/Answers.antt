@@ -1,5 +1,5 @@
 use Rattle.std.proofs.Common.{◌∙◌, ◌<◌, ◌≤◌, List, length, Some, None, refl, sym, subst, arith}
-use Rattle.upp_limits.specs.rational.specs.Rational.{ℚ, ◌≤ℚ◌}
+use Rattle.rational.specs.Rational.{ℚ, ◌≤ℚ◌}
 use Rattle.run_watch.specs.Watching.{RiseFrom}
 use Rattle.run_watch.specs.WatchTimes.{watched_from, HaveSameTimes}
 use Rattle.run_watch.specs.IdleWindows.{TimeFits}

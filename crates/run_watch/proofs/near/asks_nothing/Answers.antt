@@ -1,6 +1,6 @@
 use Rattle.std.proofs.Common.{◌∙◌, sym, subst}
-use Rattle.upp_limits.specs.rational.specs.Rational.{◌≤ℚ◌}
-use Rattle.upp_limits.specs.rational.proofs.Over.{le_q_in}
+use Rattle.rational.specs.Rational.{◌≤ℚ◌}
+use Rattle.rational.proofs.Over.{le_q_in}
 use Rattle.run_watch.proofs.near.asks_nothing.Goals as goal
 
 pub returns-then-eq : goal.returns-then-eq

@@ -1,6 +1,6 @@
 use Rattle.std.proofs.Common.{refl, sym, subst, true≢false}
-use Rattle.upp_limits.specs.rational.specs.Rational.{◌+ℚ◌, ◌≤ℚ◌}
-use Rattle.upp_limits.specs.rational.proofs.Laws.{le_refl}
+use Rattle.rational.specs.Rational.{◌+ℚ◌, ◌≤ℚ◌}
+use Rattle.rational.proofs.Laws.{le_refl}
 use Rattle.run_watch.proofs.near.end_after.Goals as goal
 
 pub returns-then-is_short_after : goal.returns-then-is_short_after

@@ -1,5 +1,5 @@
 use Rattle.std.proofs.Common.{◌≡◌, ◌<◌, ◌≤◌, ◌∙◌, length, map, arith, refl, sym, subst, Some}
-use Rattle.upp_limits.specs.rational.specs.Rational.{ℚ}
+use Rattle.rational.specs.Rational.{ℚ}
 use Rattle.flow_watch.specs.watch_laws.Shorts.{EachPoint}
 use Rattle.run_watch.specs.WatchTimes.{point_at}
 use Rattle.run_watch.specs.IdleWindows.{IsShortWindow}

@@ -1,6 +1,6 @@
 use Rattle.run_watch.specs.Ramps.{ramps_after, RampsFit}
 use Rattle.std.proofs.Common.{pos, refl, sym, subst}
-use Rattle.upp_limits.specs.rational.specs.Rational.{ℚ, int}
+use Rattle.rational.specs.Rational.{ℚ, int}
 use Rattle.std.proofs.Common.{drop, ◌+◌}
 use Rattle.run_watch.proofs.Gathered.{ramp_fits, ramp_more, all_taken}
 use Rattle.run_watch.proofs.ramps.ramps_of.Goals as goal

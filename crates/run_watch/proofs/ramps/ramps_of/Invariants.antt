@@ -1,5 +1,5 @@
 use Rattle.std.proofs.Common.{◌≡◌, ◌++◌, drop, pos}
-use Rattle.upp_limits.specs.rational.specs.Rational.{int}
+use Rattle.rational.specs.Rational.{int}
 use Rattle.run_watch.specs.Ramps.{ramps_after, RampsFit}
 use Rattle.run_watch.proofs.ramps.ramps_of.Given as goal
 

@@ -1,5 +1,5 @@
 use Rattle.std.proofs.Common.{◌∙◌, sym, true≢false}
-use Rattle.upp_limits.specs.rational.proofs.Laws.{le_of_lt, le_of_not_lt}
+use Rattle.rational.proofs.Laws.{le_of_lt, le_of_not_lt}
 use Rattle.run_watch.proofs.Reaches.{fits_as}
 use Rattle.run_watch.proofs.reach.reach_of.Goals as goal
 

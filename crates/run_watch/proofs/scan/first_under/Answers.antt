@@ -1,6 +1,6 @@
 use Rattle.std.proofs.Common.{refl, true≢false, sym, subst, arith, ◌≡◌, ◌<◌, ◌+◌, ℕ, suc, length}
 use Rattle.std.proofs.lemmas.Option.{slice_get_read}
-use Rattle.upp_limits.specs.rational.specs.Ratio.{SumFits}
+use Rattle.rational.specs.Ratio.{SumFits}
 use Rattle.flow_watch.specs.watch_laws.Marks.{FitsRule, MostFits}
 use Rattle.run_watch.specs.Queue.{Scanned}
 use Rattle.run_watch.proofs.Marks.{each_map, scanned_at, scanned_more, kept_fit, passed_at, under_front}

@@ -1,6 +1,6 @@
 use Rattle.std.proofs.Common.{refl, true≢false, sym, subst, arith, ◌<◌, ◌≤◌, ◌+◌, List, length}
-use Rattle.upp_limits.specs.rational.specs.Rational.{ℚ, ◌+ℚ◌, ◌≤ℚ◌, ◌<ℚ◌}
-use Rattle.upp_limits.specs.rational.proofs.Laws.{le_of_not_lt}
+use Rattle.rational.specs.Rational.{ℚ, ◌+ℚ◌, ◌≤ℚ◌, ◌<ℚ◌}
+use Rattle.rational.proofs.Laws.{le_of_not_lt}
 use Rattle.flow_watch.specs.declared.watch_laws.mark.Mark.{Mark}
 use Rattle.run_watch.specs.Queue.{Scans}
 use Rattle.run_watch.proofs.Marks.{pushed_at, rest_not_far}

@@ -1,6 +1,6 @@
 use Rattle.std.proofs.Common.{◌∙◌, List, pos, refl, sym, subst, ap, true≢false}
-use Rattle.upp_limits.specs.rational.specs.Rational.{ℚ, int, ◌≤ℚ◌, ◌<ℚ◌}
-use Rattle.upp_limits.specs.rational.proofs.Laws.{le_of_not_lt}
+use Rattle.rational.specs.Rational.{ℚ, int, ◌≤ℚ◌, ◌<ℚ◌}
+use Rattle.rational.proofs.Laws.{le_of_not_lt}
 use Rattle.run_watch.specs.Watching.{RiseFrom, turns}
 use Rattle.run_watch.specs.Searches.{FindsIn}
 use Rattle.run_watch.proofs.IdleIn.{none_idle_more, first_here, late_from, late_rest, none_at_all}

@@ -1,6 +1,6 @@
 use Rattle.std.proofs.Common.{List, take}
-use Rattle.net_model.specs.run_laws.specs.Cards.{ServerStep}
-use Rattle.net_model.specs.run_laws.specs.Servers.{Server}
+use Rattle.run_laws.specs.Cards.{ServerStep}
+use Rattle.run_laws.specs.Servers.{Server}
 use Rattle.flow_watch.specs.watch_laws.Laws.{MayServe}
 use Rattle.run_watch.specs.Held.{IsSightOf}
 use Rattle.run_watch.proofs.IdleIn.{NoneIdleIn}

@@ -1,7 +1,7 @@
 use Rattle.std.specs.Prelude.{◌↔◌, Bool, true, false, not, IsTrue, Option}
 use Rattle.std.proofs.Common.{true≢false, refl, sym, subst}
-use Rattle.upp_limits.specs.rational.specs.Rational.{ℚ, ◌≤ℚ◌, ◌<ℚ◌}
-use Rattle.upp_limits.specs.rational.proofs.Laws.{lt_le_trans, lt_irrefl, le_of_not_lt}
+use Rattle.rational.specs.Rational.{ℚ, ◌≤ℚ◌, ◌<ℚ◌}
+use Rattle.rational.proofs.Laws.{lt_le_trans, lt_irrefl, le_of_not_lt}
 use Rattle.flow_watch.specs.watch_laws.Shorts.{IsPastEnd}
 use Rattle.run_watch.proofs.service.is_late.Goals as goal
 

@@ -1,6 +1,6 @@
 use Rattle.std.specs.Prelude.{◌≡◌, ◌<◌, ◌==◌, false, List, [], ◌∷◌, length, Some}
 use Rattle.std.proofs.Common.{◌∙◌, arith, refl, sym, true≢false}
-use Rattle.upp_limits.specs.rational.specs.Rational.{ℚ}
+use Rattle.rational.specs.Rational.{ℚ}
 use Rattle.run_watch.proofs.NearWindows.{all_part, part_to}
 use Rattle.run_watch.proofs.service.part_from.Goals as goal
 

@@ -1,6 +1,6 @@
 use Rattle.std.proofs.Common.{◌≡◌, refl, sym, subst, arith}
-use Rattle.upp_limits.specs.rational.specs.Rational.{◌+ℚ◌}
-use Rattle.upp_limits.specs.rational.specs.Ratio.{SumFits}
+use Rattle.rational.specs.Rational.{◌+ℚ◌}
+use Rattle.rational.specs.Ratio.{SumFits}
 use Rattle.flow_watch.specs.declared.watch_laws.point.Point.{Point}
 use Rattle.run_watch.proofs.ShortMarks.{late_more, each_at, middle_inside, none_late}
 use Rattle.run_watch.proofs.shorts.far_by.Goals as goal

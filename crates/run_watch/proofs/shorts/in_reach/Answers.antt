@@ -1,6 +1,6 @@
 use Rattle.std.proofs.Common.{take, refl, sym, subst}
 use Rattle.std.proofs.lemmas.List.{take_rest}
-use Rattle.upp_limits.specs.rational.specs.Ratio.{SumFits}
+use Rattle.rational.specs.Ratio.{SumFits}
 use Rattle.flow_watch.specs.watch_laws.Marks.{MostFits}
 use Rattle.flow_watch.specs.watch_laws.Shorts.{EachPoint}
 use Rattle.flow_watch.specs.declared.watch_laws.mark.Rule.{Rule}

@@ -1,10 +1,10 @@
 use Rattle.std.proofs.Common.{◌≡◌, ◌<◌, length, arith, rules, subst, sym, false}
 use Rattle.std.proofs.lemmas.List.Sorted.{IsPartitionPoint-from_clause}
-use Rattle.upp_limits.specs.rational.specs.Rational.{ℚ, le_q}
+use Rattle.rational.specs.Rational.{ℚ, le_q}
 use Rattle.run_watch.proofs.RampLists.{not_most}
 use Rattle.run_watch.proofs.WatchedLists.{parted_at, next_found, next_none}
 use Rattle.run_watch.proofs.watched.stop_after.Goals as goal
-use Rattle.net_model.specs.run_laws.specs.Counts.{upto}
+use Rattle.run_laws.specs.Counts.{upto}
 
 pub returns-then-past-stops : goal.returns-then-past-stops
 returns-then-past-stops c =

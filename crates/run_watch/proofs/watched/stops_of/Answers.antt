@@ -1,7 +1,7 @@
 use Rattle.std.specs.Prelude.{if◌then◌else◌}
 use Rattle.std.specs.List.{slice_index_or}
 use Rattle.std.proofs.Common.{◌≡◌, List, [], ◌∷◌, ◌+◌, ◌<◌, ◌≤◌, drop, length, refl, sym, subst, ap, ◌∙◌}
-use Rattle.upp_limits.specs.rational.specs.Rational.{ℚ}
+use Rattle.rational.specs.Rational.{ℚ}
 use Rattle.run_watch.specs.Watching.{stops_in}
 use Rattle.run_watch.proofs.Gathered.{taken, passed, all_taken}
 use Rattle.run_watch.proofs.watched.stops_of.Goals as goal

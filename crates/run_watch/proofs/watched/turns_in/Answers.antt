@@ -1,9 +1,9 @@
 use Rattle.std.proofs.Common.{◌-◌, List, length, drop, take, refl, rules, subst, sym}
 use Rattle.std.proofs.lemmas.List.{take_rest}
 use Rattle.std.proofs.lemmas.List.Sorted.{IsPartitionPoint-from_clause}
-use Rattle.upp_limits.specs.rational.specs.Rational.{ℚ}
+use Rattle.rational.specs.Rational.{ℚ}
 use Rattle.run_watch.specs.Watching.{RiseFrom}
-use Rattle.net_model.specs.run_laws.specs.Counts.{before, upto}
+use Rattle.run_laws.specs.Counts.{before, upto}
 use Rattle.run_watch.proofs.WatchedLists.{parted_at}
 use Rattle.run_watch.proofs.OwnTurns.{parted_before_at, rise_drop, rise_take, holds}
 use Rattle.run_watch.proofs.watched.turns_in.Goals as goal

@@ -1,5 +1,5 @@
 use Rattle.std.proofs.Common.{refl, ap}
-use Rattle.upp_limits.specs.rational.specs.Rational.{ℚ}
+use Rattle.rational.specs.Rational.{ℚ}
 use Rattle.flow_watch.specs.declared.watch_laws.point.Point.{Point}
 use Rattle.run_watch.specs.WatchTimes.{point_at}
 use Rattle.run_watch.proofs.Gathered.{mapped, all_mapped}

@@ -1,5 +1,5 @@
 use Rattle.std.proofs.lemmas.List.Filters.{dedup_is}
-use Rattle.upp_limits.specs.rational.specs.Compared.{same_q}
+use Rattle.rational.specs.Compared.{same_q}
 use Rattle.run_watch.proofs.OrderedTimes.{in_order}
 use Rattle.run_watch.proofs.windows.put_in_order.Goals as goal
 

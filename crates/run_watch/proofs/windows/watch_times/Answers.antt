@@ -1,5 +1,5 @@
 use Rattle.std.proofs.Common.{◌++◌, List, sym, subst}
-use Rattle.upp_limits.specs.rational.specs.Rational.{ℚ}
+use Rattle.rational.specs.Rational.{ℚ}
 use Rattle.run_watch.specs.declared.classes.Side.TheVariants.{Later, Earlier}
 use Rattle.run_watch.specs.Classes.{all_moves, AreLeadsBy}
 use Rattle.run_watch.specs.WatchTimes.{watched_from, HaveSameTimes}

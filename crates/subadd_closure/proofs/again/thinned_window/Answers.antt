@@ -1,6 +1,6 @@
 use Rattle.std.proofs.Common.{sym, subst, ◌∙◌}
-use Rattle.upp_limits.specs.rational.specs.declared.Extended.TheVariants.{Inf}
-use Rattle.upp_limits.specs.upp_curve.specs.Curve.{value_at}
+use Rattle.rational.specs.declared.Extended.TheVariants.{Inf}
+use Rattle.upp_curve.specs.Curve.{value_at}
 use Rattle.element_envelope.specs.EnvelopeWindows.{EnvelopeRoom}
 use Rattle.element_envelope.specs.PieceElements.{elements_of}
 use Rattle.subadd_closure.specs.Thinned.{IsThinned}

@@ -1,8 +1,8 @@
 use Rattle.std.proofs.Common.{sym, subst}
-use Rattle.upp_limits.specs.rational.specs.Extended.{◌≤ₑ◌}
-use Rattle.upp_limits.specs.rational.specs.declared.Extended.TheVariants.{Fin}
-use Rattle.upp_limits.specs.rational.proofs.Laws.{le_refl}
-use Rattle.upp_limits.specs.min_plus.specs.Functions.{zero_q}
+use Rattle.rational.specs.Extended.{◌≤ₑ◌}
+use Rattle.rational.specs.declared.Extended.TheVariants.{Fin}
+use Rattle.rational.proofs.Laws.{le_refl}
+use Rattle.min_plus.specs.Functions.{zero_q}
 use Rattle.subadd_closure.specs.Thinned.{MayThin}
 use Rattle.subadd_closure.proofs.ThinnedElements.{window_reads}
 use Rattle.subadd_closure.proofs.again.window_between.Goals as goal

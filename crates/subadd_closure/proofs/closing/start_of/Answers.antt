@@ -1,7 +1,7 @@
 use Rattle.std.proofs.Common.{◌≡◌, sym, ◌∙◌}
-use Rattle.upp_limits.specs.rational.specs.declared.Extended.TheVariants.{Fin, Inf}
-use Rattle.upp_limits.specs.rational.proofs.Laws.{le_refl}
-use Rattle.upp_limits.specs.min_plus.specs.Functions.{zero_q}
+use Rattle.rational.specs.declared.Extended.TheVariants.{Fin, Inf}
+use Rattle.rational.proofs.Laws.{le_refl}
+use Rattle.min_plus.specs.Functions.{zero_q}
 use Rattle.subadd_closure.proofs.FirstElements.{start_value}
 use Rattle.subadd_closure.proofs.closing.start_of.Goals as goal
 

@@ -1,7 +1,7 @@
 use Rattle.std.specs.Prelude.{pos}
 use Rattle.std.proofs.Common.{sym, subst}
-use Rattle.upp_limits.specs.rational.specs.Rational.{◌≤ℚ◌, int}
-use Rattle.upp_limits.specs.rational.proofs.Laws.{le_refl}
+use Rattle.rational.specs.Rational.{◌≤ℚ◌, int}
+use Rattle.rational.proofs.Laws.{le_refl}
 use Rattle.subadd_closure.proofs.from_start.begins_at.Goals as goal
 
 pub value_at-requires : goal.value_at-requires

@@ -2,7 +2,7 @@ use Rattle.std.proofs.Common.{refl, ◌∙◌}
 use Rattle.std.proofs.lemmas.Result.{err_from_is_err_and}
 use Rattle.upp_limits.specs.declared.op_kind.OpKind.TheVariants.{Convolve}
 use Rattle.outcomes.specs.Calls.{goes_on, stops}
-use Rattle.plain_operators.specs.curve_call.proofs.Applied.{applied_seen}
+use Rattle.curve_call.proofs.Applied.{applied_seen}
 use Rattle.subadd_closure.proofs.Made.{starts_at}
 use Rattle.subadd_closure.proofs.from_start.started_from.Goals as goal
 use Rattle.subadd_closure.proofs.from_start.started_from.Goals.{in-Ok, in-Err}

@@ -1,15 +1,15 @@
 use Rattle.std.specs.Prelude.{◌≡◌, ◌+◌}
 use Rattle.std.proofs.Common.{sym, refl, subst, true≢false}
-use Rattle.upp_limits.specs.rational.specs.Rational.{◌+ℚ◌, neg_ℚ}
-use Rattle.upp_limits.specs.rational.specs.declared.Extended.TheVariants.{Fin, Inf}
-use Rattle.upp_limits.specs.rational.proofs.Laws.{le_of_lt}
-use Rattle.upp_limits.specs.upp_curve.specs.affine_segment.Fits.{ReadFits}
-use Rattle.upp_limits.specs.upp_curve.specs.Readable.{SumFitsAt}
-use Rattle.upp_limits.specs.upp_curve.specs.affine_segment.Reading.{read}
-use Rattle.upp_limits.specs.upp_curve.specs.Curve.{repeated}
+use Rattle.rational.specs.Rational.{◌+ℚ◌, neg_ℚ}
+use Rattle.rational.specs.declared.Extended.TheVariants.{Fin, Inf}
+use Rattle.rational.proofs.Laws.{le_of_lt}
+use Rattle.upp_curve.specs.affine_segment.Fits.{ReadFits}
+use Rattle.upp_curve.specs.Readable.{SumFitsAt}
+use Rattle.upp_curve.specs.affine_segment.Reading.{read}
+use Rattle.upp_curve.specs.Curve.{repeated}
 use Rattle.upp_normal.specs.Normalising.{HasValues}
 use Rattle.upp_normal.proofs.NormaliseForm.{ok_map}
-use Rattle.plain_operators.specs.curve_call.specs.Answering.{IsAnswerWindow}
+use Rattle.curve_call.specs.Answering.{IsAnswerWindow}
 use Rattle.plain_operators.proofs.pointwise.LatticeCalls.{from_fits}
 use Rattle.subadd_closure.proofs.Started.{started_answer}
 use Rattle.subadd_closure.proofs.Windowed.{IsConvolved}

@@ -1,7 +1,7 @@
 use Rattle.std.proofs.Common.{subst, sym, ◌∙◌, ◌<◌, ◌^◌}
 use Rattle.std.specs.Prelude.{nat_abs}
-use Rattle.upp_limits.specs.rational.specs.Ratio.{IsSmall}
-use Rattle.upp_limits.specs.upp_curve.specs.Curves.{IsCurve}
+use Rattle.rational.specs.Ratio.{IsSmall}
+use Rattle.upp_curve.specs.Curves.{IsCurve}
 use Rattle.subadd_closure.proofs.LatticeCurves.{lattice_is_curve, lattice_made}
 use Rattle.subadd_closure.proofs.lattices.lattice.Goals as goal
 

@@ -1,5 +1,5 @@
 use Rattle.std.proofs.Common.{subst, sym, ◌∙◌}
-use Rattle.upp_limits.specs.upp_curve.specs.Curves.{IsCurve}
+use Rattle.upp_curve.specs.Curves.{IsCurve}
 use Rattle.subadd_closure.proofs.LatticeCurves.{origin_is_curve, origin_made}
 use Rattle.subadd_closure.proofs.lattices.origin.Goals as goal
 

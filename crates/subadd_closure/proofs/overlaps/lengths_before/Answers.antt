@@ -1,13 +1,13 @@
 use Rattle.std.proofs.Common.{◌≡◌, ap, sym, ◌∙◌, arith, pos}
 use Rattle.std.proofs.lemmas.Int.{to_z-of_z}
-use Rattle.upp_limits.specs.rational.specs.Rational.{◌-ℚ◌, ◌/ℚ◌, ◌<ℚ◌}
-use Rattle.upp_limits.specs.rational.specs.Whole.{whole_part}
-use Rattle.upp_limits.specs.rational.specs.Floor.{floor}
-use Rattle.upp_limits.specs.rational.proofs.Laws.{le_of_lt, not_zero}
-use Rattle.upp_limits.specs.rational.proofs.Linear.{with2}
-use Rattle.upp_limits.specs.rational.proofs.Quotients.{div_nonneg}
-use Rattle.upp_limits.specs.rational.proofs.Whole.{whole_floor}
-use Rattle.upp_limits.specs.min_plus.specs.Functions.{zero_q}
+use Rattle.rational.specs.Rational.{◌-ℚ◌, ◌/ℚ◌, ◌<ℚ◌}
+use Rattle.rational.specs.Whole.{whole_part}
+use Rattle.rational.specs.Floor.{floor}
+use Rattle.rational.proofs.Laws.{le_of_lt, not_zero}
+use Rattle.rational.proofs.Linear.{with2}
+use Rattle.rational.proofs.Quotients.{div_nonneg}
+use Rattle.rational.proofs.Whole.{whole_floor}
+use Rattle.min_plus.specs.Functions.{zero_q}
 use Rattle.subadd_closure.proofs.overlaps.lengths_before.Goals as goal
 
 pub quotient-requires-clause-some : goal.quotient-requires-clause-some

@@ -1,10 +1,10 @@
 use Rattle.std.proofs.Common.{subst, sym}
 use Rattle.std.specs.Prelude.{IfOk}
-use Rattle.upp_limits.specs.rational.specs.Rational.{◌≤ℚ◌, ◌<ℚ◌}
-use Rattle.upp_limits.specs.rational.specs.declared.Extended.TheVariants.{Fin}
-use Rattle.upp_limits.specs.upp_curve.specs.declared.affine_segment.element.Element.TheVariants.{Open}
-use Rattle.upp_limits.specs.min_plus.specs.Functions.{zero_q}
-use Rattle.upp_limits.specs.rational.proofs.Compared.{not_less_out}
+use Rattle.rational.specs.Rational.{◌≤ℚ◌, ◌<ℚ◌}
+use Rattle.rational.specs.declared.Extended.TheVariants.{Fin}
+use Rattle.upp_curve.specs.declared.affine_segment.element.Element.TheVariants.{Open}
+use Rattle.min_plus.specs.Functions.{zero_q}
+use Rattle.rational.proofs.Compared.{not_less_out}
 use Rattle.subadd_closure.proofs.MeetNumbers.{stretches_meet}
 use Rattle.subadd_closure.specs.SegmentLimits.{IsElementOf, IsOverlap, IsOwnGauge}
 use Rattle.subadd_closure.proofs.SegmentLimits.{early_stretch, endless_overlap, early_overlap, found_overlap}

@@ -1,5 +1,5 @@
 use Rattle.std.proofs.Common.{sym, ap, ◌∙◌}
-use Rattle.upp_limits.specs.rational.specs.declared.Extended.TheVariants.{Fin}
+use Rattle.rational.specs.declared.Extended.TheVariants.{Fin}
 use Rattle.subadd_closure.proofs.Risen.{left_of, left_is}
 use Rattle.subadd_closure.proofs.parts.repeats_start.Goals as goal
 

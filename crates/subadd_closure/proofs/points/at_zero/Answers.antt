@@ -1,5 +1,5 @@
 use Rattle.std.proofs.Common.{subst, sym}
-use Rattle.upp_limits.specs.upp_curve.specs.Curves.{IsCurve}
+use Rattle.upp_curve.specs.Curves.{IsCurve}
 use Rattle.subadd_closure.proofs.PointAnswers.{zero_is, zero_curve}
 use Rattle.subadd_closure.proofs.points.at_zero.Goals as goal
 

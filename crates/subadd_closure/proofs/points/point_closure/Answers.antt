@@ -1,7 +1,7 @@
 use Rattle.std.proofs.Common.{subst}
-use Rattle.upp_limits.specs.rational.specs.Rational.{◌<ℚ◌, ◌≤ℚ◌}
-use Rattle.upp_limits.specs.upp_curve.specs.declared.affine_segment.element.Element.TheVariants.{Point}
-use Rattle.upp_limits.specs.rational.proofs.Compared.{not_less_out}
+use Rattle.rational.specs.Rational.{◌<ℚ◌, ◌≤ℚ◌}
+use Rattle.upp_curve.specs.declared.affine_segment.element.Element.TheVariants.{Point}
+use Rattle.rational.proofs.Compared.{not_less_out}
 use Rattle.subadd_closure.specs.ElementCurves.{point_closure, point_at_zero}
 use Rattle.subadd_closure.proofs.PointAnswers.{ready_point, ready_zero}
 use Rattle.subadd_closure.proofs.SegmentAnswers.{ready_answer}

@@ -1,5 +1,5 @@
 use Rattle.std.proofs.Common.{◌≤◌, ◌^◌, subst, sym}
-use Rattle.upp_limits.specs.upp_curve.specs.Normal.{IsRaw}
+use Rattle.upp_curve.specs.Normal.{IsRaw}
 use Rattle.upp_limits.specs.Limits.{own_tally}
 use Rattle.subadd_closure.specs.PieceFits.{IsMade}
 use Rattle.subadd_closure.proofs.PointCurves.{point_normal}

@@ -1,5 +1,5 @@
 use Rattle.std.proofs.Common.{refl, sym, subst, arith}
-use Rattle.upp_limits.specs.rational.specs.Rational.{◌<ℚ◌}
+use Rattle.rational.specs.Rational.{◌<ℚ◌}
 use Rattle.subadd_closure.proofs.QuickCurves.{begins_late, not_less}
 use Rattle.subadd_closure.proofs.quick_bounds.begins_late.Goals as goal
 

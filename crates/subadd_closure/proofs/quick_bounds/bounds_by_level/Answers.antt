@@ -1,8 +1,8 @@
 use Rattle.std.proofs.Common.{pos, refl, sym, subst, true≢false}
-use Rattle.upp_limits.specs.rational.specs.Rational.{◌<ℚ◌, int}
-use Rattle.upp_limits.specs.rational.specs.Extended.{◌<ₑ◌}
-use Rattle.upp_limits.specs.upp_curve.specs.Steady.{rate}
-use Rattle.plain_operators.specs.curve_call.specs.Levels.{level_curve}
+use Rattle.rational.specs.Rational.{◌<ℚ◌, int}
+use Rattle.rational.specs.Extended.{◌<ₑ◌}
+use Rattle.upp_curve.specs.Steady.{rate}
+use Rattle.curve_call.specs.Levels.{level_curve}
 use Rattle.subadd_closure.proofs.QuickCurves.{bounds_by}
 use Rattle.subadd_closure.proofs.quick_bounds.bounds_by_level.Goals as goal
 

@@ -1,4 +1,4 @@
-use Rattle.upp_limits.specs.rational.proofs.Laws.{not_zero}
+use Rattle.rational.proofs.Laws.{not_zero}
 use Rattle.subadd_closure.proofs.QuickCurves.{line_run}
 use Rattle.subadd_closure.proofs.quick_bounds.line_rise.Goals as goal
 

@@ -1,9 +1,9 @@
 use Rattle.std.proofs.Common.{sym, subst, pos}
-use Rattle.upp_limits.specs.rational.specs.Rational.{int}
-use Rattle.upp_limits.specs.upp_curve.specs.Curve.{value_at}
+use Rattle.rational.specs.Rational.{int}
+use Rattle.upp_curve.specs.Curve.{value_at}
 use Rattle.upp_normal.specs.Ahead.{HasWindow}
-use Rattle.plain_operators.specs.curve_call.specs.Gaps.{InWindow, IsLargest}
-use Rattle.plain_operators.specs.curve_call.specs.Levels.{level_curve}
+use Rattle.curve_call.specs.Gaps.{InWindow, IsLargest}
+use Rattle.curve_call.specs.Levels.{level_curve}
 use Rattle.subadd_closure.proofs.quick_bounds.top_over.Goals as goal
 
 pub side_gap-requires : goal.side_gap-requires

@@ -1,8 +1,8 @@
 use Rattle.std.proofs.Common.{subst, ◌∙◌}
-use Rattle.upp_limits.specs.rational.specs.Rational.{◌<ℚ◌}
-use Rattle.upp_limits.specs.rational.specs.declared.Extended.TheVariants.{Fin}
-use Rattle.upp_limits.specs.upp_curve.specs.declared.affine_segment.element.Element.TheVariants.{Open}
-use Rattle.upp_limits.specs.rational.proofs.Compared.{is_less, is_greater, is_equal}
+use Rattle.rational.specs.Rational.{◌<ℚ◌}
+use Rattle.rational.specs.declared.Extended.TheVariants.{Fin}
+use Rattle.upp_curve.specs.declared.affine_segment.element.Element.TheVariants.{Open}
+use Rattle.rational.proofs.Compared.{is_less, is_greater, is_equal}
 use Rattle.subadd_closure.specs.ElementCurves.{level_closure, rising_closure, falling_closure}
 use Rattle.subadd_closure.proofs.SegmentAnswers.{ready_answer, ready_level, ready_rising, ready_falling, some_a, some_b}
 use Rattle.subadd_closure.proofs.segments.ended.Goals as goal

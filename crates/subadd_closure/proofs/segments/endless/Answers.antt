@@ -1,9 +1,9 @@
 use Rattle.std.proofs.Common.{subst}
-use Rattle.upp_limits.specs.rational.specs.Rational.{◌<ℚ◌, ◌≤ℚ◌}
-use Rattle.upp_limits.specs.rational.specs.declared.Extended.TheVariants.{Inf}
-use Rattle.upp_limits.specs.upp_curve.specs.declared.affine_segment.element.Element.TheVariants.{Open}
-use Rattle.upp_limits.specs.min_plus.specs.Functions.{zero_q}
-use Rattle.upp_limits.specs.rational.proofs.Compared.{not_less_out}
+use Rattle.rational.specs.Rational.{◌<ℚ◌, ◌≤ℚ◌}
+use Rattle.rational.specs.declared.Extended.TheVariants.{Inf}
+use Rattle.upp_curve.specs.declared.affine_segment.element.Element.TheVariants.{Open}
+use Rattle.min_plus.specs.Functions.{zero_q}
+use Rattle.rational.proofs.Compared.{not_less_out}
 use Rattle.subadd_closure.specs.ElementCurves.{level_closure, falling_closure}
 use Rattle.subadd_closure.proofs.SegmentAnswers.{ready_answer, ready_endless_level, ready_endless_falling, endless_some}
 use Rattle.subadd_closure.proofs.segments.endless.Goals as goal

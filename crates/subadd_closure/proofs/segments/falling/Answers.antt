@@ -1,12 +1,12 @@
 use Rattle.std.proofs.Common.{arith, ◌≡◌, ◌∙◌, ◌+◌, ◌≤◌, ◌^◌, suc, subst, sym, ap}
 use Rattle.std.proofs.lemmas.Result.{err_from_is_err_and}
-use Rattle.upp_limits.specs.upp_curve.specs.Normal.{IsRaw}
+use Rattle.upp_curve.specs.Normal.{IsRaw}
 use Rattle.upp_limits.specs.Limits.{own_tally}
 use Rattle.subadd_closure.specs.ElementCurves.{turn}
 use Rattle.subadd_closure.specs.PieceFits.{PieceFits, IsMade}
 use Rattle.subadd_closure.proofs.SegmentAnswers.{turn_unfit, turn_wide, rise_wide, turn_few, turn_is, falling_q}
 use Rattle.subadd_closure.proofs.segments.falling.Goals as goal
-use Rattle.upp_limits.specs.min_plus.specs.closure_laws.Star.{nat_times}
+use Rattle.min_plus.specs.closure_laws.Star.{nat_times}
 
 pub returns-in_err-pieces : goal.returns-in_err-pieces
 returns-in_err-pieces c =

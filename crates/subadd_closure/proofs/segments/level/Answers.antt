@@ -1,11 +1,11 @@
 use Rattle.std.proofs.Common.{arith, ◌≡◌, ◌∙◌, ◌+◌, suc, subst, sym}
 use Rattle.std.proofs.lemmas.Result.{err_from_is_err_and}
-use Rattle.upp_limits.specs.rational.specs.Ratio.{IsSmall}
-use Rattle.upp_limits.specs.upp_curve.specs.Curves.{IsCurve}
+use Rattle.rational.specs.Ratio.{IsSmall}
+use Rattle.upp_curve.specs.Curves.{IsCurve}
 use Rattle.subadd_closure.specs.ElementCurves.{level_closure}
 use Rattle.subadd_closure.proofs.SegmentAnswers.{level_unfit, level_wide, level_blind, level_is, level_curve, formed}
 use Rattle.subadd_closure.proofs.segments.level.Goals as goal
-use Rattle.upp_limits.specs.min_plus.specs.closure_laws.Star.{nat_times}
+use Rattle.min_plus.specs.closure_laws.Star.{nat_times}
 
 pub returns-in_err-pieces : goal.returns-in_err-pieces
 returns-in_err-pieces c =

@@ -1,6 +1,6 @@
 use Rattle.std.proofs.Common.{subst, sym, ◌∙◌}
-use Rattle.upp_limits.specs.upp_curve.specs.Curves.{IsCurve}
-use Rattle.upp_limits.specs.min_plus.specs.Functions.{zero_q}
+use Rattle.upp_curve.specs.Curves.{IsCurve}
+use Rattle.min_plus.specs.Functions.{zero_q}
 use Rattle.subadd_closure.specs.ElementCurves.{level_closure}
 use Rattle.subadd_closure.proofs.SegmentAnswers.{formed, single_is, single_made}
 use Rattle.subadd_closure.proofs.segments.single.Goals as goal

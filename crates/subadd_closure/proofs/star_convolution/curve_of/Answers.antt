@@ -1,6 +1,6 @@
 use Rattle.std.proofs.Common.{refl}
 use Rattle.std.specs.Prelude.{◌+◌}
-use Rattle.upp_limits.specs.upp_curve.specs.Unrolled.{unroll}
+use Rattle.upp_curve.specs.Unrolled.{unroll}
 use Rattle.upp_normal.proofs.NormaliseForm.{ok_map}
 use Rattle.plain_operators.proofs.pointwise.LatticeCalls.{from_fits}
 use Rattle.curve_conv.proofs.ConvolveAnswers.{convolved_answer, convolved_values}

@@ -1,6 +1,6 @@
 use Rattle.std.proofs.Common.{refl}
 use Rattle.std.proofs.lemmas.Result.{err_from_is_err_and}
-use Rattle.upp_limits.specs.upp_curve.specs.declared.affine_segment.element.Element.TheVariants.{Open}
+use Rattle.upp_curve.specs.declared.affine_segment.element.Element.TheVariants.{Open}
 use Rattle.subadd_closure.proofs.FoldThins.{element_subadditive}
 use Rattle.subadd_closure.proofs.FoldMemory.{no_call, closure_wants}
 use Rattle.subadd_closure.proofs.ElementStars.{refused_star, made_star}

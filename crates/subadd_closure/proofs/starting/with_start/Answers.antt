@@ -1,6 +1,6 @@
 use Rattle.std.proofs.Common.{sym, subst, ◌∙◌}
-use Rattle.upp_limits.specs.rational.specs.declared.Extended.TheVariants.{Fin}
-use Rattle.upp_limits.specs.upp_curve.specs.Curves.{IsCurve}
+use Rattle.rational.specs.declared.Extended.TheVariants.{Fin}
+use Rattle.upp_curve.specs.Curves.{IsCurve}
 use Rattle.subadd_closure.specs.Starting.{IsStartedAt}
 use Rattle.subadd_closure.proofs.StartCurves.{started_curve, started_values, start_is}
 use Rattle.subadd_closure.proofs.starting.with_start.Goals as goal

@@ -1,5 +1,5 @@
 use Rattle.std.proofs.Common.{ap, ◌∙◌, [], ◌∷◌, ◌++◌}
-use Rattle.upp_limits.specs.rational.proofs.Compared.{not_less_out}
+use Rattle.rational.proofs.Compared.{not_less_out}
 use Rattle.subadd_closure.proofs.TurnSteps.{pushed_after, pushed_alone}
 use Rattle.subadd_closure.proofs.stretches.add_stretch.Goals as goal
 use Rattle.subadd_closure.proofs.stretches.add_stretch.Goals.{then-is_less+in_ok-push, else-is_less}

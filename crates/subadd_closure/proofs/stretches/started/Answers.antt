@@ -1,6 +1,6 @@
 use Rattle.std.proofs.Common.{ap, ◌∙◌, subst, [], ◌∷◌, ◌++◌}
-use Rattle.upp_limits.specs.rational.specs.Rational.{◌<ℚ◌, ◌≤ℚ◌}
-use Rattle.upp_limits.specs.rational.proofs.Compared.{not_less_out}
+use Rattle.rational.specs.Rational.{◌<ℚ◌, ◌≤ℚ◌}
+use Rattle.rational.proofs.Compared.{not_less_out}
 use Rattle.subadd_closure.proofs.TurnSteps.{started_late, started_early}
 use Rattle.subadd_closure.proofs.stretches.started.Goals as goal
 use Rattle.subadd_closure.proofs.stretches.started.Goals.{then-is_less+in_ok-push, else-is_less}

@@ -1,9 +1,9 @@
 use Rattle.std.proofs.Common.{Err, arith, refl}
 use Rattle.std.proofs.lemmas.Result.{err_from_is_err_and}
 use Rattle.upp_limits.specs.declared.op_kind.OpKind.TheVariants.{Min, Convolve}
-use Rattle.upp_limits.specs.upp_curve.specs.Curve.{value_at}
+use Rattle.upp_curve.specs.Curve.{value_at}
 use Rattle.outcomes.specs.Calls.{goes_on, stops}
-use Rattle.plain_operators.specs.curve_call.proofs.Applied.{applied_seen}
+use Rattle.curve_call.proofs.Applied.{applied_seen}
 use Rattle.subadd_closure.proofs.FoldMemory.{same_want, call_wants}
 use Rattle.subadd_closure.proofs.SameConvolution.{subadditive_where_same, same_where_subadditive}
 use Rattle.subadd_closure.proofs.subadditive.is_subadditive.Goals as goal

@@ -1,7 +1,7 @@
 use Rattle.std.proofs.Common.{◌+◌, drop, drop_of_length-le, refl}
-use Rattle.upp_limits.specs.upp_curve.proofs.affine_segment.NextPiece.{next_piece}
+use Rattle.upp_curve.proofs.affine_segment.NextPiece.{next_piece}
 use Rattle.subadd_closure.proofs.ThinnedElements.{under_more, under_stops, under_ends}
-use Rattle.upp_limits.specs.rational.proofs.Compared.{least_by_test}
+use Rattle.rational.proofs.Compared.{least_by_test}
 use Rattle.subadd_closure.proofs.thinned.all_under.Goals as goal
 
 pub loop-p-preserved : goal.loop-p-preserved

@@ -1,5 +1,5 @@
 use Rattle.std.proofs.Common.{refl}
-use Rattle.upp_limits.specs.rational.proofs.Compared.{least_by_test}
+use Rattle.rational.proofs.Compared.{least_by_test}
 use Rattle.subadd_closure.proofs.ThinnedElements.{ends_after, ends_within}
 use Rattle.subadd_closure.proofs.thinned.ends_under.Goals as goal
 

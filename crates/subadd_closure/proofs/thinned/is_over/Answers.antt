@@ -1,8 +1,8 @@
 use Rattle.std.proofs.Common.{refl, subst}
-use Rattle.upp_limits.specs.rational.specs.Rational.{◌≤ℚ◌, ◌<ℚ◌}
-use Rattle.upp_limits.specs.rational.proofs.Laws.{le_of_lt}
+use Rattle.rational.specs.Rational.{◌≤ℚ◌, ◌<ℚ◌}
+use Rattle.rational.proofs.Laws.{le_of_lt}
 use Rattle.subadd_closure.proofs.ThinnedElements.{segment_is_over}
-use Rattle.upp_limits.specs.rational.proofs.Compared.{least_by_test}
+use Rattle.rational.proofs.Compared.{least_by_test}
 use Rattle.subadd_closure.proofs.thinned.is_over.Goals as goal
 
 pub value_under-requires : goal.value_under-requires

@@ -1,10 +1,10 @@
 use Rattle.std.proofs.Common.{sym, subst}
-use Rattle.upp_limits.specs.rational.specs.Rational.{◌≤ℚ◌}
-use Rattle.upp_limits.specs.upp_curve.specs.affine_segment.Pieces.{Each}
-use Rattle.upp_limits.specs.upp_curve.specs.Unrolled.{upto}
+use Rattle.rational.specs.Rational.{◌≤ℚ◌}
+use Rattle.upp_curve.specs.affine_segment.Pieces.{Each}
+use Rattle.upp_curve.specs.Unrolled.{upto}
 use Rattle.subadd_closure.specs.Thinned.{LiesUnder}
 use Rattle.subadd_closure.proofs.ThinnedElements.{slice_is, slice_under}
-use Rattle.upp_limits.specs.rational.proofs.Compared.{least_by_test}
+use Rattle.rational.proofs.Compared.{least_by_test}
 use Rattle.subadd_closure.proofs.thinned.segment_over.Goals as goal
 
 pub returns : goal.returns

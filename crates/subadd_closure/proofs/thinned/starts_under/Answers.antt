@@ -1,4 +1,4 @@
-use Rattle.upp_limits.specs.upp_curve.specs.affine_segment.Values.{line_at}
+use Rattle.upp_curve.specs.affine_segment.Values.{line_at}
 use Rattle.subadd_closure.proofs.ThinnedElements.{value_most}
 use Rattle.subadd_closure.proofs.thinned.starts_under.Goals as goal
 

@@ -1,5 +1,5 @@
 use Rattle.std.proofs.Common.{take}
-use Rattle.upp_limits.specs.upp_curve.specs.Curve.{value_at}
+use Rattle.upp_curve.specs.Curve.{value_at}
 use Rattle.subadd_closure.specs.Thinned.{IsThinned}
 use Rattle.subadd_closure.proofs.thinned.thinned.Given as goal
 

@@ -1,6 +1,6 @@
 use Rattle.std.proofs.Common.{sym, subst, ap, ◌∙◌, refl, Some, None, ◌↔◌, IsTrue}
-use Rattle.min_plus.specs.rational.specs.Extended.{◌+ₑ◌}
-use Rattle.min_plus.specs.rational.specs.declared.Extended.TheVariants.{Fin}
+use Rattle.rational.specs.Extended.{◌+ₑ◌}
+use Rattle.rational.specs.declared.Extended.TheVariants.{Fin}
 use Rattle.upp_curve.specs.affine_segment.Reading.{read}
 use Rattle.upp_curve.specs.Readable.{EachFits}
 use Rattle.upp_curve.specs.JoinedPieces.{PiecesJoin}

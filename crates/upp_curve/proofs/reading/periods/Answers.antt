@@ -1,7 +1,7 @@
 use Rattle.std.proofs.Common.{ap, ◌∙◌, pos}
-use Rattle.min_plus.specs.rational.specs.Rational.{ℚ, int, ◌/ℚ◌}
-use Rattle.min_plus.specs.rational.specs.Whole.{periods, whole_part}
-use Rattle.min_plus.specs.rational.proofs.Whole.{not_zero}
+use Rattle.rational.specs.Rational.{ℚ, int, ◌/ℚ◌}
+use Rattle.rational.specs.Whole.{periods, whole_part}
+use Rattle.rational.proofs.Whole.{not_zero}
 use Rattle.upp_curve.proofs.reading.periods.Goals as goal
 
 pub div-requires : goal.div-requires

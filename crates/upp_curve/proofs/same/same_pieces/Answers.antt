@@ -1,5 +1,5 @@
 use Rattle.std.proofs.Common.{arith, refl, pos, ext_get_or}
-use Rattle.min_plus.specs.rational.specs.Rational.{int}
+use Rattle.rational.specs.Rational.{int}
 use Rattle.upp_curve.specs.Kinds.{piece}
 use Rattle.upp_curve.proofs.same.same_pieces.Goals as goal
 

@@ -1,8 +1,8 @@
 use Rattle.std.proofs.Common.{true≢false, sym, subst, refl}
-use Rattle.min_plus.specs.rational.specs.Extended.{◌≤ₑ◌}
-use Rattle.min_plus.specs.rational.specs.declared.Extended.TheVariants.{Fin}
-use Rattle.min_plus.specs.rational.proofs.Laws.{lt_irrefl, lt_le_trans}
-use Rattle.min_plus.specs.rational.proofs.Compared.{is_greater, not_greater}
+use Rattle.rational.specs.Extended.{◌≤ₑ◌}
+use Rattle.rational.specs.declared.Extended.TheVariants.{Fin}
+use Rattle.rational.proofs.Laws.{lt_irrefl, lt_le_trans}
+use Rattle.rational.proofs.Compared.{is_greater, not_greater}
 use Rattle.upp_curve.proofs.shape.at_most.Goals as goal
 
 pub returns-in-Greater : goal.returns-in-Greater

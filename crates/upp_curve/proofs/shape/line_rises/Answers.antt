@@ -1,6 +1,6 @@
 use Rattle.std.proofs.Common.{sym, true≢false, subst}
-use Rattle.min_plus.specs.rational.specs.Rational.{◌≤ℚ◌}
-use Rattle.min_plus.specs.rational.proofs.Compared.{is_less, not_less}
+use Rattle.rational.specs.Rational.{◌≤ℚ◌}
+use Rattle.rational.proofs.Compared.{is_less, not_less}
 use Rattle.upp_curve.proofs.LineRising.{rises_by_tests, falls}
 use Rattle.upp_curve.proofs.shape.line_rises.Goals as goal
 

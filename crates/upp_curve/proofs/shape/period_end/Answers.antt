@@ -1,6 +1,6 @@
 use Rattle.std.proofs.Common.{ap, sym, subst, ◌∙◌}
-use Rattle.min_plus.specs.rational.specs.Extended.{◌+ₑ◌}
-use Rattle.min_plus.specs.rational.specs.declared.Extended.TheVariants.{Fin}
+use Rattle.rational.specs.Extended.{◌+ₑ◌}
+use Rattle.rational.specs.declared.Extended.TheVariants.{Fin}
 use Rattle.upp_curve.specs.Readable.{SumFitsAt}
 use Rattle.upp_curve.proofs.RisingCurves.{read_at_start}
 use Rattle.upp_curve.proofs.shape.period_end.Goals as goal

@@ -1,6 +1,6 @@
 use Rattle.std.proofs.Common.{subst}
-use Rattle.min_plus.specs.rational.specs.Rational.{◌≤ℚ◌}
-use Rattle.min_plus.specs.rational.proofs.Compared.{not_less_out}
+use Rattle.rational.specs.Rational.{◌≤ℚ◌}
+use Rattle.rational.proofs.Compared.{not_less_out}
 use Rattle.upp_limits.proofs.CoveredCounts.{copies_few}
 use Rattle.upp_limits.proofs.counts.copies_after.Goals as goal
 

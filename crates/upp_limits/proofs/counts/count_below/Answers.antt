@@ -1,6 +1,6 @@
 use Rattle.std.proofs.Common.{pos, ◌+◌, ◌∙◌, sym, ap, ◌-◌, ◌^◌}
 use Rattle.std.specs.Prelude.{min}
-use Rattle.min_plus.specs.rational.specs.Rational.{◌≤ℚ◌, int}
+use Rattle.rational.specs.Rational.{◌≤ℚ◌, int}
 use Rattle.upp_curve.specs.Curve.{SpecCurve}
 use Rattle.upp_limits.specs.Spans.{number_below}
 use Rattle.upp_limits.proofs.PieceLists.{starts_nonneg, every_at}

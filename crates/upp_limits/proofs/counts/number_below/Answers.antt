@@ -1,4 +1,4 @@
-use Rattle.min_plus.specs.rational.proofs.Compared.{not_less_out}
+use Rattle.rational.proofs.Compared.{not_less_out}
 use Rattle.upp_limits.proofs.CountSums.{copies_number}
 use Rattle.upp_limits.proofs.counts.number_below.Goals as goal
 

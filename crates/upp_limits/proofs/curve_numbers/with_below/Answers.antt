@@ -2,7 +2,7 @@ use Rattle.std.proofs.Common.{subst}
 use Rattle.upp_limits.specs.Spans.{Span}
 use Rattle.upp_limits.specs.Limits.{joined}
 use Rattle.upp_limits.specs.Gathered.{Gathers}
-use Rattle.min_plus.specs.rational.proofs.Compared.{not_less_out}
+use Rattle.rational.proofs.Compared.{not_less_out}
 use Rattle.upp_limits.proofs.SpanNumbers.{if_some_map, too_many_known, copies_value, copies_known}
 use Rattle.upp_limits.proofs.curve_numbers.with_below.Goals as goal
 

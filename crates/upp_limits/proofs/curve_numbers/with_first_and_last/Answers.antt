@@ -1,5 +1,5 @@
 use Rattle.std.proofs.Common.{subst}
-use Rattle.min_plus.specs.rational.specs.Rational.{◌*ℚ◌}
+use Rattle.rational.specs.Rational.{◌*ℚ◌}
 use Rattle.upp_limits.specs.Spans.{Span}
 use Rattle.upp_limits.specs.Limits.{joined}
 use Rattle.upp_limits.specs.ClosedForm.{span_numbers, last_numbers}

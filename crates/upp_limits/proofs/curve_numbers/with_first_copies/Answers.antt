@@ -1,5 +1,5 @@
 use Rattle.std.proofs.Common.{pos, subst}
-use Rattle.min_plus.specs.rational.specs.Rational.{int}
+use Rattle.rational.specs.Rational.{int}
 use Rattle.upp_curve.specs.declared.curve.Tail.TheVariants.{Affine}
 use Rattle.upp_limits.specs.Spans.{spans}
 use Rattle.upp_limits.specs.Limits.{joined}

@@ -1,6 +1,6 @@
 use Rattle.upp_limits.specs.Limits.{joined, value_alone}
 use Rattle.std.proofs.Common.{pos}
-use Rattle.min_plus.specs.rational.specs.Rational.{int}
+use Rattle.rational.specs.Rational.{int}
 use Rattle.upp_limits.proofs.CoveredCalls.{gathers_above, largest_above}
 use Rattle.upp_limits.proofs.first_copies.numbers_above.Goals as goal
 

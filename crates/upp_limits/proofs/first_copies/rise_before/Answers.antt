@@ -1,6 +1,6 @@
-use Rattle.min_plus.specs.rational.proofs.Compared.{not_less_out}
+use Rattle.rational.proofs.Compared.{not_less_out}
 use Rattle.std.proofs.Common.{subst}
-use Rattle.min_plus.specs.rational.specs.Rational.{◌≤ℚ◌}
+use Rattle.rational.specs.Rational.{◌≤ℚ◌}
 use Rattle.upp_limits.proofs.CoveredCalls.{rise_is_most}
 use Rattle.upp_limits.proofs.first_copies.rise_before.Goals as goal
 

@@ -1,10 +1,10 @@
 use Rattle.std.proofs.Common.{arith, ◌≡◌, ℕ, ◌<◌, ◌*◌, ◌/◌, ◌∙◌, ap, sym, subst}
 use native.Mathlib.Nat.{pos_of_dvd_of_pos}
-use Rattle.min_plus.specs.rational.specs.Gcd.{gcd}
-use Rattle.min_plus.specs.rational.specs.Gauge.{lcm, Kept}
-use Rattle.min_plus.specs.rational.specs.Euclid.{gcd_is}
-use Rattle.min_plus.specs.rational.proofs.Gauges.{kept_lcm, kept_lcm_big}
-use Rattle.upp_curve.specs.fraction128.proofs.Coprime.{gcd_comm, gcd_one}
+use Rattle.rational.specs.Gcd.{gcd}
+use Rattle.rational.specs.Gauge.{lcm, Kept}
+use Rattle.rational.specs.Euclid.{gcd_is}
+use Rattle.rational.proofs.Gauges.{kept_lcm, kept_lcm_big}
+use Rattle.fraction128.proofs.Coprime.{gcd_comm, gcd_one}
 use Rattle.upp_limits.proofs.gathered.common_multiple.Goals as goal
 
 lcm_one : (n : ℕ) → n ≡ lcm 1 n

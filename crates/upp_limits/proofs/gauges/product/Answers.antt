@@ -1,5 +1,5 @@
 use Rattle.std.proofs.Common.{◌*◌}
-use Rattle.min_plus.specs.rational.proofs.Gauges.{kept_six, kept_exact}
+use Rattle.rational.proofs.Gauges.{kept_six, kept_exact}
 use Rattle.upp_limits.proofs.gauges.product.Goals as goal
 
 pub returns-then-whole : goal.returns-then-whole

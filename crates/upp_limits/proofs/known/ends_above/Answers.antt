@@ -1,4 +1,4 @@
-use Rattle.min_plus.specs.rational.proofs.Compared.{iff_trans}
+use Rattle.rational.proofs.Compared.{iff_trans}
 use Rattle.upp_limits.proofs.LevelCurves.{levels_above}
 use Rattle.upp_limits.proofs.known.ends_above.Goals as goal
 

@@ -1,4 +1,4 @@
-use Rattle.min_plus.specs.rational.proofs.Compared.{not_less_out}
+use Rattle.rational.proofs.Compared.{not_less_out}
 use Rattle.upp_limits.proofs.AtRank.{none_past, some_past, infinite_at, finite_at}
 use Rattle.upp_limits.proofs.own_window.is_infinite_at.Goals as goal
 

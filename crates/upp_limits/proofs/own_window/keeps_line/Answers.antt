@@ -1,7 +1,7 @@
 use Rattle.std.proofs.Common.{◌∙◌, sym}
 use Rattle.upp_curve.specs.affine_segment.Values.{line_value}
 use Rattle.upp_curve.specs.affine_segment.Reading.{piece_value}
-use Rattle.min_plus.specs.rational.proofs.Compared.{not_less_out}
+use Rattle.rational.proofs.Compared.{not_less_out}
 use Rattle.upp_limits.proofs.AtRank.{same_test, same_by, same_values}
 use Rattle.upp_limits.proofs.own_window.keeps_line.Goals as goal
 use Rattle.upp_curve.proofs.affine_segment.PieceIn.{value_by, value_past}

@@ -1,6 +1,6 @@
 use Rattle.std.proofs.Common.{arith, refl, subst, ◌*◌, ◌<◌, ◌^◌}
-use Rattle.min_plus.specs.rational.specs.Gauge.{Kept}
-use Rattle.min_plus.specs.rational.proofs.Gauges.{kept_times}
+use Rattle.rational.specs.Gauge.{Kept}
+use Rattle.rational.proofs.Gauges.{kept_times}
 use Rattle.upp_limits.specs.Limits.{sizes_of}
 use Rattle.upp_limits.proofs.CurveStands.{are_sizes}
 use Rattle.upp_limits.proofs.NarrowSizes.{narrow_gauge, grids_narrow}

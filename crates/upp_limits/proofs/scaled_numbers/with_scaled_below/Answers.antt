@@ -2,7 +2,7 @@ use Rattle.std.proofs.Common.{subst, sym}
 use Rattle.upp_limits.specs.Spans.{Span}
 use Rattle.upp_limits.specs.Gathered.{Gathers}
 use Rattle.upp_limits.specs.ClosedOperands.{scaled_span}
-use Rattle.min_plus.specs.rational.proofs.Compared.{not_less_out}
+use Rattle.rational.proofs.Compared.{not_less_out}
 use Rattle.upp_limits.proofs.ScaledCurves.{late_joined}
 use Rattle.upp_limits.proofs.scaled_numbers.with_scaled_below.Goals as goal
 

@@ -1,5 +1,5 @@
 use Rattle.std.proofs.Common.{arith, ◌≡◌}
-use Rattle.min_plus.specs.rational.specs.Rational.{◌-ℚ◌, ◌/ℚ◌}
+use Rattle.rational.specs.Rational.{◌-ℚ◌, ◌/ℚ◌}
 use Rattle.min_plus.specs.WholeUp.{whole_up}
 use Rattle.upp_limits.proofs.Rounding.{cap_kept}
 use Rattle.upp_limits.proofs.start_counts.count_before.Goals as goal

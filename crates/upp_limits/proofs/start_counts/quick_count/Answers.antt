@@ -1,4 +1,4 @@
-use Rattle.min_plus.specs.rational.proofs.Whole.{not_zero}
+use Rattle.rational.proofs.Whole.{not_zero}
 use Rattle.upp_limits.proofs.start_counts.quick_count.Goals as goal
 
 pub div-requires : goal.div-requires

@@ -1,6 +1,6 @@
 use Rattle.std.proofs.Common.{arith}
-use Rattle.min_plus.specs.rational.specs.Rational.{◌-ℚ◌, ◌/ℚ◌}
-use Rattle.min_plus.specs.rational.proofs.Laws.{le_of_lt}
+use Rattle.rational.specs.Rational.{◌-ℚ◌, ◌/ℚ◌}
+use Rattle.rational.proofs.Laws.{le_of_lt}
 use Rattle.min_plus.specs.WholeUp.{whole_up}
 use Rattle.upp_limits.proofs.Rounding.{cap_reached, cap_kept, told_below, told_from}
 use Rattle.upp_limits.proofs.start_counts.searched_count.Goals as goal

@@ -1,5 +1,5 @@
 use Rattle.std.proofs.Common.{◌-◌, ◌≤◌}
-use Rattle.min_plus.specs.rational.specs.Rational.{◌-ℚ◌, ◌/ℚ◌}
+use Rattle.rational.specs.Rational.{◌-ℚ◌, ◌/ℚ◌}
 use Rattle.min_plus.specs.WholeUp.{whole_up}
 use Rattle.upp_limits.proofs.start_counts.searched_count.Given as goal
 

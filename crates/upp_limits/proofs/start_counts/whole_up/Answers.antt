@@ -1,6 +1,6 @@
 use Rattle.std.proofs.Common.{subst, ◌∙◌}
-use Rattle.min_plus.specs.rational.specs.Rational.{◌<ℚ◌, ◌≤ℚ◌}
-use Rattle.min_plus.specs.rational.proofs.Compared.{not_less_out}
+use Rattle.rational.specs.Rational.{◌<ℚ◌, ◌≤ℚ◌}
+use Rattle.rational.proofs.Compared.{not_less_out}
 use Rattle.upp_limits.proofs.Rounding.{whole_up_neg, whole_up_size}
 use Rattle.upp_limits.proofs.start_counts.whole_up.Goals as goal
 

@@ -1,6 +1,6 @@
 use Rattle.std.proofs.Common.{subst}
-use Rattle.min_plus.specs.rational.specs.Rational.{◌<ℚ◌, ◌≤ℚ◌}
-use Rattle.min_plus.specs.rational.proofs.Compared.{not_less_out, iff_none, iff_trans}
+use Rattle.rational.specs.Rational.{◌<ℚ◌, ◌≤ℚ◌}
+use Rattle.rational.proofs.Compared.{not_less_out, iff_none, iff_trans}
 use Rattle.upp_limits.proofs.LongCrosses.{not_before}
 use Rattle.upp_limits.proofs.starts.is_before.Goals as goal
 

@@ -1,5 +1,5 @@
 use Rattle.std.proofs.Common.{refl}
-use Rattle.upp_limits.specs.rational.proofs.Laws.{not_le_of_lt}
+use Rattle.rational.proofs.Laws.{not_le_of_lt}
 use Rattle.upp_normal.proofs.ahead.copied_value.Goals as goal
 
 pub returns-then-is_less-clause-start : goal.returns-then-is_less-clause-start

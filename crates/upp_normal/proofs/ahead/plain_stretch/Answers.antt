@@ -1,5 +1,5 @@
 use Rattle.std.proofs.Common.{◌∙◌}
-use Rattle.upp_limits.specs.upp_curve.proofs.affine_segment.PieceIn.{read_found}
+use Rattle.upp_curve.proofs.affine_segment.PieceIn.{read_found}
 use Rattle.upp_normal.proofs.ahead.plain_stretch.Goals as goal
 
 pub returns-clause-at : goal.returns-clause-at

@@ -1,9 +1,9 @@
 use Rattle.std.proofs.Common.{Some, subst, sym, ap, ◌∙◌}
-use Rattle.upp_limits.specs.rational.specs.Rational.{◌+ℚ◌}
-use Rattle.upp_limits.specs.rational.specs.Grid.{Whole}
-use Rattle.upp_limits.specs.upp_curve.specs.affine_segment.Fits.{LineFitsAt}
+use Rattle.rational.specs.Rational.{◌+ℚ◌}
+use Rattle.rational.specs.Grid.{Whole}
+use Rattle.upp_curve.specs.affine_segment.Fits.{LineFitsAt}
 use Rattle.upp_normal.specs.Ahead.{AtNext}
-use Rattle.upp_limits.specs.upp_curve.specs.affine_segment.Reading.{next_in}
+use Rattle.upp_curve.specs.affine_segment.Reading.{next_in}
 use Rattle.upp_normal.proofs.StretchValues.{repeated_here, repeated_goes, repeated_sizes, early_low}
 use Rattle.upp_normal.proofs.ahead.repeating_stretch.Goals as goal
 

@@ -1,7 +1,7 @@
 use Rattle.std.proofs.Common.{subst, sym, ap, ◌∙◌, None}
-use Rattle.upp_limits.specs.upp_curve.specs.affine_segment.Pieces.{StartsAtZero}
-use Rattle.upp_limits.specs.upp_curve.specs.affine_segment.Reading.{read, line_in, next_in}
-use Rattle.upp_limits.specs.upp_curve.specs.affine_segment.Fits.{ReadFits}
+use Rattle.upp_curve.specs.affine_segment.Pieces.{StartsAtZero}
+use Rattle.upp_curve.specs.affine_segment.Reading.{read, line_in, next_in}
+use Rattle.upp_curve.specs.affine_segment.Fits.{ReadFits}
 use Rattle.upp_normal.specs.Operand.{OperandLineAt}
 use Rattle.upp_normal.specs.Ahead.{GridValue}
 use Rattle.upp_normal.proofs.StretchValues.{IsPlain, is_plain, plain_here, plain_goes, plain_times}

@@ -1,8 +1,8 @@
 use Rattle.std.proofs.Common.{subst, sym, ap, ◌∙◌, refl}
-use Rattle.upp_limits.specs.rational.specs.Rational.{◌*ℚ◌, ◌/ℚ◌, neg_ℚ}
-use Rattle.upp_limits.specs.rational.specs.Ratio.{IsSmall, SumFits}
-use Rattle.upp_limits.specs.rational.specs.Whole.{periods}
-use Rattle.upp_limits.specs.rational.proofs.Laws.{not_zero}
+use Rattle.rational.specs.Rational.{◌*ℚ◌, ◌/ℚ◌, neg_ℚ}
+use Rattle.rational.specs.Ratio.{IsSmall, SumFits}
+use Rattle.rational.specs.Whole.{periods}
+use Rattle.rational.proofs.Laws.{not_zero}
 use Rattle.upp_normal.proofs.StretchTurns.{count_is}
 use Rattle.upp_normal.proofs.StretchSizes.{turn_steps, some_period}
 use Rattle.upp_normal.proofs.ahead.turn_of.Goals as goal

@@ -1,11 +1,11 @@
 use Rattle.std.proofs.Common.{◌∙◌, sym, ap, refl, subst, length}
-use Rattle.upp_limits.specs.rational.specs.Rational.{◌+ℚ◌, ◌≤ℚ◌}
-use Rattle.upp_limits.specs.rational.specs.Ratio.{SumFits}
-use Rattle.upp_limits.specs.rational.proofs.Comparison.{cmp_greater, cmp_not_greater}
-use Rattle.upp_limits.specs.upp_curve.specs.Unrolled.{upto}
+use Rattle.rational.specs.Rational.{◌+ℚ◌, ◌≤ℚ◌}
+use Rattle.rational.specs.Ratio.{SumFits}
+use Rattle.rational.proofs.Comparison.{cmp_greater, cmp_not_greater}
+use Rattle.upp_curve.specs.Unrolled.{upto}
 use Rattle.upp_normal.specs.Normalising.{past, first_start, IsFront}
 use Rattle.upp_normal.proofs.NormaliseCuts.{front_self, front_upto}
-use Rattle.upp_limits.specs.upp_curve.proofs.Normal.{each_at}
+use Rattle.upp_curve.proofs.Normal.{each_at}
 use Rattle.upp_normal.proofs.NormaliseShape.{line_for_ever, line_before, turns_at, taken_is, start_late, start_has}
 use Rattle.upp_normal.proofs.cycle.shape_of.Goals as goal
 

@@ -1,9 +1,9 @@
 use Rattle.std.specs.Prelude.{◌↔◌, IsTrue}
 use Rattle.std.proofs.Common.{pos, subst, sym}
-use Rattle.upp_limits.specs.rational.specs.Rational.{◌+ℚ◌, ◌*ℚ◌, ◌≤ℚ◌, ◌<ℚ◌, int}
-use Rattle.upp_limits.specs.upp_curve.specs.declared.affine_segment.line.Piece.{Piece}
-use Rattle.upp_limits.specs.rational.proofs.Laws.{le_of_lt}
-use Rattle.upp_limits.specs.rational.proofs.Compared.{not_less_out}
+use Rattle.rational.specs.Rational.{◌+ℚ◌, ◌*ℚ◌, ◌≤ℚ◌, ◌<ℚ◌, int}
+use Rattle.upp_curve.specs.declared.affine_segment.line.Piece.{Piece}
+use Rattle.rational.proofs.Laws.{le_of_lt}
+use Rattle.rational.proofs.Compared.{not_less_out}
 use Rattle.upp_normal.proofs.GivenCurves.{no_period, period_told}
 use Rattle.upp_normal.proofs.given.fits_period.Goals as goal
 

@@ -1,8 +1,8 @@
 use Rattle.std.specs.Prelude.{◌↔◌, IsTrue}
 use Rattle.std.proofs.Common.{pos, subst, sym}
-use Rattle.upp_limits.specs.rational.specs.Rational.{◌≤ℚ◌, ◌<ℚ◌, int}
-use Rattle.upp_limits.specs.upp_curve.specs.declared.affine_segment.line.Piece.{Piece}
-use Rattle.upp_limits.specs.rational.proofs.Compared.{not_less_out}
+use Rattle.rational.specs.Rational.{◌≤ℚ◌, ◌<ℚ◌, int}
+use Rattle.upp_curve.specs.declared.affine_segment.line.Piece.{Piece}
+use Rattle.rational.proofs.Compared.{not_less_out}
 use Rattle.upp_normal.proofs.GivenCurves.{no_rank, rank_told}
 use Rattle.upp_normal.proofs.given.fits_rank.Goals as goal
 

@@ -1,4 +1,4 @@
-use Rattle.upp_limits.specs.upp_curve.proofs.OneForm.{normal_unique}
+use Rattle.upp_curve.proofs.OneForm.{normal_unique}
 use Rattle.upp_normal.proofs.laws.normal_form_is_unique.Goals as goal
 
 pub returns : goal.returns

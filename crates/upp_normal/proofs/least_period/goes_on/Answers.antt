@@ -1,6 +1,6 @@
 use Rattle.std.proofs.Common.{arith, sym, ◌∙◌, ◌+◌, ◌<◌, ◌≤◌, pos, true≢false, length, refl}
-use Rattle.upp_limits.specs.rational.specs.Rational.{int}
-use Rattle.upp_limits.specs.upp_curve.specs.Kinds.{piece}
+use Rattle.rational.specs.Rational.{int}
+use Rattle.upp_curve.specs.Kinds.{piece}
 use Rattle.upp_normal.proofs.NormaliseGoes.{goes_on_all, goes_on_more, moved_is}
 use Rattle.upp_normal.proofs.least_period.goes_on.Goals as goal
 

@@ -2,8 +2,8 @@ use Rattle.std.proofs.Common.{arith, ap, sym, subst, refl, ◌∙◌, ◌≡◌,
 use Rattle.std.proofs.lemmas.Int.{ints}
 use mir.Val.{to_z}
 use mir.Syntax.{w128}
-use Rattle.upp_limits.specs.rational.specs.Rational.{int, ◌/ℚ◌}
-use Rattle.upp_limits.specs.rational.specs.Ratio.{IsSmall}
+use Rattle.rational.specs.Rational.{int, ◌/ℚ◌}
+use Rattle.rational.specs.Ratio.{IsSmall}
 use Rattle.upp_normal.proofs.NormaliseShare.{parts_some, zero_share, share_small, not_on_grid, not_ok, zero_on_grid, on_grid}
 use Rattle.upp_normal.proofs.least_period.share.Goals as goal
 use Rattle.upp_normal.proofs.least_period.share.Goals.{in_default-via-in-Ok+else-grid-denominator-eq0, in_default-via-in_default}

@@ -1,7 +1,7 @@
 use Rattle.std.proofs.Common.{arith, ◌≡◌, ◌∙◌, ◌-◌, ap, sym, cond, take, length}
-use Rattle.upp_limits.specs.rational.proofs.Over.{lt_q_out}
-use Rattle.upp_limits.specs.rational.proofs.MinMax.{lt_q_not}
-use Rattle.upp_limits.specs.rational.proofs.Comparison.{cmp_less}
+use Rattle.rational.proofs.Over.{lt_q_out}
+use Rattle.rational.proofs.MinMax.{lt_q_not}
+use Rattle.rational.proofs.Comparison.{cmp_less}
 use Rattle.upp_normal.specs.Normalising.{cut_last}
 use Rattle.upp_normal.proofs.NormaliseLoops.{cmp_not_less}
 use Rattle.upp_normal.proofs.lowest_rank.cut_off.Goals as goal

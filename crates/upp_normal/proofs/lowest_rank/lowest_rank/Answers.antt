@@ -1,10 +1,10 @@
 use Rattle.std.proofs.Common.{arith, ◌≡◌, length, ap, sym, subst, pos}
 use Rattle.std.proofs.lemmas.List.{length-append}
-use Rattle.upp_limits.specs.rational.specs.Rational.{int}
-use Rattle.upp_limits.specs.upp_curve.specs.affine_segment.Reading.{read}
-use Rattle.upp_limits.specs.upp_curve.specs.Curve.{repeated}
-use Rattle.upp_limits.specs.upp_curve.specs.Unrolled.{upto, from}
-use Rattle.upp_limits.specs.upp_curve.specs.Kinds.{piece}
+use Rattle.rational.specs.Rational.{int}
+use Rattle.upp_curve.specs.affine_segment.Reading.{read}
+use Rattle.upp_curve.specs.Curve.{repeated}
+use Rattle.upp_curve.specs.Unrolled.{upto, from}
+use Rattle.upp_curve.specs.Kinds.{piece}
 use Rattle.upp_normal.specs.Normalising.{IsLowest, Lowers}
 use Rattle.upp_normal.proofs.NormaliseCuts.{split_is}
 use Rattle.upp_normal.proofs.NormaliseRank.{lowers_begins, lowers_more, lowers_to_zero, lowers_no_more, lowest_is, step_fits}

@@ -1,5 +1,5 @@
-use Rattle.upp_limits.specs.upp_curve.specs.affine_segment.Reading.{read}
-use Rattle.upp_limits.specs.upp_curve.specs.Curve.{repeated}
+use Rattle.upp_curve.specs.affine_segment.Reading.{read}
+use Rattle.upp_curve.specs.Curve.{repeated}
 use Rattle.upp_normal.proofs.NormaliseRank.{LowersOn}
 use Rattle.upp_normal.proofs.lowest_rank.lowest_rank.Given as goal
 

@@ -1,5 +1,5 @@
 use Rattle.std.proofs.Common.{◌∙◌, sym}
-use Rattle.upp_limits.specs.rational.proofs.Comparison.{cmp_greater, cmp_not_greater}
+use Rattle.rational.proofs.Comparison.{cmp_greater, cmp_not_greater}
 use Rattle.upp_normal.proofs.NormaliseRank.{in_last, late_not_in}
 use Rattle.upp_normal.proofs.lowest_rank.repeats_in.Goals as goal
 

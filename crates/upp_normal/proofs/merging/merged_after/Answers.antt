@@ -1,4 +1,4 @@
-use Rattle.upp_limits.specs.upp_curve.proofs.affine_segment.NextPiece.{next_piece}
+use Rattle.upp_curve.proofs.affine_segment.NextPiece.{next_piece}
 use Rattle.std.proofs.Common.{ap, ◌∙◌, drop, ◌+◌, drop_of_length-le}
 use Rattle.upp_normal.proofs.NormaliseMerge.{merge_keeps_next, merge_skips_next, merge_is}
 use Rattle.upp_normal.proofs.merging.merged_after.Goals as goal

@@ -1,12 +1,12 @@
 use Rattle.std.proofs.Common.{ap, sym, subst, refl, ◌∙◌}
-use Rattle.upp_limits.specs.upp_curve.specs.declared.curve.Tail.TheVariants.{Periodic, Affine, Infinite}
-use Rattle.upp_limits.specs.upp_curve.specs.affine_segment.Reading.{read}
-use Rattle.upp_limits.specs.upp_curve.specs.Curve.{repeated, value_at, HasSameValues}
-use Rattle.upp_limits.specs.upp_curve.specs.affine_segment.Pieces.{StartsAtZero}
-use Rattle.upp_limits.specs.upp_curve.specs.Normal.{TailFits}
+use Rattle.upp_curve.specs.declared.curve.Tail.TheVariants.{Periodic, Affine, Infinite}
+use Rattle.upp_curve.specs.affine_segment.Reading.{read}
+use Rattle.upp_curve.specs.Curve.{repeated, value_at, HasSameValues}
+use Rattle.upp_curve.specs.affine_segment.Pieces.{StartsAtZero}
+use Rattle.upp_curve.specs.Normal.{TailFits}
 use Rattle.upp_normal.specs.Normalising.{raw_curve, HasValues, TailOnGrids, ended}
 use Rattle.upp_normal.specs.Room.{PiecesHaveRoom, TailHasRoom, TurnHasRoom}
-use Rattle.upp_limits.specs.upp_curve.proofs.ByTail.{value_of}
+use Rattle.upp_curve.proofs.ByTail.{value_of}
 use Rattle.upp_normal.proofs.NormaliseForm.{ok_map, grids_through, ended_starts, ended_reads}
 use Rattle.upp_normal.proofs.NormaliseWhole.{more_room, ended_room, end_read}
 use Rattle.upp_normal.proofs.raw_curve.normalise_on.Goals as goal

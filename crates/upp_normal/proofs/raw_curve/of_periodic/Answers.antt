@@ -1,7 +1,7 @@
 use Rattle.std.proofs.Common.{arith, ◌∙◌, ◌≡◌, List, ◌∷◌}
-use Rattle.upp_limits.specs.upp_curve.specs.declared.affine_segment.line.Piece.{Piece}
-use Rattle.upp_limits.specs.upp_curve.specs.affine_segment.Reading.{read}
-use Rattle.upp_limits.specs.upp_curve.specs.Curve.{repeated}
+use Rattle.upp_curve.specs.declared.affine_segment.line.Piece.{Piece}
+use Rattle.upp_curve.specs.affine_segment.Reading.{read}
+use Rattle.upp_curve.specs.Curve.{repeated}
 use Rattle.upp_normal.proofs.NormaliseForm.{merged_list, grids_through, two_periods_list, two_periods_start}
 use Rattle.upp_normal.proofs.NormaliseRoomy.{lines_fit}
 use Rattle.upp_normal.proofs.NormaliseWhole.{rank_read, copy_of, copies_of, longer_room, both_room}

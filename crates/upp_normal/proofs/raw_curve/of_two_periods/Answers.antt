@@ -1,9 +1,9 @@
 use Rattle.std.proofs.Common.{subst, sym, ◌∙◌}
-use Rattle.upp_limits.specs.upp_curve.specs.Steady.{Repeats}
-use Rattle.upp_limits.specs.upp_curve.specs.affine_segment.Reading.{read}
-use Rattle.upp_limits.specs.upp_curve.specs.Curve.{repeated}
+use Rattle.upp_curve.specs.Steady.{Repeats}
+use Rattle.upp_curve.specs.affine_segment.Reading.{read}
+use Rattle.upp_curve.specs.Curve.{repeated}
 use Rattle.upp_normal.specs.Normalising.{IsShape, OnGridsUnlessLine}
-use Rattle.upp_limits.specs.upp_curve.proofs.Repeats.{repeated_rule}
+use Rattle.upp_curve.proofs.Repeats.{repeated_rule}
 use Rattle.upp_normal.proofs.NormaliseForm.{turning_grids}
 use Rattle.upp_normal.proofs.NormaliseWhole.{two_end, two_until, two_room, turn_room, pieces_readable}
 use Rattle.upp_normal.proofs.raw_curve.of_two_periods.Goals as goal

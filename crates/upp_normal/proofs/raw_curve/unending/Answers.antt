@@ -1,9 +1,9 @@
 use Rattle.std.proofs.Common.{arith, ap, sym, subst, ◌∙◌, ◌≡◌, ◌<◌, length}
-use Rattle.upp_limits.specs.upp_curve.specs.affine_segment.Reading.{read}
-use Rattle.upp_limits.specs.upp_curve.specs.Curves.{IsCurve}
+use Rattle.upp_curve.specs.affine_segment.Reading.{read}
+use Rattle.upp_curve.specs.Curves.{IsCurve}
 use Rattle.upp_normal.specs.Normalising.{HasValues}
 use Rattle.upp_normal.proofs.NormaliseForm.{infinite_form, affine_form, last_read}
-use Rattle.upp_limits.specs.upp_curve.proofs.affine_segment.PieceOrder.{zero_some}
+use Rattle.upp_curve.proofs.affine_segment.PieceOrder.{zero_some}
 use Rattle.upp_normal.proofs.NormaliseWhole.{curve_of, infinite_curve, affine_curve}
 use Rattle.upp_normal.proofs.raw_curve.unending.Goals as goal
 use Rattle.upp_normal.proofs.raw_curve.unending.Goals.{in-None, in-Some}

@@ -1,6 +1,6 @@
 use Rattle.std.proofs.Common.{◌≡◌, ◌∙◌, sym, subst, ap}
 use Rattle.std.specs.Option.{IfSome}
-use Rattle.upp_limits.specs.upp_curve.specs.Steady.{later_unless, rank_of}
+use Rattle.upp_curve.specs.Steady.{later_unless, rank_of}
 use Rattle.upp_normal.proofs.SteadyStart.{IsLast, periodic_steady, affine_steady, infinite_steady, affine_line, steady_none, not_answered}
 use Rattle.upp_normal.proofs.Repeating.{repeats_at, repeats_if}
 use Rattle.upp_normal.proofs.steadiness.steady_time.Goals as goal

@@ -1,6 +1,6 @@
 use Rattle.std.proofs.Common.{◌≡◌, ◌≤◌, ◌+◌, ◌∙◌, arith, sym, length, drop, drop_of_length-le}
-use Rattle.upp_limits.specs.upp_curve.specs.Unrolled.{upto}
-use Rattle.upp_limits.specs.upp_curve.proofs.affine_segment.NextPiece.{next_piece}
+use Rattle.upp_curve.specs.Unrolled.{upto}
+use Rattle.upp_curve.proofs.affine_segment.NextPiece.{next_piece}
 use Rattle.upp_normal.proofs.NormaliseLoops.{count_more, count_stops, count_ends}
 use Rattle.upp_normal.proofs.two_periods.count_before.Goals as goal
 

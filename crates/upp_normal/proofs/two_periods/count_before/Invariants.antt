@@ -1,5 +1,5 @@
 use Rattle.std.proofs.Common.{◌≡◌, ◌+◌, length, drop}
-use Rattle.upp_limits.specs.upp_curve.specs.Unrolled.{upto}
+use Rattle.upp_curve.specs.Unrolled.{upto}
 use Rattle.upp_normal.proofs.two_periods.count_before.Given as goal
 
 abbrev pub invariant-loop-i : goal.invariant-loop-i

@@ -1,5 +1,5 @@
 use Rattle.std.proofs.Common.{◌≡◌, ◌++◌, drop}
-use Rattle.upp_limits.specs.upp_curve.specs.Unrolled.{upto}
+use Rattle.upp_curve.specs.Unrolled.{upto}
 use Rattle.upp_normal.proofs.two_periods.ended.Given as goal
 
 abbrev pub invariant-loop-p : goal.invariant-loop-p

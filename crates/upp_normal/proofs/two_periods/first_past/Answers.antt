@@ -1,6 +1,6 @@
 use Rattle.std.proofs.Common.{◌+◌, ap, sym, drop, drop_of_length-le}
 use Rattle.upp_normal.specs.Normalising.{past, first_start}
-use Rattle.upp_limits.specs.upp_curve.proofs.affine_segment.NextPiece.{next_piece}
+use Rattle.upp_curve.proofs.affine_segment.NextPiece.{next_piece}
 use Rattle.upp_normal.proofs.NormaliseLoops.{past_skips, past_found, past_ends}
 use Rattle.upp_normal.proofs.two_periods.first_past.Goals as goal
 

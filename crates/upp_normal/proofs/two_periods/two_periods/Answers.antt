@@ -1,9 +1,9 @@
 use Rattle.std.proofs.Common.{◌+◌, ◌++◌, ◌∷◌, ◌∙◌, ap, sym, subst, drop, drop_of_length-le}
-use Rattle.upp_limits.specs.rational.specs.Rational.{◌≤ℚ◌}
-use Rattle.upp_limits.specs.upp_curve.specs.affine_segment.Pieces.{StartsAtZero}
-use Rattle.upp_limits.specs.upp_curve.specs.Unrolled.{later, each_later}
+use Rattle.rational.specs.Rational.{◌≤ℚ◌}
+use Rattle.upp_curve.specs.affine_segment.Pieces.{StartsAtZero}
+use Rattle.upp_curve.specs.Unrolled.{later, each_later}
 use Rattle.upp_normal.specs.Normalising.{cut_at, past}
-use Rattle.upp_limits.specs.upp_curve.proofs.affine_segment.NextPiece.{next_piece}
+use Rattle.upp_curve.proofs.affine_segment.NextPiece.{next_piece}
 use Rattle.upp_normal.proofs.NormaliseLoops.{copy_begins, copy_more, copy_skips, copy_ends, past_go}
 use Rattle.upp_normal.proofs.two_periods.two_periods.Goals as goal
 use Rattle.upp_normal.proofs.two_periods.two_periods.Goals.{in-Greater+in_ok-push-in-Greater, in_default}

@@ -1,6 +1,6 @@
 use Rattle.std.proofs.Common.{arith, ◌∙◌, ap, drop, length}
 use Rattle.std.proofs.lemmas.List.{length-append}
-use Rattle.upp_limits.specs.upp_curve.specs.Unrolled.{from, upto}
+use Rattle.upp_curve.specs.Unrolled.{from, upto}
 use Rattle.upp_normal.proofs.NormaliseCuts.{drop_upto, split_is}
 use Rattle.upp_normal.proofs.unrolling.from_start.Goals as goal
 

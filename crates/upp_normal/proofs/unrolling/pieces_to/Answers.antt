@@ -1,9 +1,9 @@
 use Rattle.std.proofs.Common.{arith, ◌≡◌, ◌<◌, ◌^◌, ◌∙◌, pos, refl, subst, sym}
-use Rattle.upp_limits.specs.rational.specs.Rational.{◌<ℚ◌, ◌≤ℚ◌, int}
-use Rattle.upp_limits.specs.rational.proofs.Laws.{le_of_lt}
+use Rattle.rational.specs.Rational.{◌<ℚ◌, ◌≤ℚ◌, int}
+use Rattle.rational.proofs.Laws.{le_of_lt}
 use Rattle.upp_limits.specs.declared.op_kind.OpKind.TheVariants.{Itself}
 use Rattle.upp_limits.specs.Gauges.{gauge_over}
-use Rattle.upp_limits.specs.rational.proofs.Compared.{not_less_out}
+use Rattle.rational.proofs.Compared.{not_less_out}
 use Rattle.upp_normal.proofs.GaugeRises.{first_operand}
 use Rattle.upp_normal.proofs.UnrolledPieces.{unroll_none}
 use Rattle.upp_normal.proofs.UnrolledCounts.{number_of}

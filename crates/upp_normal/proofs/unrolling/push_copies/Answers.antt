@@ -2,12 +2,12 @@ use Rattle.std.proofs.Common.{arith, ◌≡◌, ◌+◌, ◌++◌, ◌∙◌, ap
 use Rattle.std.proofs.lemmas.Int.{ints}
 use mir.Val.{to_z}
 use mir.Syntax.{w128}
-use Rattle.upp_limits.specs.rational.specs.Rational.{◌-ℚ◌, ◌*ℚ◌, ◌≤ℚ◌, ◌<ℚ◌, int}
-use Rattle.upp_limits.specs.upp_curve.specs.declared.affine_segment.line.Piece.{Piece}
-use Rattle.upp_limits.specs.upp_curve.specs.Fitting.{LaterFits}
-use Rattle.upp_limits.specs.upp_curve.specs.Unrolled.{each_later, upto}
-use Rattle.upp_limits.specs.rational.proofs.Compared.{not_less_out}
-use Rattle.upp_limits.specs.upp_curve.proofs.affine_segment.NextPiece.{next_piece}
+use Rattle.rational.specs.Rational.{◌-ℚ◌, ◌*ℚ◌, ◌≤ℚ◌, ◌<ℚ◌, int}
+use Rattle.upp_curve.specs.declared.affine_segment.line.Piece.{Piece}
+use Rattle.upp_curve.specs.Fitting.{LaterFits}
+use Rattle.upp_curve.specs.Unrolled.{each_later, upto}
+use Rattle.rational.proofs.Compared.{not_less_out}
+use Rattle.upp_curve.proofs.affine_segment.NextPiece.{next_piece}
 use Rattle.upp_normal.proofs.NormaliseRank.{each_index}
 use Rattle.upp_normal.proofs.UnrollLoops.{push_ends, push_more, push_stops, pushed}
 use Rattle.upp_normal.proofs.unrolling.push_copies.Goals as goal

@@ -1,11 +1,11 @@
 use Rattle.std.proofs.Common.{arith, ◌≡◌, ◌∙◌, ◌+◌, ◌++◌, suc, ap, subst, sym, pos}
-use Rattle.upp_limits.specs.rational.specs.Rational.{◌-ℚ◌, ◌+ℚ◌, ◌<ℚ◌, int}
-use Rattle.upp_limits.specs.upp_curve.specs.Unrolled.{copies, from, upto}
+use Rattle.rational.specs.Rational.{◌-ℚ◌, ◌+ℚ◌, ◌<ℚ◌, int}
+use Rattle.upp_curve.specs.Unrolled.{copies, from, upto}
 use Rattle.upp_normal.specs.Unrolling.{TurnFits}
 use Rattle.upp_normal.proofs.NormaliseRank.{from_late}
 use Rattle.upp_normal.proofs.UnrollLoops.{counted_copies, counted_in, counted_out, no_copies_yet, one_turn_more, turn_kept}
 use Rattle.upp_normal.proofs.unrolling.with_copies.Goals as goal
-use Rattle.upp_limits.specs.upp_curve.proofs.affine_segment.PieceIn.{low_start}
+use Rattle.upp_curve.proofs.affine_segment.PieceIn.{low_start}
 use Rattle.upp_limits.proofs.PieceCounts.{each_from, upto_early}
 
 pub loop-n-init : goal.loop-n-init

@@ -1,5 +1,5 @@
 use Rattle.std.proofs.Common.{◌≡◌, ◌++◌}
-use Rattle.upp_limits.specs.upp_curve.specs.Unrolled.{copies, from, upto}
+use Rattle.upp_curve.specs.Unrolled.{copies, from, upto}
 use Rattle.upp_normal.proofs.unrolling.with_copies.Given as goal
 
 abbrev pub invariant-loop-n : goal.invariant-loop-n

@@ -1,6 +1,6 @@
 use Rattle.std.proofs.Common.{below_more}
 use Rattle.std.specs.Prelude.{IsTrue}
-use Rattle.report_text.specs.net_cells.specs.Numbered.{is_live}
+use Rattle.net_cells.specs.Numbered.{is_live}
 use Rattle.command_replies.specs.run_findings.Curves.{HasArrival}
 use Rattle.command_replies.proofs.run_findings.curves.keeps_arrivals.Goals as goal
 

@@ -1,6 +1,6 @@
 use Rattle.std.proofs.Common.{◌≡◌, ℕ, refl, ap, ◌∙◌}
-use Rattle.upp_limits.specs.rational.specs.Rational.{ℚ}
-use Rattle.net_model.specs.run_laws.specs.Runs.{SpecRun}
+use Rattle.rational.specs.Rational.{ℚ}
+use Rattle.run_laws.specs.Runs.{SpecRun}
 use Rattle.command_replies.proofs.run_findings.Reports.{same_reply}
 use Rattle.run_check.specs.check_report.CheckReport.{unlawful_report_of}
 use Rattle.commands.specs.check.Checked.{packets_in}

@@ -1,5 +1,5 @@
 use Rattle.std.proofs.Common.{◌≡◌, ◌∙◌, ℕ, ap, subst}
-use Rattle.net_model.specs.run_laws.specs.Runs.{SpecRun}
+use Rattle.run_laws.specs.Runs.{SpecRun}
 use Rattle.report_text.specs.RunReport.{found_of}
 use Rattle.command_replies.specs.run_findings.Findings.{AreFindings}
 use Rattle.command_replies.proofs.run_findings.Reports.{same_reply}

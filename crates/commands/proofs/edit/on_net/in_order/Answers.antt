@@ -3,7 +3,7 @@ use Rattle.std.proofs.lemmas.Result.{IfOk-weaker}
 use Rattle.upp_limits.specs.LimitTest.{fault_of}
 use Rattle.upp_limits.specs.declared.own_limits.OverLimit.TheVariants.{TooMany, TooWide}
 use Rattle.net_model.specs.Networks.{Net}
-use Rattle.report_text.specs.net_cells.specs.Meanings.{CellTable}
+use Rattle.net_cells.specs.Meanings.{CellTable}
 use Rattle.report_text.specs.CellWords.{cell_words}
 use Rattle.command_replies.specs.CellWork.{work_of_cells}
 use Rattle.command_replies.specs.Replies.{cell_over}

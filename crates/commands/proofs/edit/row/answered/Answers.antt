@@ -1,7 +1,7 @@
 use Rattle.std.proofs.Common.{subst}
 use Rattle.std.proofs.lemmas.Result.{IfOk-weaker}
 use Rattle.net_model.specs.Accepted.{IsAccepted}
-use Rattle.report_text.specs.net_cells.specs.cell_table.Values.{meaning_of}
+use Rattle.net_cells.specs.cell_table.Values.{meaning_of}
 use Rattle.commands.specs.edit_report.Said.{said_view}
 use Rattle.commands.proofs.edit.OneRow.{row_answered}
 use Rattle.commands.proofs.edit.Works.{at_least}

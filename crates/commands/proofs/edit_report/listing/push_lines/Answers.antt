@@ -1,7 +1,7 @@
 use Rattle.std.proofs.Common.{◌≡◌, ◌++◌, ◌+◌, List, map, get_or, sym, ap, ◌∙◌}
 use Rattle.std.specs.List.{flat_map, range_with_len}
 use Rattle.std.proofs.lemmas.List.{get_or-map}
-use Rattle.report_text.specs.net_cells.proofs.Growing.{behind, flat_more}
+use Rattle.net_cells.proofs.Growing.{behind, flat_more}
 use Rattle.commands.specs.edit_report.EditReport.{edit_line, line_at}
 use Rattle.commands.specs.edit_report.Said.{EditSaid, Made, said_view}
 use Rattle.commands.proofs.edit_report.listing.push_lines.Goals as goal

@@ -1,10 +1,10 @@
 use Rattle.std.proofs.Common.{ap, sym, ◌∙◌}
 use Rattle.std.specs.List.{flat_map, fold, range_with_len}
 use Rattle.std.proofs.lemmas.List.Sums.{fold-append}
-use Rattle.upp_limits.specs.rational.specs.Extended.{Ext, max_ext}
-use Rattle.upp_limits.specs.rational.specs.declared.Extended.TheVariants.{Fin}
-use Rattle.upp_limits.specs.min_plus.specs.Functions.{zero_q}
-use Rattle.report_text.specs.net_cells.proofs.Growing.{flat_more}
+use Rattle.rational.specs.Extended.{Ext, max_ext}
+use Rattle.rational.specs.declared.Extended.TheVariants.{Fin}
+use Rattle.min_plus.specs.Functions.{zero_q}
+use Rattle.net_cells.proofs.Growing.{flat_more}
 use Rattle.exercise_load.specs.exercise_report.Largest.{bound_at}
 use Rattle.exercise_load.proofs.exercise_report.largest.largest_bound.Goals as goal
 

@@ -1,8 +1,8 @@
 use Rattle.std.proofs.Common.{◌≡◌}
 use Rattle.std.specs.List.{flat_map, fold, range_with_len}
-use Rattle.upp_limits.specs.rational.specs.Extended.{max_ext}
-use Rattle.upp_limits.specs.rational.specs.declared.Extended.TheVariants.{Fin}
-use Rattle.upp_limits.specs.min_plus.specs.Functions.{zero_q}
+use Rattle.rational.specs.Extended.{max_ext}
+use Rattle.rational.specs.declared.Extended.TheVariants.{Fin}
+use Rattle.min_plus.specs.Functions.{zero_q}
 use Rattle.exercise_load.specs.exercise_report.Largest.{bound_at}
 use Rattle.exercise_load.proofs.exercise_report.largest.largest_bound.Given as goal
 

@@ -1,7 +1,7 @@
 use Rattle.std.proofs.Common.{sym, subst, ◌∙◌}
 use Rattle.std.specs.Prelude.{◌↔◌, IsTrue}
-use Rattle.upp_limits.specs.rational.specs.Rational.{ℚ, ◌<ℚ◌}
-use Rattle.upp_limits.specs.upp_curve.specs.declared.curve.Tail.{Tail}
+use Rattle.rational.specs.Rational.{ℚ, ◌<ℚ◌}
+use Rattle.upp_curve.specs.declared.curve.Tail.{Tail}
 use Rattle.flow_watch.specs.curve_values.Early.{IsEarly}
 use Rattle.flow_watch.proofs.curve_values.KeptValues.{end_fits, early_always}
 use Rattle.flow_watch.proofs.curve_values.values.is_early.Goals as goal

@@ -1,4 +1,4 @@
-use Rattle.upp_limits.specs.rational.proofs.Laws.{not_zero}
+use Rattle.rational.proofs.Laws.{not_zero}
 use Rattle.flow_watch.proofs.step_lines.PlacedPairs.{is_fill}
 use Rattle.flow_watch.proofs.step_lines.places.fill_of.Goals as goal
 

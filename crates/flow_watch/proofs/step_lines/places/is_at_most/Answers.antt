@@ -1,5 +1,5 @@
 use Rattle.std.proofs.Common.{◌∙◌}
-use Rattle.upp_limits.specs.upp_curve.proofs.affine_segment.PieceIn.{le_test}
+use Rattle.upp_curve.proofs.affine_segment.PieceIn.{le_test}
 use Rattle.flow_watch.proofs.step_lines.places.is_at_most.Goals as goal
 
 pub returns : goal.returns

@@ -1,6 +1,6 @@
 use Rattle.std.proofs.Common.{◌+◌, ◌<◌, ◌≤◌, length, arith, rules}
 use Rattle.std.proofs.lemmas.List.Sorted.{IsPartitionPoint-from_clause}
-use Rattle.net_model.specs.run_laws.specs.Counts.{before}
+use Rattle.run_laws.specs.Counts.{before}
 use Rattle.flow_watch.proofs.step_lines.SortedParts.{parted, is_among}
 use Rattle.flow_watch.proofs.step_lines.places.least_under.Goals as goal
 

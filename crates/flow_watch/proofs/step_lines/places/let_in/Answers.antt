@@ -1,5 +1,5 @@
 use Rattle.std.proofs.Common.{get_or}
-use Rattle.upp_limits.specs.rational.proofs.Comparison.{cmp_equal}
+use Rattle.rational.proofs.Comparison.{cmp_equal}
 use Rattle.flow_watch.proofs.step_lines.places.let_in.Goals as goal
 
 pub returns-in-Ok-clause-is_in : goal.returns-in-Ok-clause-is_in

@@ -1,5 +1,5 @@
 use Rattle.std.proofs.Common.{refl, ap, ◌∙◌}
-use Rattle.upp_limits.specs.rational.specs.Rational.{◌-ℚ◌}
+use Rattle.rational.specs.Rational.{◌-ℚ◌}
 use Rattle.flow_watch.proofs.step_lines.places.placed_at.Goals as goal
 
 pub returns : goal.returns

@@ -1,5 +1,5 @@
 use Rattle.std.proofs.Common.{List, length, ap, ◌∙◌, subst, sym}
-use Rattle.upp_limits.specs.rational.specs.Rational.{◌+ℚ◌}
+use Rattle.rational.specs.Rational.{◌+ℚ◌}
 use Rattle.flow_watch.specs.declared.step_lines.places.Placed.{Placed}
 use Rattle.flow_watch.specs.step_lines.Places.{ArePlaced}
 use Rattle.flow_watch.proofs.step_lines.PlacedPairs.{line_kept}

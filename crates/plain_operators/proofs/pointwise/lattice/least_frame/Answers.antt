@@ -1,7 +1,7 @@
 use Rattle.std.proofs.Common.{sym, subst}
 use Rattle.std.proofs.lemmas.Result.{err_from_is_err_and, IfErr-weaker}
 use Rattle.curve_call.specs.CallWindows.{IsForward}
-use Rattle.curve_call.specs.upp_normal.proofs.NormaliseForm.{ok_map}
+use Rattle.upp_normal.proofs.NormaliseForm.{ok_map}
 use Rattle.plain_operators.proofs.pointwise.LatticeLimits.{forward_kind, wide_by, second_by, first_by, compared_by, none_by, refused_by, within_by, frame_by}
 use Rattle.plain_operators.proofs.pointwise.lattice.least_frame.Goals as goal
 

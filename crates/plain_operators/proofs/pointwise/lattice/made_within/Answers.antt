@@ -1,6 +1,6 @@
 use Rattle.std.proofs.Common.{refl}
-use Rattle.upp_limits.specs.upp_curve.specs.Unrolled.{unroll}
-use Rattle.curve_call.specs.upp_normal.proofs.NormaliseForm.{ok_map}
+use Rattle.upp_curve.specs.Unrolled.{unroll}
+use Rattle.upp_normal.proofs.NormaliseForm.{ok_map}
 use Rattle.plain_operators.proofs.pointwise.LatticeCalls.{left_rise, right_rise, rises_fit, from_fits}
 use Rattle.plain_operators.proofs.pointwise.LatticeAnswers.{lattice_answer, lattice_values}
 use Rattle.plain_operators.proofs.pointwise.lattice.made_within.Goals as goal

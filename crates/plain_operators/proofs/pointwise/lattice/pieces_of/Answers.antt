@@ -1,6 +1,6 @@
 use Rattle.std.proofs.Common.{◌∙◌, subst}
-use Rattle.upp_limits.specs.upp_curve.specs.Unrolled.{unroll}
-use Rattle.curve_call.specs.upp_normal.proofs.NormaliseForm.{ok_map}
+use Rattle.upp_curve.specs.Unrolled.{unroll}
+use Rattle.upp_normal.proofs.NormaliseForm.{ok_map}
 use Rattle.curve_call.specs.Operands.{IsMadeOf}
 use Rattle.plain_operators.specs.pointwise.Lattice.{made_of, rises_of}
 use Rattle.plain_operators.proofs.pointwise.LatticeCalls.{operands}

@@ -1,6 +1,6 @@
 use Rattle.std.proofs.Common.{◌≡◌, subst}
 use Rattle.std.specs.Prelude.{IfSome}
-use Rattle.upp_limits.specs.rational.specs.Rational.{◌-ℚ◌}
+use Rattle.rational.specs.Rational.{◌-ℚ◌}
 use Rattle.plain_operators.proofs.pointwise.leaning.gap_at.Goals as goal
 
 pub returns : goal.returns

@@ -1,5 +1,5 @@
 use Rattle.std.proofs.lemmas.Option.{IfSome_then}
-use Rattle.upp_limits.specs.rational.specs.Rational.{◌*ℚ◌}
+use Rattle.rational.specs.Rational.{◌*ℚ◌}
 use Rattle.plain_operators.proofs.pointwise.Leanings.{through}
 use Rattle.plain_operators.proofs.pointwise.leaning.icept_of.Goals as goal
 

@@ -1,8 +1,8 @@
 use Rattle.std.proofs.Common.{subst}
 use Rattle.std.specs.Prelude.{IfSome}
-use Rattle.upp_limits.specs.rational.specs.Rational.{◌+ℚ◌, ◌*ℚ◌, ◌≤ℚ◌}
-use Rattle.upp_limits.specs.rational.specs.Extended.{◌≤ₑ◌}
-use Rattle.upp_limits.specs.rational.specs.declared.Extended.TheVariants.{Fin}
+use Rattle.rational.specs.Rational.{◌+ℚ◌, ◌*ℚ◌, ◌≤ℚ◌}
+use Rattle.rational.specs.Extended.{◌≤ₑ◌}
+use Rattle.rational.specs.declared.Extended.TheVariants.{Fin}
 use Rattle.plain_operators.proofs.pointwise.leaning.line_lower.Goals as goal
 
 pub returns : goal.returns

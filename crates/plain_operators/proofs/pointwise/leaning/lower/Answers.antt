@@ -1,8 +1,8 @@
 use Rattle.std.proofs.Common.{sym, subst}
-use Rattle.upp_limits.specs.rational.specs.Rational.{◌+ℚ◌, ◌*ℚ◌}
-use Rattle.upp_limits.specs.rational.specs.Extended.{◌≤ₑ◌}
-use Rattle.upp_limits.specs.rational.specs.declared.Extended.TheVariants.{Fin}
-use Rattle.upp_limits.specs.rational.proofs.Laws.{le_refl}
+use Rattle.rational.specs.Rational.{◌+ℚ◌, ◌*ℚ◌}
+use Rattle.rational.specs.Extended.{◌≤ₑ◌}
+use Rattle.rational.specs.declared.Extended.TheVariants.{Fin}
+use Rattle.rational.proofs.Laws.{le_refl}
 use Rattle.plain_operators.proofs.pointwise.leaning.lower.Goals as goal
 
 pub returns-in-Inf : goal.returns-in-Inf

@@ -1,6 +1,6 @@
 use Rattle.std.proofs.Common.{◌≡◌, ◌∙◌, ap, subst}
 use Rattle.std.specs.Prelude.{IfSome, pos}
-use Rattle.upp_limits.specs.rational.specs.Rational.{int, ◌-ℚ◌, ◌*ℚ◌, ◌≤ℚ◌}
+use Rattle.rational.specs.Rational.{int, ◌-ℚ◌, ◌*ℚ◌, ◌≤ℚ◌}
 use Rattle.plain_operators.proofs.pointwise.leaning.number_between.Goals as goal
 
 pub returns : goal.returns

@@ -1,6 +1,6 @@
 use Rattle.std.proofs.Common.{refl}
 use Rattle.std.proofs.lemmas.Option.{IfSome_then}
-use Rattle.upp_limits.specs.rational.specs.Rational.{◌+ℚ◌, ◌-ℚ◌, ◌*ℚ◌}
+use Rattle.rational.specs.Rational.{◌+ℚ◌, ◌-ℚ◌, ◌*ℚ◌}
 use Rattle.curve_call.specs.Bounds.{own_or}
 use Rattle.plain_operators.proofs.pointwise.Leanings.{slow_span, fast_span, number_enough}
 use Rattle.plain_operators.proofs.pointwise.leaning.number_by_lines.Goals as goal

@@ -1,4 +1,4 @@
-use Rattle.upp_limits.specs.rational.specs.Rational.{◌*ℚ◌}
+use Rattle.rational.specs.Rational.{◌*ℚ◌}
 use Rattle.plain_operators.proofs.pointwise.Leanings.{higher_is}
 use Rattle.plain_operators.proofs.pointwise.leaning.number_higher.Goals as goal
 

@@ -1,7 +1,7 @@
 use Rattle.std.proofs.Common.{◌≡◌, ◌∙◌, sym, ap, subst}
 use Rattle.std.specs.Prelude.{IfSome}
-use Rattle.upp_limits.specs.rational.specs.Rational.{◌+ℚ◌}
-use Rattle.upp_limits.specs.upp_curve.specs.Curve.{value_at}
+use Rattle.rational.specs.Rational.{◌+ℚ◌}
+use Rattle.upp_curve.specs.Curve.{value_at}
 use Rattle.curve_call.specs.Bounds.{own_or}
 use Rattle.plain_operators.specs.pointwise.Leaning.{IsOver, IsSpan}
 use Rattle.plain_operators.proofs.pointwise.leaning.own_over.Goals as goal

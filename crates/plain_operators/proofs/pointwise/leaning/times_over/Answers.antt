@@ -1,6 +1,6 @@
 use Rattle.std.proofs.Common.{refl, sym, subst, true≢false}
-use Rattle.upp_limits.specs.rational.specs.Rational.{ℚ, ◌<ℚ◌}
-use Rattle.upp_limits.specs.rational.proofs.Laws.{le_of_not_lt, not_zero}
+use Rattle.rational.specs.Rational.{ℚ, ◌<ℚ◌}
+use Rattle.rational.proofs.Laws.{le_of_not_lt, not_zero}
 use Rattle.plain_operators.proofs.pointwise.Leanings.{times_is, times_none}
 use Rattle.plain_operators.proofs.pointwise.leaning.times_over.Goals as goal
 

@@ -1,5 +1,5 @@
 use Rattle.std.proofs.Common.{refl, sym, true≢false}
-use Rattle.upp_limits.specs.rational.proofs.Laws.{le_of_not_lt}
+use Rattle.rational.proofs.Laws.{le_of_not_lt}
 use Rattle.plain_operators.proofs.pointwise.Leanings.{under_start, under_all}
 use Rattle.plain_operators.proofs.pointwise.leaning.under.Goals as goal
 

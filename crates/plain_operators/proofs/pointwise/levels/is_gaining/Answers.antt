@@ -1,8 +1,8 @@
 use Rattle.std.proofs.Common.{refl, sym, subst, pos}
 use Rattle.std.specs.Prelude.{◌↔◌, IsTrue}
-use Rattle.upp_limits.specs.rational.specs.Rational.{int}
-use Rattle.upp_limits.specs.rational.specs.Extended.{◌<ₑ◌}
-use Rattle.upp_limits.specs.upp_curve.specs.Steady.{rate}
+use Rattle.rational.specs.Rational.{int}
+use Rattle.rational.specs.Extended.{◌<ₑ◌}
+use Rattle.upp_curve.specs.Steady.{rate}
 use Rattle.curve_call.proofs.Levels.{level_rate}
 use Rattle.plain_operators.proofs.pointwise.levels.is_gaining.Goals as goal
 

@@ -1,6 +1,6 @@
 use Rattle.std.proofs.lemmas.Result.{err_from_is_err_and, IfErr-weaker}
 use Rattle.curve_call.specs.Levels.{level_curve}
-use Rattle.curve_call.specs.upp_normal.proofs.NormaliseForm.{ok_map}
+use Rattle.upp_normal.proofs.NormaliseForm.{ok_map}
 use Rattle.plain_operators.proofs.pointwise.LatticeLevels.{minus_wide, minus_compared, minus_none, minus_refused, minus_is_within, minus_frame, sides_compared, sides_least, sides_none}
 use Rattle.plain_operators.proofs.pointwise.levels.least_frame.Goals as goal
 

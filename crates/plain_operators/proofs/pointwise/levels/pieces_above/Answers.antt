@@ -1,6 +1,6 @@
 use Rattle.std.proofs.Common.{◌∙◌, subst}
-use Rattle.upp_limits.specs.upp_curve.specs.Unrolled.{unroll}
-use Rattle.curve_call.specs.upp_normal.proofs.NormaliseForm.{ok_map}
+use Rattle.upp_curve.specs.Unrolled.{unroll}
+use Rattle.upp_normal.proofs.NormaliseForm.{ok_map}
 use Rattle.curve_call.specs.Operands.{IsMadeOf}
 use Rattle.curve_call.specs.Levels.{level_curve}
 use Rattle.plain_operators.specs.declared.pointwise.lattice.Lattice.TheVariants.{Excess}

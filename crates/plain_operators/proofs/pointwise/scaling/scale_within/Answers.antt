@@ -1,12 +1,12 @@
 use Rattle.std.proofs.Common.{◌∙◌, sym, ap, subst}
 use Rattle.std.specs.Prelude.{List, map}
-use Rattle.upp_limits.specs.upp_curve.specs.declared.affine_segment.line.Piece.{Piece}
+use Rattle.upp_curve.specs.declared.affine_segment.line.Piece.{Piece}
 use Rattle.upp_limits.specs.declared.op_kind.OpKind.TheVariants.{Scale}
-use Rattle.upp_limits.specs.upp_curve.specs.declared.curve.Tail.{Tail}
-use Rattle.upp_limits.specs.upp_curve.specs.affine_segment.Pieces.{Each}
+use Rattle.upp_curve.specs.declared.curve.Tail.{Tail}
+use Rattle.upp_curve.specs.affine_segment.Pieces.{Each}
 use Rattle.upp_limits.specs.Gauges.{scaled_piece, scaled_tail}
 use Rattle.upp_limits.specs.ClosedOperands.{PieceScales, TailScales}
-use Rattle.curve_call.specs.upp_normal.proofs.NormaliseForm.{ok_map}
+use Rattle.upp_normal.proofs.NormaliseForm.{ok_map}
 use Rattle.curve_call.specs.Frames.{sizes_at}
 use Rattle.plain_operators.proofs.pointwise.ScaleCall.{IsMade, scale_call, pieces_scale, made_raw, made_found, made_values}
 use Rattle.plain_operators.proofs.pointwise.scaling.scale_within.Goals.{After-fitting_tail-tail}

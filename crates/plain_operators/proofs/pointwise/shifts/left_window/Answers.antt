@@ -1,9 +1,9 @@
 use Rattle.std.proofs.Common.{◌+◌, ◌∙◌, ◌∷◌, ap, sym, subst, drop, drop_of_length-le, map}
-use Rattle.upp_limits.specs.rational.specs.Rational.{◌≤ℚ◌}
-use Rattle.upp_limits.specs.upp_curve.specs.affine_segment.Pieces.{StartsAtZero}
-use Rattle.curve_call.specs.upp_normal.specs.Normalising.{cut_at, past}
-use Rattle.upp_limits.specs.upp_curve.proofs.affine_segment.NextPiece.{next_piece}
-use Rattle.curve_call.specs.upp_normal.proofs.NormaliseLoops.{past_go}
+use Rattle.rational.specs.Rational.{◌≤ℚ◌}
+use Rattle.upp_curve.specs.affine_segment.Pieces.{StartsAtZero}
+use Rattle.upp_normal.specs.Normalising.{cut_at, past}
+use Rattle.upp_curve.proofs.affine_segment.NextPiece.{next_piece}
+use Rattle.upp_normal.proofs.NormaliseLoops.{past_go}
 use Rattle.plain_operators.specs.pointwise.Shifting.{left_piece}
 use Rattle.plain_operators.proofs.pointwise.LeftWindow.{left_more, left_skips, left_ends}
 use Rattle.plain_operators.proofs.pointwise.ShiftCall.{here_fits}

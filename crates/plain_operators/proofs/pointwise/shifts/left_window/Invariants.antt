@@ -1,6 +1,6 @@
 use Rattle.std.proofs.Common.{◌≡◌, ◌++◌, ◌∷◌, List, drop, map}
-use Rattle.upp_limits.specs.upp_curve.specs.declared.affine_segment.line.Piece.{Piece}
-use Rattle.curve_call.specs.upp_normal.specs.Normalising.{past, cut_at}
+use Rattle.upp_curve.specs.declared.affine_segment.line.Piece.{Piece}
+use Rattle.upp_normal.specs.Normalising.{past, cut_at}
 use Rattle.plain_operators.specs.pointwise.Shifting.{left_piece}
 use Rattle.plain_operators.proofs.pointwise.shifts.left_window.Given as goal
 

@@ -1,5 +1,5 @@
 use Rattle.std.proofs.lemmas.Result.{err_from_is_err_and}
-use Rattle.upp_limits.specs.rational.specs.declared.Extended.TheVariants.{Fin}
+use Rattle.rational.specs.declared.Extended.TheVariants.{Fin}
 use Rattle.upp_limits.specs.declared.op_kind.OpKind.TheVariants.{Shift}
 use Rattle.curve_call.proofs.Limited.{shift_least, frame_within}
 use Rattle.plain_operators.proofs.pointwise.shifts.shift_by.Goals as goal

@@ -1,7 +1,7 @@
 use Rattle.std.proofs.Common.{◌∙◌}
-use Rattle.upp_limits.specs.rational.specs.declared.Extended.TheVariants.{Fin}
+use Rattle.rational.specs.declared.Extended.TheVariants.{Fin}
 use Rattle.upp_limits.specs.declared.op_kind.OpKind.TheVariants.{Shift}
-use Rattle.curve_call.specs.upp_normal.proofs.NormaliseForm.{ok_map}
+use Rattle.upp_normal.proofs.NormaliseForm.{ok_map}
 use Rattle.curve_call.specs.Frames.{sizes_at}
 use Rattle.curve_call.proofs.Operands.{operand_to}
 use Rattle.plain_operators.proofs.pointwise.ShiftCall.{shift_call, zero_fits, start_fits, window_pieces, pieces_fit, shift_answer, shift_values}

@@ -1,6 +1,6 @@
 use Rattle.std.specs.Prelude.{nat_abs, ◌<◌, ◌^◌}
 use Rattle.std.proofs.Common.{subst}
-use Rattle.upp_limits.specs.rational.specs.Ratio.{IsSmall}
+use Rattle.rational.specs.Ratio.{IsSmall}
 use Rattle.plain_operators.proofs.pointwise.StraightSums.{straight_is_curve}
 use Rattle.plain_operators.proofs.pointwise.straight.curve_of.Goals as goal
 

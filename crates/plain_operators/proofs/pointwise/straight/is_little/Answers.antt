@@ -1,6 +1,6 @@
 use Rattle.std.specs.Prelude.{◌≡◌, ◌≤◌, ◌^◌, nat_abs}
 use Rattle.std.proofs.Common.{arith}
-use Rattle.upp_limits.specs.rational.specs.Rational.{den}
+use Rattle.rational.specs.Rational.{den}
 use Rattle.plain_operators.proofs.pointwise.StraightSums.{little_in}
 use Rattle.plain_operators.proofs.pointwise.straight.is_little.Goals as goal
 

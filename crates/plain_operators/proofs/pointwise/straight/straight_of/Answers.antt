@@ -1,5 +1,5 @@
 use Rattle.std.proofs.Common.{sym, subst}
-use Rattle.upp_limits.specs.upp_curve.specs.affine_segment.Pieces.{StartsAtZero}
+use Rattle.upp_curve.specs.affine_segment.Pieces.{StartsAtZero}
 use Rattle.plain_operators.proofs.pointwise.straight.straight_of.Goals as goal
 
 pub one_line-requires : goal.one_line-requires

@@ -1,10 +1,10 @@
 use Rattle.std.proofs.Common.{◌∙◌, refl, sym, ap₂, subst}
-use Rattle.upp_limits.specs.rational.specs.Rational.{ℚ, ◌+ℚ◌}
-use Rattle.upp_limits.specs.rational.specs.Ratio.{SumFits}
-use Rattle.upp_limits.specs.upp_curve.specs.Steady.{rise_over}
-use Rattle.upp_limits.specs.upp_curve.specs.Unrolled.{unroll}
+use Rattle.rational.specs.Rational.{ℚ, ◌+ℚ◌}
+use Rattle.rational.specs.Ratio.{SumFits}
+use Rattle.upp_curve.specs.Steady.{rise_over}
+use Rattle.upp_curve.specs.Unrolled.{unroll}
 use Rattle.upp_limits.specs.declared.op_kind.OpKind.TheVariants.{Sum}
-use Rattle.curve_call.specs.upp_normal.proofs.NormaliseForm.{ok_map}
+use Rattle.upp_normal.proofs.NormaliseForm.{ok_map}
 use Rattle.curve_call.specs.Frames.{sizes_at}
 use Rattle.plain_operators.proofs.pointwise.SumCall.{sum_call, rises_fit, sum_answer, sum_values}
 use Rattle.plain_operators.proofs.pointwise.sums.sum_within.Goals as goal

@@ -1,9 +1,9 @@
 use Rattle.std.proofs.Common.{◌≡◌, pos, sym, subst, ap, ap₂, ◌∙◌, refl, true≢false}
-use Rattle.upp_limits.specs.rational.specs.Rational.{ℚ, ◌-ℚ◌, ◌/ℚ◌, ◌<ℚ◌, int}
-use Rattle.upp_limits.specs.rational.specs.Ratio.{IsSmall}
-use Rattle.upp_limits.specs.rational.specs.Gauge.{size_up}
-use Rattle.upp_limits.specs.rational.proofs.Laws.{not_zero}
-use Rattle.upp_limits.specs.upp_curve.specs.Steady.{rise_over}
+use Rattle.rational.specs.Rational.{ℚ, ◌-ℚ◌, ◌/ℚ◌, ◌<ℚ◌, int}
+use Rattle.rational.specs.Ratio.{IsSmall}
+use Rattle.rational.specs.Gauge.{size_up}
+use Rattle.rational.proofs.Laws.{not_zero}
+use Rattle.upp_curve.specs.Steady.{rise_over}
 use Rattle.curve_call.specs.Bounds.{own_or}
 use Rattle.plain_operators.proofs.running.LeastBehind.{first_fits, lead_fits}
 use Rattle.plain_operators.proofs.running.MostBehind.{own_fits, most_fits, most_number, number_bounded, number_none}

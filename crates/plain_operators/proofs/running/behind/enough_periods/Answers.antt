@@ -1,12 +1,12 @@
 use Rattle.std.proofs.Common.{pos, sym, subst, ap, ◌∙◌, refl, true≢false}
-use Rattle.upp_limits.specs.rational.specs.Rational.{ℚ, ◌/ℚ◌, ◌<ℚ◌, int}
-use Rattle.upp_limits.specs.rational.specs.Ratio.{IsSmall}
-use Rattle.upp_limits.specs.rational.specs.Gauge.{size_up}
-use Rattle.upp_limits.specs.rational.specs.declared.Extended.TheVariants.{Fin}
-use Rattle.upp_limits.specs.rational.proofs.Laws.{le_of_not_lt, not_zero}
+use Rattle.rational.specs.Rational.{ℚ, ◌/ℚ◌, ◌<ℚ◌, int}
+use Rattle.rational.specs.Ratio.{IsSmall}
+use Rattle.rational.specs.Gauge.{size_up}
+use Rattle.rational.specs.declared.Extended.TheVariants.{Fin}
+use Rattle.rational.proofs.Laws.{le_of_not_lt, not_zero}
 use Rattle.upp_limits.specs.declared.op_kind.OpKind.TheVariants.{FifoLeft}
 use Rattle.upp_limits.specs.Windows.{IsLeast, Meets}
-use Rattle.upp_limits.specs.upp_curve.specs.Curve.{value_at}
+use Rattle.upp_curve.specs.Curve.{value_at}
 use Rattle.plain_operators.specs.running.Behind.{moved, IsMost}
 use Rattle.plain_operators.proofs.running.LeastBehind.{gate_sizes, behind_call, first_fits, lead_fits, quotient_fits, least_none, least_same, least_behind}
 use Rattle.plain_operators.proofs.running.behind.enough_periods.Goals.{After-most_behind-most}

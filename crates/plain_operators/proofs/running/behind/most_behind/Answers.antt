@@ -1,8 +1,8 @@
 use Rattle.std.proofs.Common.{◌∙◌, refl, sym, ap₂, subst, true≢false}
-use Rattle.upp_limits.specs.rational.specs.Rational.{◌-ℚ◌}
-use Rattle.upp_limits.specs.rational.specs.MinMax.{max_q}
-use Rattle.upp_limits.specs.upp_curve.specs.Curve.{value_at}
-use Rattle.curve_call.specs.upp_normal.specs.Ahead.{GoesOn, IsTimeIn}
+use Rattle.rational.specs.Rational.{◌-ℚ◌}
+use Rattle.rational.specs.MinMax.{max_q}
+use Rattle.upp_curve.specs.Curve.{value_at}
+use Rattle.upp_normal.specs.Ahead.{GoesOn, IsTimeIn}
 use Rattle.plain_operators.proofs.running.BehindWalk.{BehindWalk, FoundAt, beta_time, cross_time, time_fits, beta_number, cross_number, values_apart, next_past_it, behind_start, behind_step, behind_fewer, behind_end}
 use Rattle.plain_operators.proofs.running.behind.most_behind.Goals as goal
 

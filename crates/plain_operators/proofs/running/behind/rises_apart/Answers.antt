@@ -1,5 +1,5 @@
 use Rattle.std.proofs.Common.{ap₂, ◌∙◌}
-use Rattle.upp_limits.specs.rational.specs.Rational.{ℚ, ◌-ℚ◌}
+use Rattle.rational.specs.Rational.{ℚ, ◌-ℚ◌}
 use Rattle.plain_operators.proofs.running.behind.rises_apart.Goals as goal
 
 pub difference-requires : goal.difference-requires

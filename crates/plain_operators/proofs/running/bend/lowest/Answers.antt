@@ -1,6 +1,6 @@
 use Rattle.std.proofs.Common.{subst}
-use Rattle.upp_limits.specs.rational.specs.Rational.{◌<ℚ◌}
-use Rattle.upp_limits.specs.rational.proofs.Compared.{is_greater, not_greater}
+use Rattle.rational.specs.Rational.{◌<ℚ◌}
+use Rattle.rational.proofs.Compared.{is_greater, not_greater}
 use Rattle.plain_operators.proofs.running.Bending.{inf_falling}
 use Rattle.plain_operators.proofs.running.bend.lowest.Goals as goal
 

@@ -1,4 +1,4 @@
-use Rattle.upp_limits.specs.rational.proofs.Compared.{is_greater, is_less, not_less, not_greater}
+use Rattle.rational.proofs.Compared.{is_greater, is_less, not_less, not_greater}
 use Rattle.plain_operators.proofs.running.Bending.{inf_turning, inf_level, inf_rising}
 use Rattle.plain_operators.proofs.running.bend.lowest_rising.Goals as goal
 

@@ -1,6 +1,6 @@
 use Rattle.std.proofs.Common.{sym, subst}
-use Rattle.upp_limits.specs.rational.proofs.Compared.{is_greater, not_greater, is_less, not_less}
-use Rattle.upp_limits.specs.upp_curve.specs.affine_segment.Fits.{LineFits}
+use Rattle.rational.proofs.Compared.{is_greater, not_greater, is_less, not_less}
+use Rattle.upp_curve.specs.affine_segment.Fits.{LineFits}
 use Rattle.plain_operators.proofs.running.Highest.{low_fits, high_fits, inside_is, start_is, none_is}
 use Rattle.plain_operators.proofs.running.between.highest_in.Goals as goal
 

@@ -1,6 +1,6 @@
 use Rattle.std.proofs.Common.{◌≡◌, ◌<◌, ◌+◌, ◌-◌, arith, length, subst}
 use Rattle.plain_operators.proofs.running.SupremumLoop.{window_end}
-use Rattle.upp_limits.specs.upp_curve.proofs.affine_segment.PieceOrder.{zero_some}
+use Rattle.upp_curve.proofs.affine_segment.PieceOrder.{zero_some}
 use Rattle.plain_operators.proofs.running.InfimumLoop.{InfimumLoop, infimum_start, infimum_next, infimum_end}
 use Rattle.plain_operators.proofs.running.infimum.infimum_scan.Goals as goal
 

@@ -1,5 +1,5 @@
 use Rattle.std.proofs.Common.{◌+◌, sym, subst}
-use Rattle.upp_limits.specs.rational.proofs.Compared.{is_less, not_less}
+use Rattle.rational.proofs.Compared.{is_less, not_less}
 use Rattle.plain_operators.proofs.running.Fronts.{FrontLoop, front_step, front_stop}
 use Rattle.plain_operators.proofs.running.infimum_curve.front_before.Goals as goal
 

@@ -1,10 +1,10 @@
 use Rattle.std.proofs.Common.{◌∙◌, sym, subst}
 use Rattle.upp_limits.specs.declared.op_kind.OpKind.TheVariants.{RunInf}
-use Rattle.upp_limits.specs.upp_curve.specs.affine_segment.Reading.{read}
-use Rattle.upp_limits.specs.upp_curve.specs.Curve.{repeated}
-use Rattle.curve_call.specs.upp_normal.specs.Normalising.{HasValues}
+use Rattle.upp_curve.specs.affine_segment.Reading.{read}
+use Rattle.upp_curve.specs.Curve.{repeated}
+use Rattle.upp_normal.specs.Normalising.{HasValues}
 use Rattle.curve_call.specs.Frames.{sizes_at}
-use Rattle.curve_call.specs.upp_normal.proofs.NormaliseForm.{ok_map}
+use Rattle.upp_normal.proofs.NormaliseForm.{ok_map}
 use Rattle.plain_operators.specs.running.Scans.{IsWindow, ScanFits}
 use Rattle.plain_operators.specs.running.Runs.{RunsFrom, IsFrontBefore}
 use Rattle.plain_operators.proofs.running.RunFacts.{inf_facts, operand_to, run_window, run_fits, run_rise, sum_fits}

@@ -1,7 +1,7 @@
 use Rattle.std.proofs.Common.{pos, IfOk, sym, subst}
-use Rattle.upp_limits.specs.rational.specs.Rational.{ℚ, ◌≤ℚ◌, int}
-use Rattle.upp_limits.specs.upp_curve.specs.Curve.{value_at}
-use Rattle.upp_limits.specs.min_plus.specs.Running.{IsFifoLeftover}
+use Rattle.rational.specs.Rational.{ℚ, ◌≤ℚ◌, int}
+use Rattle.upp_curve.specs.Curve.{value_at}
+use Rattle.min_plus.specs.Running.{IsFifoLeftover}
 use Rattle.plain_operators.proofs.running.leftover.fifo_left.Goals as goal
 
 pub returns-in-Fin-clause-value : goal.returns-in-Fin-clause-value

@@ -1,6 +1,6 @@
 use Rattle.std.proofs.lemmas.Result.{err_from_is_err_and, IfErr-weaker}
-use Rattle.upp_limits.specs.upp_curve.specs.Curve.{value_at}
-use Rattle.curve_call.specs.upp_normal.proofs.NormaliseForm.{ok_map}
+use Rattle.upp_curve.specs.Curve.{value_at}
+use Rattle.upp_normal.proofs.NormaliseForm.{ok_map}
 use Rattle.plain_operators.proofs.running.LeftLimits.{left_wide, left_between, left_refused, left_is_within, left_frame}
 use Rattle.plain_operators.proofs.running.Served.{theta_nonneg}
 use Rattle.plain_operators.proofs.running.leftover.least_frame.Goals as goal

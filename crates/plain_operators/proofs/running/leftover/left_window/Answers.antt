@@ -1,10 +1,10 @@
 use Rattle.std.proofs.Common.{◌≡◌, sym, ap, ◌∙◌, subst}
-use Rattle.upp_limits.specs.upp_curve.specs.affine_segment.Pieces.{StartsAtZero}
-use Rattle.curve_call.specs.upp_normal.specs.Operand.{OperandPieces}
+use Rattle.upp_curve.specs.affine_segment.Pieces.{StartsAtZero}
+use Rattle.upp_normal.specs.Operand.{OperandPieces}
 use Rattle.curve_call.proofs.OperandWindows.{cuts_fit}
 use Rattle.curve_call.specs.Stretches.{EachBoth}
 use Rattle.curve_call.specs.Pointwise.{mapped}
-use Rattle.curve_call.specs.upp_normal.proofs.NormaliseForm.{ok_map}
+use Rattle.upp_normal.proofs.NormaliseForm.{ok_map}
 use Rattle.plain_operators.specs.running.Parts.{left_piece, StretchLeftFits}
 use Rattle.plain_operators.specs.running.LeftCall.{IsLeftWindow}
 use Rattle.plain_operators.proofs.running.LeftAnswers.{times_of, left_to, left_operand, right_operand, window_made}

@@ -1,11 +1,11 @@
 use Rattle.std.proofs.Common.{pos}
-use Rattle.upp_limits.specs.rational.specs.Rational.{ℚ, ◌≤ℚ◌, int}
-use Rattle.upp_limits.specs.rational.specs.declared.Extended.TheVariants.{Fin}
-use Rattle.upp_limits.specs.upp_curve.specs.Curve.{value_at, repeated}
-use Rattle.curve_call.specs.upp_normal.specs.Normalising.{HasValues}
-use Rattle.upp_limits.specs.upp_curve.specs.affine_segment.Reading.{read}
-use Rattle.upp_limits.specs.min_plus.specs.Running.{IsFifoLeftover}
-use Rattle.curve_call.specs.upp_normal.proofs.NormaliseForm.{ok_map}
+use Rattle.rational.specs.Rational.{ℚ, ◌≤ℚ◌, int}
+use Rattle.rational.specs.declared.Extended.TheVariants.{Fin}
+use Rattle.upp_curve.specs.Curve.{value_at, repeated}
+use Rattle.upp_normal.specs.Normalising.{HasValues}
+use Rattle.upp_curve.specs.affine_segment.Reading.{read}
+use Rattle.min_plus.specs.Running.{IsFifoLeftover}
+use Rattle.upp_normal.proofs.NormaliseForm.{ok_map}
 use Rattle.plain_operators.proofs.running.LeftAnswers.{LeftScan, rises_fit, rise_steps, ends_fit, scan_call, left_answer, left_value}
 use Rattle.plain_operators.proofs.running.leftover.left_within.Goals.{After-sum-far}
 use Rattle.plain_operators.proofs.running.leftover.left_within.Goals as goal

@@ -1,7 +1,7 @@
 use Rattle.std.proofs.Common.{◌≡◌, sym, ap, ◌∙◌, subst}
-use Rattle.upp_limits.specs.upp_curve.specs.affine_segment.Pieces.{Each}
-use Rattle.upp_limits.specs.upp_curve.specs.Unrolled.{unroll}
-use Rattle.curve_call.specs.upp_normal.proofs.NormaliseForm.{ok_map}
+use Rattle.upp_curve.specs.affine_segment.Pieces.{Each}
+use Rattle.upp_curve.specs.Unrolled.{unroll}
+use Rattle.upp_normal.proofs.NormaliseForm.{ok_map}
 use Rattle.plain_operators.specs.running.Moved.{moved_right, PieceMoves}
 use Rattle.plain_operators.proofs.running.leftover.moved_cross.Goals as goal
 

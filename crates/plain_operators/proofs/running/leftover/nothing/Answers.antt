@@ -1,5 +1,5 @@
 use Rattle.plain_operators.proofs.running.Nothing.{nothing_is, nothing_curve, nothing_value}
-use Rattle.upp_limits.specs.upp_curve.proofs.ReadableKinds.{zero_small}
+use Rattle.upp_curve.proofs.ReadableKinds.{zero_small}
 use Rattle.plain_operators.proofs.running.leftover.nothing.Goals as goal
 
 pub from_normal-requires : goal.from_normal-requires

@@ -1,5 +1,5 @@
 use Rattle.std.proofs.Common.{sym}
-use Rattle.upp_limits.specs.upp_curve.proofs.PieceLoops.{last_is}
+use Rattle.upp_curve.proofs.PieceLoops.{last_is}
 use Rattle.plain_operators.proofs.running.lowest.last_line.Goals as goal
 
 pub returns-in-Some : goal.returns-in-Some

@@ -1,6 +1,6 @@
 use Rattle.std.proofs.Common.{◌≡◌, [], ◌∷◌, ◌++◌, ◌∙◌, sym, ap, subst}
-use Rattle.upp_limits.specs.upp_curve.specs.declared.affine_segment.line.Piece.{Piece}
-use Rattle.curve_call.specs.upp_normal.proofs.NormaliseForm.{ok_map}
+use Rattle.upp_curve.specs.declared.affine_segment.line.Piece.{Piece}
+use Rattle.upp_normal.proofs.NormaliseForm.{ok_map}
 use Rattle.plain_operators.specs.running.Scans.{IsWindow, ScanFits}
 use Rattle.plain_operators.specs.running.Made.{IsInfimumScan}
 use Rattle.plain_operators.specs.running.Runs.{IsFrontBefore}

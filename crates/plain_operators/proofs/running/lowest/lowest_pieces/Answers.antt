@@ -1,15 +1,15 @@
 use Rattle.std.proofs.Common.{◌≡◌, ◌∙◌, sym, ap, subst}
-use Rattle.upp_limits.specs.rational.specs.Rational.{◌+ℚ◌}
-use Rattle.upp_limits.specs.rational.specs.MinMax.{min_q}
-use Rattle.upp_limits.specs.rational.specs.declared.Extended.TheVariants.{Fin}
-use Rattle.upp_limits.specs.upp_curve.specs.affine_segment.Values.{line_value}
-use Rattle.upp_limits.specs.upp_curve.specs.affine_segment.Pieces.{Each}
-use Rattle.upp_limits.specs.upp_curve.specs.affine_segment.Fits.{LineFitsAt}
-use Rattle.upp_limits.specs.upp_curve.specs.affine_segment.Reading.{read}
-use Rattle.upp_limits.specs.upp_curve.specs.Shapes.{IsNumber}
-use Rattle.upp_limits.specs.upp_curve.specs.Steady.{last_line}
-use Rattle.curve_call.specs.upp_normal.specs.Ahead.{AnswerValue}
-use Rattle.curve_call.specs.upp_normal.proofs.NormaliseForm.{ok_map}
+use Rattle.rational.specs.Rational.{◌+ℚ◌}
+use Rattle.rational.specs.MinMax.{min_q}
+use Rattle.rational.specs.declared.Extended.TheVariants.{Fin}
+use Rattle.upp_curve.specs.affine_segment.Values.{line_value}
+use Rattle.upp_curve.specs.affine_segment.Pieces.{Each}
+use Rattle.upp_curve.specs.affine_segment.Fits.{LineFitsAt}
+use Rattle.upp_curve.specs.affine_segment.Reading.{read}
+use Rattle.upp_curve.specs.Shapes.{IsNumber}
+use Rattle.upp_curve.specs.Steady.{last_line}
+use Rattle.upp_normal.specs.Ahead.{AnswerValue}
+use Rattle.upp_normal.proofs.NormaliseForm.{ok_map}
 use Rattle.plain_operators.specs.running.Scans.{ScanFits}
 use Rattle.plain_operators.specs.running.Made.{IsInfimumScan}
 use Rattle.plain_operators.specs.running.Lowest.{with_level, IsLowestBefore, IsLowest}

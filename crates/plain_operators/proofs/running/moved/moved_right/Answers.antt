@@ -1,5 +1,5 @@
 use Rattle.std.proofs.Common.{◌+◌, drop, sym, subst, refl, true≢false}
-use Rattle.upp_limits.specs.rational.proofs.Laws.{le_of_not_lt}
+use Rattle.rational.proofs.Laws.{le_of_not_lt}
 use Rattle.plain_operators.proofs.running.MovedLoop.{MovedLoop, moved_step, moved_stop, moved_end}
 use Rattle.plain_operators.proofs.running.moved.moved_right.Goals as goal
 

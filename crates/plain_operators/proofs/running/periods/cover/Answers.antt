@@ -1,5 +1,5 @@
-use Rattle.upp_limits.specs.rational.proofs.Laws.{not_zero}
-use Rattle.upp_limits.specs.rational.proofs.Compared.{is_greater, not_greater}
+use Rattle.rational.proofs.Laws.{not_zero}
+use Rattle.rational.proofs.Compared.{is_greater, not_greater}
 use Rattle.plain_operators.proofs.running.Covers.{no_cover, cover_is}
 use Rattle.plain_operators.proofs.running.periods.cover.Goals as goal
 

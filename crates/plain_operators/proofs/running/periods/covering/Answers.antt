@@ -1,9 +1,9 @@
 use Rattle.std.proofs.Common.{sym, subst}
-use Rattle.upp_limits.specs.rational.specs.Rational.{◌≤ℚ◌, ◌<ℚ◌}
-use Rattle.upp_limits.specs.rational.specs.declared.Extended.TheVariants.{Fin}
-use Rattle.upp_limits.specs.rational.proofs.Laws.{le_refl, le_of_lt}
-use Rattle.upp_limits.specs.min_plus.specs.Functions.{zero_q}
-use Rattle.upp_limits.specs.upp_curve.specs.affine_segment.Reading.{read}
+use Rattle.rational.specs.Rational.{◌≤ℚ◌, ◌<ℚ◌}
+use Rattle.rational.specs.declared.Extended.TheVariants.{Fin}
+use Rattle.rational.proofs.Laws.{le_refl, le_of_lt}
+use Rattle.min_plus.specs.Functions.{zero_q}
+use Rattle.upp_curve.specs.affine_segment.Reading.{read}
 use Rattle.plain_operators.specs.running.Scans.{IsSupremumIn}
 use Rattle.plain_operators.specs.running.Between.{IsLevelBetween}
 use Rattle.plain_operators.proofs.running.Covers.{later_end}

@@ -1,6 +1,6 @@
 use Rattle.std.proofs.Common.{subst}
-use Rattle.upp_limits.specs.rational.specs.Rational.{◌≤ℚ◌, ◌<ℚ◌}
-use Rattle.upp_limits.specs.rational.proofs.Compared.{is_less, not_less}
+use Rattle.rational.specs.Rational.{◌≤ℚ◌, ◌<ℚ◌}
+use Rattle.rational.proofs.Compared.{is_less, not_less}
 use Rattle.plain_operators.proofs.running.SupremumCalls.{first_period, found_number, flat_number, early_number}
 use Rattle.plain_operators.proofs.running.periods.supremum_periods.Goals as goal
 

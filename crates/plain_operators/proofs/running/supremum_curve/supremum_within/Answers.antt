@@ -1,12 +1,12 @@
 use Rattle.std.specs.Prelude.{true}
 use Rattle.std.proofs.Common.{◌∙◌, sym, subst}
 use Rattle.upp_limits.specs.declared.op_kind.OpKind.TheVariants.{RunSup}
-use Rattle.upp_limits.specs.upp_curve.specs.affine_segment.Reading.{read}
-use Rattle.upp_limits.specs.upp_curve.specs.Curve.{value_at, repeated}
-use Rattle.upp_limits.specs.min_plus.specs.Functions.{IsFinite}
-use Rattle.curve_call.specs.upp_normal.specs.Normalising.{HasValues}
+use Rattle.upp_curve.specs.affine_segment.Reading.{read}
+use Rattle.upp_curve.specs.Curve.{value_at, repeated}
+use Rattle.min_plus.specs.Functions.{IsFinite}
+use Rattle.upp_normal.specs.Normalising.{HasValues}
 use Rattle.curve_call.specs.Frames.{sizes_at}
-use Rattle.curve_call.specs.upp_normal.proofs.NormaliseForm.{ok_map}
+use Rattle.upp_normal.proofs.NormaliseForm.{ok_map}
 use Rattle.plain_operators.specs.running.Scans.{IsWindow, ScanFits}
 use Rattle.plain_operators.specs.running.Runs.{RunsUpTo}
 use Rattle.plain_operators.proofs.running.RunFacts.{sup_facts, operand_to, run_window, run_fits, run_rise, difference_fits}

@@ -1,7 +1,7 @@
 use Rattle.std.proofs.Common.{◌≡◌, ◌∙◌, ap₂, arith, pos, to_z}
 use Rattle.std.proofs.lemmas.Int.{ints}
 use mir.Syntax.{w128}
-use Rattle.upp_limits.specs.rational.specs.Ratio.{ratio}
+use Rattle.rational.specs.Ratio.{ratio}
 use Rattle.residuals.proofs.calls.Numbers.{new_ok, ratio_whole}
 use Rattle.residuals.proofs.drr.turn.quotient.Goals as goal
 

@@ -1,8 +1,8 @@
 use Rattle.std.proofs.Common.{sym, subst, arith}
 use Rattle.std.specs.Prelude.{pos}
-use Rattle.upp_limits.specs.rational.specs.Rational.{int, ◌-ℚ◌, ◌<ℚ◌}
-use Rattle.upp_limits.specs.rational.proofs.Laws.{not_zero}
-use Rattle.upp_limits.specs.rational.proofs.Linear.{with2}
+use Rattle.rational.specs.Rational.{int, ◌-ℚ◌, ◌<ℚ◌}
+use Rattle.rational.proofs.Laws.{not_zero}
+use Rattle.rational.proofs.Linear.{with2}
 use Rattle.run_check.proofs.check_gauge.named.pace.Goals as goal
 
 pub over-requires : goal.over-requires

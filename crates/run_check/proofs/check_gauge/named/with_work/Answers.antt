@@ -1,6 +1,6 @@
 use Rattle.std.proofs.Common.{◌≡◌, sym, ◌∙◌, subst}
 use Rattle.std.specs.Prelude.{true, false}
-use Rattle.upp_limits.specs.rational.specs.Rational.{lt_q}
+use Rattle.rational.specs.Rational.{lt_q}
 use Rattle.upp_limits.specs.Limits.{joined, time_alone, value_alone}
 use Rattle.upp_limits.specs.Gathered.{Gathers}
 use Rattle.run_check.proofs.check_gauge.Loops.{slow_joined, quick_joined}

@@ -1,6 +1,6 @@
 use Rattle.std.proofs.Common.{length, sym, ap, ◌∙◌, arith, ◌≤◌}
 use Rattle.std.proofs.lemmas.List.{drop_all}
-use Rattle.upp_limits.specs.rational.specs.MinMax.{max_q}
+use Rattle.rational.specs.MinMax.{max_q}
 use Rattle.sim_bounds.specs.Horizons.{latest_of}
 use Rattle.run_check.specs.check_gauge.Runs.{step_end}
 use Rattle.run_check.proofs.check_gauge.Loops.{one_before}

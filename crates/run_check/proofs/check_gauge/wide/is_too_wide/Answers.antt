@@ -3,12 +3,12 @@ use mir.Syntax.{w128}
 use Rattle.std.proofs.lemmas.Int.{ints}
 use Rattle.std.proofs.lemmas.Bool.{cases_lt}
 use Rattle.std.specs.Prelude.{IsTrue, IsSome, IfSome, pos, ◌↔◌}
-use Rattle.upp_limits.specs.rational.specs.Rational.{int, ◌+ℚ◌}
-use Rattle.upp_limits.specs.rational.specs.Ratio.{SumFits}
-use Rattle.upp_limits.specs.rational.proofs.Gauges.{kept_one}
+use Rattle.rational.specs.Rational.{int, ◌+ℚ◌}
+use Rattle.rational.specs.Ratio.{SumFits}
+use Rattle.rational.proofs.Gauges.{kept_one}
 use Rattle.upp_limits.specs.Limits.{joined, time_alone, value_alone, sizes_of}
 use Rattle.upp_limits.specs.Gathered.{Gathers}
-use Rattle.net_model.specs.run_laws.specs.Runs.{SpecRun}
+use Rattle.run_laws.specs.Runs.{SpecRun}
 use Rattle.sim_bounds.specs.window_numbers.Rated.{gauge_with}
 use Rattle.run_check.specs.check_gauge.Runs.{last_time, total_bits}
 use Rattle.run_check.specs.check_gauge.Gauge.{farthest, check_numbers, check_gauge}

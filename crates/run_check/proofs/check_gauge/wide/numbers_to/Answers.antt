@@ -3,7 +3,7 @@ use Rattle.upp_limits.specs.Limits.{no_numbers, joined, time_alone}
 use Rattle.upp_limits.specs.Gathered.{Gathers}
 use Rattle.upp_limits.specs.Sized.{HeldBy}
 use Rattle.upp_limits.proofs.SpanNumbers.{if_some_map}
-use Rattle.net_model.specs.run_laws.specs.Runs.{SpecRun}
+use Rattle.run_laws.specs.Runs.{SpecRun}
 use Rattle.net_model.specs.Networks.{NetServer}
 use Rattle.sim_bounds.specs.Gauge.{numbers_of_curves, arrivals_of}
 use Rattle.sim_bounds.proofs.window_numbers.NetCurves.{services}

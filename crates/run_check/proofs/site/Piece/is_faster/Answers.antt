@@ -1,7 +1,7 @@
 use Rattle.std.proofs.Common.{sym, subst}
 use Rattle.std.specs.Prelude.{IsTrue, ◌↔◌}
-use Rattle.upp_limits.specs.rational.specs.Rational.{◌/ℚ◌}
-use Rattle.upp_limits.specs.rational.specs.Ratio.{IsSmall}
+use Rattle.rational.specs.Rational.{◌/ℚ◌}
+use Rattle.rational.specs.Ratio.{IsSmall}
 use Rattle.run_check.specs.Sites.{IsFast}
 use Rattle.run_check.proofs.RowSteps.{faster, time_some}
 use Rattle.run_check.proofs.site.Piece.is_faster.Goals as goal

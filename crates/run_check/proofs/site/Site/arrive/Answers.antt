@@ -1,6 +1,6 @@
 use Rattle.std.specs.Prelude.{ℕ, ◌<◌}
 use Rattle.std.proofs.Common.{sym, subst}
-use Rattle.net_model.specs.run_laws.specs.Servers.{queue_count}
+use Rattle.run_laws.specs.Servers.{queue_count}
 use Rattle.run_check.proofs.site.Site.arrive.Goals as goal
 
 pub arrive-requires : goal.arrive-requires

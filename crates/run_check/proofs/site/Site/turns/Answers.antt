@@ -1,5 +1,5 @@
 use Rattle.std.proofs.Common.{subst}
-use Rattle.net_model.specs.run_laws.specs.Allows.{MayVisit}
+use Rattle.run_laws.specs.Allows.{MayVisit}
 use Rattle.queue_sched.specs.Turns.{Starts as Begins}
 use Rattle.sim_servers.specs.Queues.{served_by, StandFor}
 use Rattle.sim_servers.proofs.Visits.{none_visited}

@@ -2,7 +2,7 @@ use Rattle.std.specs.Prelude.{Some, ◌≡◌, slice_get, ◌<◌, length, ℕ}
 use Rattle.std.proofs.Common.{sym, ◌∙◌, subst, arith}
 use Rattle.std.proofs.lemmas.List.{with_items_is}
 use Rattle.net_model.specs.NetRoutes.{routes_of}
-use Rattle.net_model.specs.run_laws.specs.Lawful.{state_at}
+use Rattle.run_laws.specs.Lawful.{state_at}
 use Rattle.run_check.specs.Sites.{IsOut}
 use Rattle.run_check.proofs.WalkSteps.{changed_lists}
 use Rattle.run_check.proofs.ReachRows.{is_out, not_out, known_entrance, enter_early, enter_takes, enter_told}

@@ -2,7 +2,7 @@ use Rattle.std.specs.Prelude.{Some, ◌≡◌, slice_get}
 use Rattle.std.proofs.Common.{ap, ◌∙◌, subst, arith}
 use Rattle.std.proofs.lemmas.List.{with_items_is}
 use Rattle.net_model.specs.NetRoutes.{routes_of}
-use Rattle.net_model.specs.run_laws.specs.Routes.{queue_at, route_of}
+use Rattle.run_laws.specs.Routes.{queue_at, route_of}
 use Rattle.run_check.proofs.WalkSteps.{changed_lists}
 use Rattle.run_check.proofs.LeaveRows.{flows_long, bits_long, unknown}
 use Rattle.run_check.proofs.SiteSteps.{untrue}

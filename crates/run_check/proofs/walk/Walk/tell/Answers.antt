@@ -1,5 +1,5 @@
 use Rattle.std.proofs.Common.{ap}
-use Rattle.net_model.specs.run_laws.specs.declared.steps.Step.TheVariants as steps
+use Rattle.run_laws.specs.declared.steps.Step.TheVariants as steps
 use Rattle.net_model.specs.NetRoutes.{routes_of}
 use Rattle.simulator.proofs.run_measures.LevelSteps.{step_at}
 use Rattle.run_check.proofs.Along.{stands, goes_by, goes_ok_by}

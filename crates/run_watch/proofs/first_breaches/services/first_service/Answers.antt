@@ -1,6 +1,6 @@
 use Rattle.std.proofs.Common.{Option, ◌≡◌, suc, ◌+◌, arith, sym, subst, inl, inr}
 use Rattle.std.proofs.lemmas.Bool.{cases_lt}
-use Rattle.upp_limits.specs.rational.specs.Rational.{ℚ}
+use Rattle.rational.specs.Rational.{ℚ}
 use Rattle.run_watch.specs.declared.found.Found.{Found}
 use Rattle.run_watch.specs.FirstOf.{IsBest, IsBestBefore}
 use Rattle.run_watch.specs.first_breaches.Firsts.{IsOne, HasService}

@@ -1,11 +1,11 @@
 use Rattle.std.proofs.Common.{◌≡◌, ◌∙◌, List, [], Option, refl, sym, subst, ap, pos}
 use Rattle.std.proofs.lemmas.Result.{IfOk-weaker}
-use Rattle.upp_limits.specs.rational.specs.Rational.{int}
-use Rattle.upp_limits.specs.upp_curve.specs.Curves.{IsCurve}
-use Rattle.net_model.specs.run_laws.specs.declared.steps.Step.{Step}
-use Rattle.net_model.specs.run_laws.specs.Runs.{SpecRun}
-use Rattle.net_model.specs.run_laws.specs.Routes.{server_at}
-use Rattle.net_model.specs.run_laws.specs.Views.{view}
+use Rattle.rational.specs.Rational.{int}
+use Rattle.upp_curve.specs.Curves.{IsCurve}
+use Rattle.run_laws.specs.declared.steps.Step.{Step}
+use Rattle.run_laws.specs.Runs.{SpecRun}
+use Rattle.run_laws.specs.Routes.{server_at}
+use Rattle.run_laws.specs.Views.{view}
 use Rattle.net_model.specs.NetRoutes.{routes_of}
 use Rattle.net_model.specs.Views.{server_of}
 use Rattle.net_cells.specs.Numbered.{service, service_of}

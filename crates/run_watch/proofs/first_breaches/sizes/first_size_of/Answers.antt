@@ -1,5 +1,5 @@
 use Rattle.std.proofs.Common.{◌∙◌, ap}
-use Rattle.net_model.specs.run_laws.specs.Runs.{SpecRun}
+use Rattle.run_laws.specs.Runs.{SpecRun}
 use Rattle.net_model.specs.Views.{flow_of}
 use Rattle.flow_watch.specs.watch_laws.Entries.{entries}
 use Rattle.run_watch.proofs.first_breaches.Parts.{enters_in_order, size_one}

@@ -1,7 +1,7 @@
 use Rattle.std.proofs.Common.{◌≡◌}
 use Rattle.std.specs.List.{AllByRecursion}
 use Rattle.arrayvec.specs.ArrayVec.{array_vec_len}
-use Rattle.upp_limits.specs.fraction128.specs.wide_sums.Sums.{IsFromZero, sum_of_products}
+use Rattle.fraction128.specs.wide_sums.Sums.{IsFromZero, sum_of_products}
 use Rattle.net_model.specs.stated_runs.FromTraces.{setup_of}
 use Rattle.sim_bounds.specs.Horizons.{sum_below}
 use Rattle.sim_bounds.specs.Way.{gated}

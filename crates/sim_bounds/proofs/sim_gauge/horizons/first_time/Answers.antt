@@ -1,10 +1,10 @@
 use Rattle.std.proofs.Common.{◌≡◌, ◌<◌, ◌+◌, length, drop, sym, ap, ◌∙◌}
 use Rattle.std.specs.Prelude.{pos}
 use Rattle.std.proofs.lemmas.List.{drop_all}
-use Rattle.upp_limits.specs.rational.specs.Rational.{ℚ, int}
-use Rattle.upp_limits.specs.rational.specs.MinMax.{max_q}
-use Rattle.upp_limits.specs.rational.proofs.Laws.{le_refl, le_trans}
-use Rattle.upp_limits.specs.rational.proofs.MinMax.{max_q_ge_left}
+use Rattle.rational.specs.Rational.{ℚ, int}
+use Rattle.rational.specs.MinMax.{max_q}
+use Rattle.rational.proofs.Laws.{le_refl, le_trans}
+use Rattle.rational.proofs.MinMax.{max_q_ge_left}
 use Rattle.net_model.specs.declared.trace.TracePacket.{TracePacket}
 use Rattle.net_model.specs.declared.trace.Stall.{Stall}
 use Rattle.sim_bounds.specs.Horizons.{latest_of}

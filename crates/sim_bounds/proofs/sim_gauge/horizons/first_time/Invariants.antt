@@ -1,7 +1,7 @@
 use Rattle.std.proofs.Common.{◌≡◌, drop}
 use Rattle.std.specs.Prelude.{pos}
-use Rattle.upp_limits.specs.rational.specs.Rational.{int, ◌≤ℚ◌}
-use Rattle.upp_limits.specs.rational.specs.MinMax.{max_q}
+use Rattle.rational.specs.Rational.{int, ◌≤ℚ◌}
+use Rattle.rational.specs.MinMax.{max_q}
 use Rattle.net_model.specs.declared.trace.TracePacket.{TracePacket}
 use Rattle.net_model.specs.declared.trace.Stall.{Stall}
 use Rattle.sim_bounds.specs.Horizons.{latest_of}

@@ -1,6 +1,6 @@
 use Rattle.std.proofs.Common.{sym, ap, ◌∙◌, subst}
-use Rattle.upp_limits.specs.rational.specs.Rational.{◌*ℚ◌, ◌/ℚ◌}
-use Rattle.upp_limits.specs.rational.specs.Ratio.{IsSmall}
+use Rattle.rational.specs.Rational.{◌*ℚ◌, ◌/ℚ◌}
+use Rattle.rational.specs.Ratio.{IsSmall}
 use Rattle.upp_limits.proofs.SpanNumbers.{if_some_map}
 use Rattle.net_model.specs.declared.server.Server.{Server}
 use Rattle.net_model.specs.Views.{server_of}

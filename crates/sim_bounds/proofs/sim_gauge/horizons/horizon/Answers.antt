@@ -1,8 +1,8 @@
 use Rattle.std.proofs.Common.{◌≡◌, length, sym, ap, ◌∙◌, subst, true≢false}
 use Rattle.std.specs.List.{AllByRecursion}
-use Rattle.upp_limits.specs.rational.specs.Ratio.{IsSmall}
+use Rattle.rational.specs.Ratio.{IsSmall}
 use Rattle.upp_limits.proofs.SpanNumbers.{if_some_map}
-use Rattle.upp_limits.specs.fraction128.specs.wide_sums.Sums.{IsFromZero, sum_of_products}
+use Rattle.fraction128.specs.wide_sums.Sums.{IsFromZero, sum_of_products}
 use Rattle.net_model.specs.stated_runs.FromTraces.{setup_of}
 use Rattle.sim_bounds.specs.Horizons.{sum_below}
 use Rattle.sim_bounds.specs.Way.{gated}

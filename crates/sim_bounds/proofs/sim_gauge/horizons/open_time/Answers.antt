@@ -1,9 +1,9 @@
 use Rattle.std.proofs.Common.{sym, ap, ◌∙◌, subst}
 use Rattle.std.specs.Prelude.{pos}
-use Rattle.upp_limits.specs.rational.specs.Rational.{int, ◌/ℚ◌, ◌<ℚ◌}
-use Rattle.upp_limits.specs.rational.specs.Ratio.{IsSmall}
+use Rattle.rational.specs.Rational.{int, ◌/ℚ◌, ◌<ℚ◌}
+use Rattle.rational.specs.Ratio.{IsSmall}
 use Rattle.upp_limits.proofs.SpanNumbers.{if_some_map}
-use Rattle.net_model.specs.run_laws.specs.Cards.{whole}
+use Rattle.run_laws.specs.Cards.{whole}
 use Rattle.net_model.specs.declared.server.Server.{Server}
 use Rattle.net_model.specs.Views.{server_of}
 use Rattle.net_model.proofs.stated_runs.ServerSetups.{server_is}

@@ -1,6 +1,6 @@
 use Rattle.std.proofs.Common.{length, sym, ap, ◌∙◌, arith}
 use Rattle.std.proofs.lemmas.List.{length-map}
-use Rattle.upp_limits.specs.rational.proofs.Laws.{add_zero}
+use Rattle.rational.proofs.Laws.{add_zero}
 use Rattle.net_model.specs.Views.{server_of}
 use Rattle.net_model.specs.stated_runs.FromTraces.{setup_of}
 use Rattle.sim_bounds.specs.Horizons.{first_time}

@@ -1,5 +1,5 @@
 use Rattle.std.proofs.Common.{◌≡◌}
-use Rattle.upp_limits.specs.rational.specs.Rational.{◌+ℚ◌}
+use Rattle.rational.specs.Rational.{◌+ℚ◌}
 use Rattle.net_model.specs.stated_runs.FromTraces.{setup_of}
 use Rattle.sim_bounds.specs.Horizons.{first_time, sum_below}
 use Rattle.sim_bounds.specs.Way.{plain_span}

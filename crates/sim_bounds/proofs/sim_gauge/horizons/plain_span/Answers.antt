@@ -1,7 +1,7 @@
 use Rattle.std.proofs.Common.{sym, ap, ◌∙◌, subst}
 use Rattle.std.specs.Prelude.{pos}
-use Rattle.upp_limits.specs.rational.specs.Rational.{int, ◌+ℚ◌}
-use Rattle.upp_limits.specs.rational.specs.Ratio.{SumFits}
+use Rattle.rational.specs.Rational.{int, ◌+ℚ◌}
+use Rattle.rational.specs.Ratio.{SumFits}
 use Rattle.upp_limits.proofs.SpanNumbers.{if_some_map}
 use Rattle.net_model.specs.Views.{server_of}
 use Rattle.net_model.specs.stated_runs.FromTraces.{gate_of, setup_of, stalls_at}

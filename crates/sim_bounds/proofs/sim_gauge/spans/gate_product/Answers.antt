@@ -1,8 +1,8 @@
 use Rattle.std.proofs.Common.{sym, subst}
 use Rattle.std.specs.Prelude.{pos}
-use Rattle.upp_limits.specs.rational.specs.Rational.{int, ◌≤ℚ◌}
-use Rattle.upp_limits.specs.rational.proofs.Laws.{le_of_lt, le_trans, not_zero}
-use Rattle.upp_limits.specs.rational.proofs.Quotients.{div_nonneg}
+use Rattle.rational.specs.Rational.{int, ◌≤ℚ◌}
+use Rattle.rational.proofs.Laws.{le_of_lt, le_trans, not_zero}
+use Rattle.rational.proofs.Quotients.{div_nonneg}
 use Rattle.sim_bounds.proofs.sim_gauge.spans.gate_product.Goals as goal
 
 pub over-requires : goal.over-requires

@@ -1,7 +1,7 @@
 use Rattle.std.proofs.Common.{sym, ap, ◌∙◌, subst}
 use Rattle.std.specs.Prelude.{pos}
-use Rattle.upp_limits.specs.rational.specs.Rational.{int, ◌*ℚ◌, ◌≤ℚ◌}
-use Rattle.upp_limits.specs.rational.proofs.Laws.{le_refl, zero_mul}
+use Rattle.rational.specs.Rational.{int, ◌*ℚ◌, ◌≤ℚ◌}
+use Rattle.rational.proofs.Laws.{le_refl, zero_mul}
 use Rattle.sim_bounds.proofs.sim_gauge.spans.no_product.Goals as goal
 
 pub returns-clause-value : goal.returns-clause-value

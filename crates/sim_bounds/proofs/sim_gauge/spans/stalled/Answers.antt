@@ -1,8 +1,8 @@
 use Rattle.std.proofs.Common.{◌≡◌, ◌+◌, ◌∙◌, sym, ap, subst, arith, drop}
 use Rattle.std.proofs.lemmas.List.{drop_all}
-use Rattle.upp_limits.specs.rational.specs.Rational.{◌+ℚ◌}
-use Rattle.upp_limits.specs.rational.proofs.Laws.{antisym, add_zero}
-use Rattle.upp_limits.specs.rational.proofs.Linear.{with1}
+use Rattle.rational.specs.Rational.{◌+ℚ◌}
+use Rattle.rational.proofs.Laws.{antisym, add_zero}
+use Rattle.rational.proofs.Linear.{with1}
 use Rattle.net_model.specs.declared.trace.Stall.{Stall}
 use Rattle.net_model.specs.stated_runs.FromTraces.{stalls_at}
 use Rattle.sim_bounds.specs.Horizons.{stalled_for}

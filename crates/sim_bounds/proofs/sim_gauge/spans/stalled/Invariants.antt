@@ -1,6 +1,6 @@
 use Rattle.std.proofs.Common.{◌≡◌, drop}
 use Rattle.std.specs.Prelude.{pos}
-use Rattle.upp_limits.specs.rational.specs.Rational.{int, ◌+ℚ◌}
+use Rattle.rational.specs.Rational.{int, ◌+ℚ◌}
 use Rattle.net_model.specs.stated_runs.FromTraces.{stalls_at}
 use Rattle.sim_bounds.specs.Horizons.{stalled_for}
 use Rattle.sim_bounds.specs.sim_gauge.Steps.{StallsFit}

@@ -4,8 +4,8 @@ use Rattle.std.proofs.lemmas.Int.{ints}
 use Rattle.std.proofs.lemmas.Bool.{cases_lt}
 use Rattle.std.specs.Prelude.{IsTrue, pos, sum_by, ◌↔◌}
 use Rattle.std.specs.List.{AllByRecursion}
-use Rattle.upp_limits.specs.rational.specs.Rational.{int, ◌<ℚ◌}
-use Rattle.upp_limits.specs.rational.specs.Gauge.{Kept}
+use Rattle.rational.specs.Rational.{int, ◌<ℚ◌}
+use Rattle.rational.specs.Gauge.{Kept}
 use Rattle.upp_limits.specs.Limits.{joined, time_alone, value_alone, sizes_of}
 use Rattle.upp_limits.specs.Gathered.{Gathers}
 use Rattle.upp_limits.proofs.JoinedNumbers.{joined_assoc}

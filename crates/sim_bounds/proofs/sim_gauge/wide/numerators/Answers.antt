@@ -1,8 +1,8 @@
 use Rattle.std.proofs.Common.{◌≡◌, ◌<◌, ◌≤◌, ◌-◌, length, map, sym, ap, ◌∙◌, subst, arith}
 use Rattle.std.specs.Prelude.{nat_abs}
 use Rattle.std.proofs.lemmas.List.{drop_all}
-use Rattle.upp_limits.specs.rational.specs.Gauge.{Kept}
-use Rattle.upp_limits.specs.rational.proofs.Gauges.{kept_one}
+use Rattle.rational.specs.Gauge.{Kept}
+use Rattle.rational.proofs.Gauges.{kept_one}
 use Rattle.net_model.specs.declared.server.Server.{Server}
 use Rattle.net_model.specs.Networks.{NetServer}
 use Rattle.net_model.specs.Views.{servers_of}

@@ -1,5 +1,5 @@
 use Rattle.std.proofs.Common.{map, drop}
-use Rattle.upp_limits.specs.rational.specs.Gauge.{Kept}
+use Rattle.rational.specs.Gauge.{Kept}
 use Rattle.net_model.specs.Networks.{NetServer}
 use Rattle.net_model.specs.Views.{servers_of}
 use Rattle.sim_bounds.specs.Gauge.{common_num}

@@ -1,9 +1,9 @@
 use Rattle.std.proofs.Common.{◌≡◌, ◌<◌, ◌^◌, ◌∙◌, sym, ap, subst}
 use Rattle.std.specs.Prelude.{pos}
-use Rattle.upp_limits.specs.rational.specs.Rational.{int, ◌+ℚ◌, ◌*ℚ◌, ◌≤ℚ◌, ◌<ℚ◌}
-use Rattle.upp_limits.specs.rational.proofs.Compared.{not_less_out}
-use Rattle.upp_limits.specs.rational.proofs.Laws.{le_of_lt}
-use Rattle.upp_limits.specs.upp_curve.specs.Unrolled.{copies_below}
+use Rattle.rational.specs.Rational.{int, ◌+ℚ◌, ◌*ℚ◌, ◌≤ℚ◌, ◌<ℚ◌}
+use Rattle.rational.proofs.Compared.{not_less_out}
+use Rattle.rational.proofs.Laws.{le_of_lt}
+use Rattle.upp_curve.specs.Unrolled.{copies_below}
 use Rattle.upp_limits.specs.Spans.{Span}
 use Rattle.upp_limits.specs.Limits.{joined, time_alone, slopes_alone, line_slope}
 use Rattle.upp_limits.specs.Seen.{seen_of, SeenRises}

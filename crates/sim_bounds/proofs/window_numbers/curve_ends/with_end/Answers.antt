@@ -1,5 +1,5 @@
 use Rattle.std.proofs.Common.{subst}
-use Rattle.upp_limits.specs.rational.proofs.Compared.{not_less_out}
+use Rattle.rational.proofs.Compared.{not_less_out}
 use Rattle.upp_limits.specs.Spans.{Span}
 use Rattle.sim_bounds.specs.window_numbers.CurveEnds.{KnowsEnd}
 use Rattle.sim_bounds.proofs.window_numbers.curve_ends.with_end.Goals as goal

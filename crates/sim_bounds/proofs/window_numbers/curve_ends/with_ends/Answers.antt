@@ -1,5 +1,5 @@
 use Rattle.std.proofs.Common.{subst, sym, ◌+◌, drop}
-use Rattle.upp_limits.specs.rational.specs.Rational.{◌≤ℚ◌, int}
+use Rattle.rational.specs.Rational.{◌≤ℚ◌, int}
 use Rattle.std.proofs.Common.{pos}
 use Rattle.upp_limits.specs.Spans.{Span, spans}
 use Rattle.sim_bounds.specs.window_numbers.CurveEnds.{end_numbers, KnowsEnd}

@@ -3,8 +3,8 @@ use Rattle.std.proofs.lemmas.Bool.{leb-true, le-leb}
 use Rattle.upp_limits.specs.Limits.{sizes_of}
 use Rattle.upp_limits.proofs.CurveStands.{are_sizes}
 use Rattle.upp_limits.proofs.GaugeProduct.{gathered_steep, gathered_far, gathered_largest}
-use Rattle.upp_limits.specs.rational.proofs.Gauges.{kept_times}
-use Rattle.upp_limits.specs.rational.specs.Gauge.{Kept}
+use Rattle.rational.proofs.Gauges.{kept_times}
+use Rattle.rational.specs.Gauge.{Kept}
 use Rattle.sim_bounds.specs.window_numbers.Rated.{gauge_with}
 use Rattle.sim_bounds.proofs.window_numbers.Products.{wide_sizes}
 use Rattle.sim_bounds.proofs.window_numbers.wide.is_over.Goals as goal

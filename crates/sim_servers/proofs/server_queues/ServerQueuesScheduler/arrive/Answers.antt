@@ -1,6 +1,6 @@
 use Rattle.std.proofs.Common.{sym, subst}
-use Rattle.net_model.specs.run_laws.specs.Cards.{Arrives}
-use Rattle.net_model.specs.run_laws.specs.Next.{next}
+use Rattle.run_laws.specs.Cards.{Arrives}
+use Rattle.run_laws.specs.Next.{next}
 use Rattle.queue_sched.specs.Turns.{MayJoin}
 use Rattle.sim_servers.specs.declared.server_queues.ServerQueues.TheVariants.{Priority, Drr}
 use Rattle.sim_servers.specs.Queues.{served_by, room_of, StandFor}

@@ -2,9 +2,9 @@ use Rattle.std.specs.Prelude.{◌+◌}
 use Rattle.std.proofs.Common.{sym, subst, ap, ◌∙◌}
 use Rattle.std.proofs.lemmas.List.{length_push}
 use Rattle.rational.proofs.Laws.{le_trans}
-use Rattle.net_model.specs.run_laws.specs.Cards.{Arrives}
-use Rattle.net_model.specs.run_laws.specs.Next.{next}
-use Rattle.net_model.specs.run_laws.specs.Routes.{server_at}
+use Rattle.run_laws.specs.Cards.{Arrives}
+use Rattle.run_laws.specs.Next.{next}
+use Rattle.run_laws.specs.Routes.{server_at}
 use Rattle.sim_servers.specs.Queues.{StandFor}
 use Rattle.sim_servers.specs.Stations.{IsVacant, IsNextOf}
 use Rattle.sim_servers.proofs.Openings.{same_server}

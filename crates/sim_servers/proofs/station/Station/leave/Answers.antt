@@ -1,8 +1,8 @@
 use Rattle.std.specs.Prelude.{◌-◌}
 use Rattle.std.proofs.Common.{arith, subst, ◌∙◌}
-use Rattle.net_model.specs.run_laws.specs.Cards.{Leaves}
-use Rattle.net_model.specs.run_laws.specs.Next.{next}
-use Rattle.net_model.specs.run_laws.specs.Routes.{server_at}
+use Rattle.run_laws.specs.Cards.{Leaves}
+use Rattle.run_laws.specs.Next.{next}
+use Rattle.run_laws.specs.Routes.{server_at}
 use Rattle.sim_servers.specs.Queues.{StandFor}
 use Rattle.sim_servers.specs.Stations.{WillLeave, IsNextOf}
 use Rattle.sim_servers.proofs.Openings.{same_server}

@@ -1,7 +1,7 @@
 use Rattle.std.specs.Prelude.{pos}
 use Rattle.std.proofs.Common.{ap, ◌∙◌}
 use Rattle.rational.specs.Rational.{int}
-use Rattle.net_model.specs.run_laws.specs.Runs.{SpecRun}
+use Rattle.run_laws.specs.Runs.{SpecRun}
 use Rattle.net_model.specs.stated_runs.FromTraces.{setup_of}
 use Rattle.net_model.specs.stated_runs.Simulated.{last_time, IsSimulated}
 use Rattle.net_model.proofs.stated_runs.Lawfulness.{simulated_is_lawful}

@@ -1,7 +1,7 @@
 use Rattle.std.specs.Prelude.{List, length}
 use Rattle.std.proofs.Common.{sym, subst, ◌∙◌}
 use Rattle.std.proofs.Math.Seq.{drop-length}
-use Rattle.net_model.specs.run_laws.specs.declared.steps.Step.{Step}
+use Rattle.run_laws.specs.declared.steps.Step.{Step}
 use Rattle.net_model.specs.NetRoutes.{routes_of}
 use Rattle.simulator.specs.run_measures.Tallies.{IsTold}
 use Rattle.simulator.proofs.run_measures.Walking.{may_tell, told_before, told_all}

@@ -1,8 +1,8 @@
 use Rattle.std.proofs.Common.{◌≡◌, refl, sym, subst, inl, inr, ◌∙◌, Some}
 use Rattle.std.proofs.lemmas.Result.{err_from_is_err_and}
-use Rattle.min_plus.specs.rational.specs.Rational.{ℚ}
-use Rattle.min_plus.specs.rational.specs.Extended.{Ext, ◌<ₑ◌}
-use Rattle.min_plus.specs.rational.specs.declared.Extended.TheVariants.{Fin, Inf}
+use Rattle.rational.specs.Rational.{ℚ}
+use Rattle.rational.specs.Extended.{Ext, ◌<ₑ◌}
+use Rattle.rational.specs.declared.Extended.TheVariants.{Fin, Inf}
 use Rattle.upp_curve.specs.declared.affine_segment.element.Element.TheVariants.{Point, Open}
 use Rattle.upp_curve.specs.declared.affine_segment.element.Joined.{Joined}
 use Rattle.upp_curve.specs.affine_segment.Segments.{open_of}

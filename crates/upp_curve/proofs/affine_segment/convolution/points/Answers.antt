@@ -1,5 +1,5 @@
 use Rattle.std.proofs.Common.{sym, ap, ◌∙◌, subst}
-use Rattle.min_plus.specs.rational.specs.Rational.{◌+ℚ◌}
+use Rattle.rational.specs.Rational.{◌+ℚ◌}
 use Rattle.upp_curve.specs.declared.affine_segment.element.Element.TheVariants.{Point}
 use Rattle.upp_curve.specs.affine_segment.Elements.{IsConvolved}
 use Rattle.upp_curve.specs.affine_segment.MadeParts.{alone_part}

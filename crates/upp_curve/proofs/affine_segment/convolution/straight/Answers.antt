@@ -5,7 +5,7 @@ use Rattle.upp_curve.specs.affine_segment.Corners.{segment_of}
 use Rattle.upp_curve.specs.affine_segment.Elements.{IsConvolved}
 use Rattle.upp_curve.proofs.affine_segment.Convolved.{straight_convolved}
 use Rattle.upp_curve.proofs.affine_segment.Made.{one_part_made}
-use Rattle.min_plus.specs.rational.specs.Extended.{◌+ₑ◌}
+use Rattle.rational.specs.Extended.{◌+ₑ◌}
 use Rattle.upp_curve.proofs.affine_segment.convolution.straight.Goals as goal
 
 pub returns-in_err-start-clause-wide : goal.returns-in_err-start-clause-wide

@@ -1,8 +1,8 @@
 use Rattle.std.specs.Prelude.{◌≡◌, IfSome}
 use Rattle.std.proofs.Common.{subst, arith}
-use Rattle.min_plus.specs.rational.proofs.Laws.{le_of_lt}
+use Rattle.rational.proofs.Laws.{le_of_lt}
 use Rattle.upp_curve.specs.affine_segment.Values.{line_at}
-use Rattle.min_plus.specs.rational.proofs.Compared.{is_less, not_less}
+use Rattle.rational.proofs.Compared.{is_less, not_less}
 use Rattle.upp_curve.proofs.affine_segment.Lower.{turned}
 use Rattle.upp_curve.proofs.affine_segment.cut.element_min.Goals as goal
 

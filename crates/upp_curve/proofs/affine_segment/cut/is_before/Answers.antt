@@ -1,8 +1,8 @@
 use Rattle.std.proofs.Common.{subst, sym, true≢false}
-use Rattle.min_plus.specs.rational.specs.Extended.{◌<ₑ◌}
-use Rattle.min_plus.specs.rational.specs.declared.Extended.TheVariants.{Fin}
-use Rattle.min_plus.specs.rational.proofs.Laws.{lt_le_trans, lt_irrefl}
-use Rattle.min_plus.specs.rational.proofs.Compared.{not_less}
+use Rattle.rational.specs.Extended.{◌<ₑ◌}
+use Rattle.rational.specs.declared.Extended.TheVariants.{Fin}
+use Rattle.rational.proofs.Laws.{lt_le_trans, lt_irrefl}
+use Rattle.rational.proofs.Compared.{not_less}
 use Rattle.upp_curve.proofs.affine_segment.cut.is_before.Goals as goal
 
 pub returns-in_default : goal.returns-in_default

@@ -1,5 +1,5 @@
 use Rattle.std.proofs.Common.{true≢false, ◌∙◌, sym}
-use Rattle.min_plus.specs.rational.proofs.Compared.{is_less, not_less}
+use Rattle.rational.proofs.Compared.{is_less, not_less}
 use Rattle.upp_curve.proofs.affine_segment.Lower.{crossing_cut, uncrossed_cut, crossed_cut}
 use Rattle.upp_curve.proofs.affine_segment.cut.lower_crossing.Goals as goal
 

@@ -1,5 +1,5 @@
-use Rattle.min_plus.specs.rational.proofs.Laws.{le_of_lt}
-use Rattle.min_plus.specs.rational.proofs.Compared.{is_greater, not_greater}
+use Rattle.rational.proofs.Laws.{le_of_lt}
+use Rattle.rational.proofs.Compared.{is_greater, not_greater}
 use Rattle.upp_curve.proofs.affine_segment.Lower.{parallel_left, parallel_right}
 use Rattle.upp_curve.proofs.affine_segment.cut.lower_parallel.Goals as goal
 

@@ -1,8 +1,8 @@
 use Rattle.std.specs.Prelude.{pos}
 use Rattle.std.proofs.Common.{◌≡◌, ◌∙◌, ap, subst, IfOk, inl, inr}
 use Rattle.upp_curve.specs.declared.curve.Tail.TheVariants.{Periodic, Affine, Infinite}
-use Rattle.min_plus.specs.rational.specs.Rational.{int}
-use Rattle.min_plus.specs.rational.specs.Whole.{periods}
+use Rattle.rational.specs.Rational.{int}
+use Rattle.rational.specs.Whole.{periods}
 use Rattle.upp_curve.specs.affine_segment.Reading.{read}
 use Rattle.upp_curve.specs.Curve.{repeated}
 use Rattle.upp_curve.specs.Steps.{IsWideRead, IsWidePast, IsWideValueAt}

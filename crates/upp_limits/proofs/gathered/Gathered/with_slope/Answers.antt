@@ -1,5 +1,5 @@
 use Rattle.std.proofs.Common.{subst}
-use Rattle.min_plus.specs.rational.specs.Gauge.{Kept, lcm, common_den}
+use Rattle.rational.specs.Gauge.{Kept, lcm, common_den}
 use Rattle.upp_limits.proofs.Gathering.{gathers_slope}
 use Rattle.upp_limits.proofs.gathered.Gathered.with_slope.Goals as goal
 

@@ -1,7 +1,7 @@
 use Rattle.std.specs.Prelude.{List, [], ◌∷◌, ◌++◌, set}
 use Rattle.std.proofs.Common.{refl, sym, subst, arith}
 use Rattle.std.proofs.lemmas.List.{length-map, with_items_is}
-use Rattle.net_model.specs.run_laws.specs.declared.steps.Step.TheVariants as steps
+use Rattle.run_laws.specs.declared.steps.Step.TheVariants as steps
 use Rattle.queue_sched.specs.index_links.Chains.{list_at, with_list}
 use Rattle.net_model.specs.stated_runs.FromTraces.{entering, setup_of}
 use Rattle.sim_servers.specs.declared.station.Station.{Station}

@@ -2,7 +2,7 @@ use Rattle.std.specs.Prelude.{◌≡◌, List, length}
 use Rattle.std.proofs.Common.{sym, ap, subst, arith, ◌∙◌}
 use Rattle.std.proofs.lemmas.List.{length-map}
 use Rattle.net_model.specs.Views.{server_of}
-use Rattle.net_model.specs.run_laws.specs.declared.steps.Step.{Step}
+use Rattle.run_laws.specs.declared.steps.Step.{Step}
 use Rattle.net_model.specs.stated_runs.FromTraces.{setup_of}
 use Rattle.sim_bounds.specs.Gauge.{grid_of}
 use Rattle.sim_bounds.specs.Horizons.{horizon}

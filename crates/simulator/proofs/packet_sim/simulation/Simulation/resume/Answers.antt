@@ -1,7 +1,7 @@
 use Rattle.std.specs.Prelude.{◌<◌, List, length, slice_get}
 use Rattle.std.proofs.Common.{refl, sym, subst, arith, ap, ◌∙◌}
 use Rattle.std.proofs.lemmas.List.{with_items_is}
-use Rattle.net_model.specs.run_laws.specs.declared.steps.Step.TheVariants as steps
+use Rattle.run_laws.specs.declared.steps.Step.TheVariants as steps
 use Rattle.net_model.specs.stated_runs.FromTraces.{setup_of}
 use Rattle.sim_servers.specs.declared.station.Station.{Station}
 use Rattle.sim_servers.specs.sim_loop.Moves.{HasWorked}

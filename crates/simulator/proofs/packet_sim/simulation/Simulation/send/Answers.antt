@@ -3,7 +3,7 @@ use Rattle.std.proofs.Common.{refl, sym, subst, arith, ap, ◌∙◌}
 use Rattle.std.proofs.lemmas.List.{length-map, with_items_is}
 use Rattle.rational.specs.Rational.{◌/ℚ◌}
 use Rattle.rational.specs.Ratio.{IsSmall}
-use Rattle.net_model.specs.run_laws.specs.declared.steps.Step.TheVariants as steps
+use Rattle.run_laws.specs.declared.steps.Step.TheVariants as steps
 use Rattle.queue_sched.specs.declared.turn.Turn.TheVariants as turns
 use Rattle.net_model.specs.stated_runs.FromTraces.{entering, setup_of}
 use Rattle.sim_servers.specs.declared.station.Station.{Station}

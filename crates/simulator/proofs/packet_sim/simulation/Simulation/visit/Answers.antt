@@ -1,5 +1,5 @@
 use Rattle.std.proofs.Common.{refl}
-use Rattle.net_model.specs.run_laws.specs.declared.steps.Step.TheVariants as steps
+use Rattle.run_laws.specs.declared.steps.Step.TheVariants as steps
 use Rattle.net_model.specs.stated_runs.FromTraces.{setup_of}
 use Rattle.simulator.proofs.packet_sim.Starting.{visit_done}
 use Rattle.simulator.proofs.packet_sim.Stepped.{stepped}

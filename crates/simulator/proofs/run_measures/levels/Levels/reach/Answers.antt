@@ -1,6 +1,6 @@
 use Rattle.std.proofs.Common.{◌≡◌, ◌∙◌, ap, sym, arith}
 use Rattle.std.proofs.lemmas.List.{get_or_read, with_items_is}
-use Rattle.net_model.specs.run_laws.specs.Routes.{queue_at, route_of}
+use Rattle.run_laws.specs.Routes.{queue_at, route_of}
 use Rattle.net_model.specs.NetRoutes.{routes_of}
 use Rattle.simulator.specs.run_measures.Gauges.{Gains, gauges_of}
 use Rattle.simulator.specs.run_measures.Levels.{flow_for, bits_for, queue_for}

@@ -1,6 +1,6 @@
 use Rattle.std.specs.Prelude.{Result, Ok, Err, OnOk, ◌<◌, ◌^◌}
 use Rattle.std.proofs.Common.{arith, ap}
-use Rattle.net_model.specs.run_laws.specs.declared.steps.Step.TheVariants as steps
+use Rattle.run_laws.specs.declared.steps.Step.TheVariants as steps
 use Rattle.net_model.specs.NetRoutes.{routes_of}
 use Rattle.simulator.proofs.run_measures.LevelSteps.{step_at, next_place, next_number, may_enter, enter_tells, may_reach, reach_tells, may_leave, leave_tells, work_tells, visit_tells}
 use Rattle.simulator.proofs.run_measures.levels.Levels.tell.Goals as goal

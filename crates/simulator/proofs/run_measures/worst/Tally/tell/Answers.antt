@@ -1,6 +1,6 @@
 use Rattle.std.specs.Prelude.{◌∷◌}
 use Rattle.std.proofs.Common.{sym, subst}
-use Rattle.net_model.specs.run_laws.specs.declared.steps.Step.{Step}
+use Rattle.run_laws.specs.declared.steps.Step.{Step}
 use Rattle.net_model.specs.NetRoutes.{routes_of}
 use Rattle.simulator.specs.run_measures.Tallies.{IsTold}
 use Rattle.simulator.proofs.run_measures.Telling.{reach_told, work_told, visit_told}
