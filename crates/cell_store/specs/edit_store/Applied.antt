@@ -16,7 +16,7 @@ use Rattle.net_edits.specs.declared.fault.EditFault.{EditFault}
 use Rattle.net_edits.specs.declared.fault.EditFault.TheVariants.{UnknownName, NameTaken, BadValue, LimitReached, Cycle, TooMany, TooWide, NothingToUndo, NoMemory}
 use Rattle.net_edits.specs.Edited.{edited}
 use Rattle.net_edits.specs.Replies.{Refuses, IsEdited, IsEditOver, IsOverNone}
-use Rattle.cell_rules.specs.cell_changes.Changes.{Touched}
+pub use Rattle.cell_rules.specs.cell_changes.Changes.{Touched}
 use Rattle.cell_store.specs.Edits.{EditEnds}
 use Rattle.cell_store.specs.edit_store.Stored.{Stored, networks, AreTouched}
 

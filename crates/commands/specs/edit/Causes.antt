@@ -16,9 +16,8 @@ use Rattle.net_edits.specs.declared.fault.EditFault.{EditFault}
 use Rattle.net_edits.specs.declared.fault.EditFault.TheVariants.{UnknownName, NameTaken, BadValue, LimitReached, Cycle, TooMany, TooWide, NothingToUndo, NoMemory}
 use Rattle.net_edits.specs.Edited.{Edited, edited}
 use Rattle.net_edits.specs.Replies.{Refuses, IsEditOver}
-use Rattle.cell_rules.specs.cell_changes.Changes.{Touched}
 use Rattle.cell_store.specs.edit_store.Stored.{AreTouched}
-use Rattle.cell_store.specs.edit_store.Applied.{Gives}
+use Rattle.cell_store.specs.edit_store.Applied.{Gives, Touched}
 use Rattle.commands.specs.edit.NetHistories.{NetHistory}
 
 -- no rule of edits refuses the edit
