@@ -4,7 +4,7 @@
     python3 bench/versions.py NETCALC
 
 NETCALC is the program. First a table of 1,048,576 cells, each of which is set at first: so many times it is marked and one cell is set, each time
-another one, and then it goes back through all versions. A program over the proved tables of `cell_store::version_table` does it; it is
+another one, and then it goes back through all versions. A program over the proved tables of `version_table` does it; it is
 written into a new folder outside the repository, with what is kept in the out/ folders of the crates below it, `rt run` proves, builds and
 runs it, and the folder is removed. That takes some minutes, or much longer where those crates have not been checked before. Then
 `netcalc edit` on four servers in a row with eight flows: so many rates of the last server, and as many undos.
@@ -35,7 +35,7 @@ use std::alloc::{AllocError, Global};
 use std::env;
 use std::process::ExitCode;
 use std::rc::Rc;
-use cell_store::version_table::Versions;
+use version_table::Versions;
 
 // A table of so many cells, each of them set.
 fn filled(alloc: Global, cells: u32) -> Result<Versions<u32>, AllocError>
@@ -147,7 +147,7 @@ def below(wanted: str) -> dict[str, list[str]]:
 
 def built(folder: Path) -> Path:
     """The program over versions of a table. How many it makes is told by the number of its words."""
-    crates = below("cell_store")
+    crates = below("version_table")
     for name in crates:
         shutil.copytree(TOP / "crates" / name, folder / "crates" / name)
     crate = folder / "crates" / "bench"
@@ -158,7 +158,7 @@ def built(folder: Path) -> Path:
         (crate / "proofs" / function).mkdir(parents=True)
         (crate / "proofs" / function / "Invariants.antt").write_text(invariant)
     lines = "".join(f"{name}: {' '.join(needs)}\n" for name, needs in crates.items())
-    (folder / "crates.txt").write_text(f"{lines}bench: cell_store\n")
+    (folder / "crates.txt").write_text(f"{lines}bench: version_table\n")
     (folder / "HANDLES").write_text("Handles allowed: none.\n")
     print("building (the first time takes minutes)", file=sys.stderr)
     run = subprocess.run(["rt", "run"], cwd=crate, capture_output=True, text=True, check=False)

@@ -2,12 +2,12 @@
 
 ghost use Rattle.std.specs.Prelude.{◌≡◌};
 
-use crate::version_table::Versions;
 use cell_rules::cell_changes::{SLOTS, is_placed, slot};
 use net_cells::Cell;
 use net_cells::cell_table::{CellValue, Table};
 use std::alloc::{AllocError, Global};
 use std::rc::Rc;
+use version_table::Versions;
 
 /// Values by cell, in versions of which the newest is the table.
 #[derive(Drop)]
@@ -35,7 +35,7 @@ impl<V: CellValue + Drop> Values<V> {
     ghost use Rattle.std.specs.Prelude.{length};
     ghost use Rattle.net_cells.specs.declared.cell.Cell.{Cell};
     ghost use Rattle.cell_rules.specs.cell_changes.Slots.{HasSlot, slots};
-    ghost use Rattle.cell_store.specs.version_table.Histories.{IsMarked, IsUndone};
+    ghost use Rattle.version_table.specs.Histories.{IsMarked, IsUndone};
 
     /// One version that has nothing.
     pub fn new(alloc: Global) -> Result<Values<V>, AllocError>

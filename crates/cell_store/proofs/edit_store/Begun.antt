@@ -14,7 +14,7 @@ use Rattle.net_cells.specs.Meanings.{Meaning, CellTable}
 use Rattle.net_cells.specs.Order.{evaluation_order}
 use Rattle.net_cells.proofs.Lists.{Has, contains_has}
 use Rattle.net_cells.proofs.Members.{order_has}
-use Rattle.cell_store.specs.version_table.Histories.{History}
+use Rattle.version_table.specs.Histories.{History}
 use Rattle.cell_rules.specs.cell_changes.Changes.{TouchedOf, changed, no_more, taken}
 use Rattle.cell_store.specs.Placed.{placed}
 use Rattle.cell_store.specs.Edits.{AllAnswered, IsEditOf, SameButAt}

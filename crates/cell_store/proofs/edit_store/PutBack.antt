@@ -14,7 +14,7 @@ use Rattle.net_cells.specs.Meanings.{Meaning}
 use Rattle.net_cells.proofs.Lists.{contains_has}
 use Rattle.net_edits.specs.Changed as change
 use Rattle.net_edits.proofs.Replaced.{server_replaced, flow_replaced}
-use Rattle.cell_store.specs.version_table.Histories.{History}
+use Rattle.version_table.specs.Histories.{History}
 use Rattle.cell_store.specs.declared.edit_store.replaced.Replaced.{Replaced}
 use Rattle.cell_store.specs.edit_store.Stored.{Stored, IsStored, HoldsTable, IsAdvanced, IsBack}
 use Rattle.cell_store.specs.edit_store.Replaced.{without_last, put_back, first_network, networks_before, IsKept, IsServerChanged, IsFlowChanged, IsFlowAdded}

@@ -13,7 +13,7 @@ use Rattle.net_cells.specs.Order.{evaluation_order}
 use Rattle.net_cells.specs.Equations.{MeetsEquations}
 use Rattle.net_cells.proofs.Lists.{contains_has}
 use Rattle.net_cells.proofs.Tables.{answered_meets}
-use Rattle.cell_store.specs.version_table.Histories.{History}
+use Rattle.version_table.specs.Histories.{History}
 use Rattle.cell_rules.specs.cell_changes.Changes.{TouchedOf}
 use Rattle.cell_rules.proofs.cell_changes.CarriedOver.{touched_has, one_touched_list}
 use Rattle.cell_store.specs.Placed.{placed}

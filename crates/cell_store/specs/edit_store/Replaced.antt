@@ -6,7 +6,7 @@ use Rattle.net_model.specs.Accepted.{IsAccepted}
 use Rattle.net_model.specs.Views.{server_of, flow_of}
 use Rattle.net_cells.specs.Meanings.{Meaning}
 use Rattle.net_edits.specs.Changed.{put_server, put_flow, at_server, at_flow, with_more}
-use Rattle.cell_store.specs.version_table.Histories.{History}
+use Rattle.version_table.specs.Histories.{History}
 use Rattle.cell_rules.specs.declared.site.Site.{Site}
 use Rattle.cell_rules.specs.declared.site.Site.TheVariants as site
 use Rattle.cell_store.specs.declared.edit_store.replaced.Replaced.{Replaced}

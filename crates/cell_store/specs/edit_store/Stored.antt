@@ -7,7 +7,7 @@ use Rattle.net_cells.specs.declared.cell.Cell.{Cell}
 use Rattle.net_cells.specs.Cells.{has_cell}
 use Rattle.net_cells.specs.Meanings.{Meaning}
 use Rattle.net_cells.specs.Order.{evaluation_order}
-use Rattle.cell_store.specs.version_table.Histories.{History}
+use Rattle.version_table.specs.Histories.{History}
 use Rattle.cell_rules.specs.cell_changes.Slots.{HasSlot}
 use Rattle.cell_rules.specs.cell_changes.Changes.{TouchedOf}
 use Rattle.cell_store.specs.Placed.{placed}

@@ -3,7 +3,6 @@
 use crate::edit_store::faults::analysis_fault;
 use crate::edit_store::plan::{Planned, lost_cells, plan};
 use crate::edit_store::replaced::{Replaced, no_network, put_back, replaced_by};
-use crate::version_table::Versions;
 use crate::{Values, edited_values, made_anew};
 use net_cells::cell_table::{AnalysisFault, CellValue, Evaluator, Table};
 use net_cells::{Cell, cells};
@@ -12,6 +11,7 @@ use net_model::{Done, Edit, Network};
 use std::alloc::Global;
 use std::marker::Model;
 use std::mem::replace;
+use version_table::Versions;
 
 /// Networks, each edited from the one before, and the values of their cells: the present one can be edited, and given
 /// up for the one before. Of those before the present one it keeps what each edit replaced.

@@ -1,6 +1,6 @@
 //! Versions that are made and given up.
 
-use cell_store::version_table::Versions;
+use version_table::Versions;
 use std::alloc::Global;
 use std::rc::Rc;
 

@@ -6,7 +6,7 @@ use Rattle.cell_store.specs.Placed.{placed}
 use Rattle.net_cells.specs.Order.{evaluation_order}
 use Rattle.cell_rules.specs.cell_changes.Changes.{TouchedOf}
 use Rattle.cell_store.specs.Edits.{EditEnds, at_none, RefusesFor, IsFirstTouched}
-use Rattle.cell_store.specs.version_table.Histories.{History}
+use Rattle.version_table.specs.Histories.{History}
 use Rattle.cell_store.specs.declared.edit_store.replaced.Replaced.{Replaced}
 use Rattle.cell_store.specs.edit_store.Stored.{Stored, AreTouched, AreLost}
 use Rattle.cell_store.specs.edit_store.Replaced.{put_back, networks_before}

@@ -2,7 +2,7 @@ use Rattle.std.proofs.Common.{◌≡◌, [], ap, sym, ◌∙◌, subst, length, 
 use Rattle.std.proofs.lemmas.List.{length_push}
 use Rattle.net_model.specs.Networks.{Net}
 use Rattle.net_model.specs.Accepted.{IsAccepted}
-use Rattle.cell_store.specs.version_table.Histories.{IsUndone}
+use Rattle.version_table.specs.Histories.{IsUndone}
 use Rattle.cell_store.specs.edit_store.Replaced.{put_back, IsKept}
 use Rattle.cell_store.proofs.edit_store.Steps.{was_undone}
 use Rattle.cell_store.proofs.edit_store.PutBack.{last_accepted, kept_less, count_before, then_back, gone_back}
