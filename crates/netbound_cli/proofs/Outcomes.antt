@@ -18,9 +18,9 @@ use Rattle.netbound_cli.specs.Laws.{RepliesAreDetermined}
 use Rattle.netbound_cli.specs.Reply.{AnswersWhatItCan, AsksUpTo, Brings, EndsAt, FailedAt, Gives, GivesOnTold, IsAnswerableCall}
 use Rattle.netbound_cli.specs.Reply.{IsOnBoth, IsStatus, IsReplyAsking, IsReplyOnFiles, MayReply, MayReplyTo, OnTables, Output, asks_of}
 use Rattle.netbound_cli.specs.Files.{most_bytes}
-use Rattle.outside.proofs.FileLemmas.{any_told, ended, first_map, first_shows, long_first, long_one, long_shows}
-use Rattle.outside.proofs.FileLemmas.{not_long, on_told, same_told}
-use Rattle.outside.proofs.Fetches.{fetches_none}
+use Rattle.replies.proofs.FileLemmas.{any_told, ended, first_map, first_shows, long_first, long_one, long_shows}
+use Rattle.replies.proofs.FileLemmas.{not_long, on_told, same_told}
+use Rattle.replies.proofs.Fetches.{fetches_none}
 
 -- ---- what the inputs may bring
 -- fetching ended at a file

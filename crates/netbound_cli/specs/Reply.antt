@@ -1,10 +1,10 @@
 -- What the program answers on words and files, and what it means that the answer is given.
-use Rattle.std.specs.Prelude.{◌≡◌, ◌⊎◌, ◌≤◌, ◌+◌, ◌++◌, ℕ, List, [], ◌∷◌, take, slice_get, Option, Some, IfSome}
-use Rattle.std.specs.Io.KnownBytes.{Appends}
-use Rattle.outside.specs.Faults.{Rose}
+use Rattle.std.specs.Prelude.{◌≡◌, ◌⊎◌, ◌≤◌, ◌++◌, ℕ, List, [], ◌∷◌, Option, Some, IfSome}
 use Rattle.outside.specs.Fetching as fetching
 pub use Rattle.outside.specs.Fetching.{FailedAt}
-use Rattle.outside.specs.Written.{AppendsFront}
+pub use Rattle.outside.specs.Written.{Output, output}
+use Rattle.replies.specs.Given as given
+pub use Rattle.replies.specs.Ended.{AsksUpTo, asks_of}
 use Rattle.bounds_command.specs.declared.answer.Form.{Form}
 use Rattle.bounds_command.specs.Replies.{Reply, cannot_read, too_long}
 use Rattle.bounds_command.specs.OnTables.{Tables, tables, IsReplyOn}
@@ -29,17 +29,6 @@ IsReplyOnFiles c files reply =
 abbrev pub EndsAt : {I : Type 0} → (I → ℕ) → (I → List ℕ) → Told → I → I → Reply → List ℕ → Type 0
 EndsAt faults last_fault told old new reply file =
     fetching.EndsAt most_bytes cannot_read too_long faults last_fault told old new reply file
-
--- ---- asked for
--- A call asks for these names, in their order, and for no other.
-abbrev pub asks_of : {I : Type 0} → (I → List (List ℕ)) → I → I → List (List ℕ) → Type 0
-asks_of asked old new names = fetching.AsksForAll asked names old new
-
--- It asks for the names up to this file, and for none behind it.
-pub record AsksUpTo (asks : List (List ℕ) → Type 0) (names : List (List ℕ)) (file : List ℕ) : Type 0 where
-  pub place : ℕ
-  pub last : slice_get names place ≡ Some file
-  pub are : asks (take (place + 1) names)
 
 -- ---- on words and inputs
 -- The reply of a call whose files hold these bytes, where no more is asked for than it tells of: up to a file that is
@@ -74,22 +63,13 @@ abbrev pub IsOnBoth : ℕ → Type 0
 IsOnBoth status = (status ≡ 0) ⊎ ((status ≡ 8) ⊎ (status ≡ 9))
 
 -- ---- given
--- What is known of the output: what is written there, where it is told, and the bytes of each put.
-pub record Output : Type 0 where
-  pub written : Option (List ℕ)
-  pub puts : List (List ℕ)
-
-abbrev pub output : {K : Type 0} → (K → Option (List ℕ)) → (K → List (List ℕ)) → K → Output
-output written puts out = record { written = written out; puts = puts out }
-
 -- There was one put, of the reply's bytes.
 abbrev pub PutsOnce : Output → Output → Reply → Type 0
 PutsOnce old new reply = new.puts ≡ old.puts ++ reply.bytes ∷ []
 
--- The status is the reply's, and its bytes were written, by one put.
+-- The status is the reply's, and there was one put, of its bytes, which were written.
 abbrev pub Gives : ℕ → Output → Output → Reply → Type 0
-Gives status old new reply =
-    (status ≡ reply.status) × Appends old.written new.written reply.bytes × PutsOnce old new reply
+Gives status old new reply = given.Gives status reply.status reply.bytes old new
 
 -- The files of a call hold bytes that are not too many, both were asked for, and a reply of this kind on them was given.
 pub record Brings (K : Tables → ℕ → Form → Reply → Type 0) (told : Told) (asks : List (List ℕ) → Type 0) (c : Call)
@@ -120,9 +100,7 @@ AnswersWhatItCan c told status = IfSome (all_told told (files_of c)) (λ files.
     AllFit files → IsAnswerableCall c files
     → (status ≡ 0) ⊎ ((status ≡ 9) ⊎ ((status ≡ 3) ⊎ ((status ≡ 4) ⊎ (status ≡ 5)))))
 
--- The sink failed in this call, at one put of the reply's bytes, and a front of them was written.
-pub record FailsToGive {K : Type 0} (faults : K → ℕ) (written : K → Option (List ℕ)) (puts : K → List (List ℕ))
-    (old new : K) (reply : Reply) : Type 0 where
-  pub rose : Rose (faults old) (faults new)
-  pub front : AppendsFront (written old) (written new) reply.bytes
-  pub put : PutsOnce (output written puts old) (output written puts new) reply
+-- The sink failed in this call: there was one put, of the reply's bytes, a front of which was written.
+abbrev pub FailsToGive : {K : Type 0} → (faults : K → ℕ) → (written : K → Option (List ℕ)) → (puts : K → List (List ℕ))
+    → K → K → Reply → Type 0
+FailsToGive faults written puts old new reply = given.FailsToGive faults written puts old new reply.bytes

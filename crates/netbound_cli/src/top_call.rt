@@ -1,6 +1,6 @@
 //! The top call.
 
-ghost use Rattle.std.specs.Prelude.{◌≡◌, ◌≢◌, ◌≤◌, ◌⊎◌, ◌++◌, ◌∷◌, [], ℕ, List, true, false, None, Some, IfSome, IfOk};
+ghost use Rattle.std.specs.Prelude.{◌≡◌, ◌≢◌, ◌≤◌, ◌⊎◌, true, false, None, IfSome, IfOk};
 ghost use Rattle.outside.specs.Fetching.{FetchesAll, FetchesUpTo};
 ghost use Rattle.bounds_command.specs.Laws.{IsReport};
 ghost use Rattle.bounds_command.specs.OnTables.{IsFaulty, IsCyclic};
@@ -13,27 +13,13 @@ ghost use Rattle.netbound_cli.specs.Files.{IsTooLong, FirstIs};
 ghost use Rattle.netbound_cli.specs.Reply.{FailedAt, AsksUpTo, asks_of, MayReply, MayReplyTo, output, Gives, PutsOnce, Brings};
 ghost use Rattle.netbound_cli.specs.Reply.{GivesOnTold, AnswersWhatItCan, FailsToGive, IsOnBoth, IsStatus};
 
-use crate::fetching::fetch_two;
+use crate::fetching::{MOST_BYTES, unread_answer};
 use crate::texts::{HELP, USAGE, VERSION};
 use crate::words::{Bounds, Request, WordFault, request_of};
 use bounds_command::{Answer, Form, Status, on_tables};
 use outside::{Inputs, NoMemory, Sink};
+use replies::{fetch_two, give};
 use std::alloc::Global;
-
-/// Gives an answer: puts its text, and returns its status, or that the sink failed.
-fn give<K: Sink>(out: &mut K, status: Status, text: &str) -> u8
-    requires { code_of status ≢ 4 }
-    ensures given { let reply : Reply = record { status = code_of status; bytes = text.now } in
-        result ≢ 4 → Gives result (output K.written K.puts out.old) (output K.written K.puts out.new) reply }
-    ensures failed { let reply : Reply = record { status = code_of status; bytes = text.now } in
-        result ≡ 4 → FailsToGive K.faults K.written K.puts out.old out.new reply }
-    ensures put { K.puts out.new ≡ K.puts out.old ++ text.now ∷ [] }
-{
-    match out.put(text.as_bytes()) {
-        Ok(()) => status.code(),
-        Err(_) => Status::WriteFault.code(),
-    }
-}
 
 // The form of a report.
 fn form_of(json: bool) -> Form
@@ -52,7 +38,7 @@ fn answer_to<I: Inputs>(alloc: Global, asked: Bounds, inputs: &mut I) -> Result<
         FetchesAll I.asked I.had (files_of (bounds_call asked.entry)) inputs.old inputs.new) }
 {
     let form = form_of(asked.json);
-    match fetch_two(alloc, asked.ports, asked.links, inputs) {
+    match fetch_two(alloc, MOST_BYTES, asked.ports, asked.links, inputs) {
         Ok((ports, links)) => on_tables(
             alloc,
             asked.ports,
@@ -62,7 +48,7 @@ fn answer_to<I: Inputs>(alloc: Global, asked: Bounds, inputs: &mut I) -> Result<
             asked.overhead,
             form,
         ),
-        Err(ended) => ended,
+        Err(unread) => unread_answer(alloc, unread),
     }
 }
 
@@ -174,7 +160,7 @@ pub fn run<I: Inputs, K: Sink>(alloc: Global, words: &[String], inputs: &mut I, 
     ensures no_put { result ≡ 5 → K.puts out.new ≡ K.puts out.old }
 {
     match answered(alloc, words, inputs) {
-        Ok(answer) => give(out, answer.status, answer.text.as_str()),
+        Ok(answer) => give(out, answer.status.code(), answer.text.as_bytes()),
         Err(_) => Status::NoMemory.code(),
     }
 }

@@ -6,7 +6,7 @@ use Rattle.netcalc_cli.specs.Commands.{Command, files_of}
 use Rattle.netcalc_cli.specs.Files.{most_bytes, Told}
 use Rattle.netcalc_cli.specs.Reply.{MayReplyTo, FailedAt}
 use Rattle.netcalc_cli.proofs.ByCommand.{by_command}
-use Rattle.outside.proofs.FileLemmas.{first_shows, long_shows}
+use Rattle.replies.proofs.FileLemmas.{first_shows, long_shows}
 
 other : (status n : ℕ) → status ≡ n → n ≢ 4 → status ≢ 4
 other status n is apart e = apart (sym is ∙ e)

@@ -6,7 +6,10 @@ use Rattle.upp_limits.specs.declared.own_limits.OverLimit.TheVariants.{TooMany, 
 use Rattle.upp_limits.proofs.SpanNumbers.{if_some_map}
 use Rattle.outside.specs.Fetching.{FetchesAll, FetchesUpTo}
 use Rattle.outside.specs.Written.{Output}
-use Rattle.outside.proofs.Fetches.{up_to_end}
+use Rattle.replies.specs.declared.fetching.Unread.{Unread}
+use Rattle.replies.specs.Ended.{EndsIn, AsksUpTo, Tells, asks_of}
+use Rattle.replies.proofs.Ends.{told_in}
+use Rattle.replies.proofs.Fetches.{up_to_end}
 use Rattle.command_replies.specs.declared.answer.Answer.{Answer}
 use Rattle.command_replies.specs.Replies.{Reply, cannot_read, too_long}
 use Rattle.command_replies.specs.View.{code_of, reply_of, status_of}
@@ -18,8 +21,8 @@ use Rattle.netcalc_cli.specs.Files.{most_bytes, Told, IsTooLong, FirstIs, MayHol
 use Rattle.netcalc_cli.specs.Reply.{IsReplyOnFiles, StandsOnFiles, FailedAt, EndsAt, MayReplyTo, Gives, Brings, GivesOnTold, AnswersWhatItCan}
 use Rattle.netcalc_cli.proofs.ByCommand.{IsByStatus, by_command, equal_by_command, one_by_command, complete_by_command}
 use Rattle.netcalc_cli.proofs.ByCommand.{IsGiven, answer_given, counts_by_command}
-use Rattle.outside.proofs.FileLemmas.{first_map, first_shows, long_shows, long_first, not_long, long_one, ended}
-use Rattle.outside.proofs.FileLemmas.{same_told, on_told, any_told}
+use Rattle.replies.proofs.FileLemmas.{first_map, first_shows, long_shows, long_first, not_long, long_one, ended}
+use Rattle.replies.proofs.FileLemmas.{same_told, on_told, any_told}
 
 -- ---- what the inputs may bring
 -- fetching ended at a file
@@ -151,17 +154,33 @@ on_files content faults last_fault asked had command old new r before after file
 }
 
 -- where fetching ended at a file
+replied : {I E : Type 0} (faults : I → ℕ) (last_fault : I → List ℕ) (told : Told) (asks : List (List ℕ) → Type 0)
+    (old new : I) (unread : Unread) (names : List (List ℕ)) (r : Result Answer E)
+    → EndsIn most_bytes faults last_fault told asks old new unread names
+    → IfOk r (λ a. Tells cannot_read too_long unread (reply_of a))
+    → IfOk r (λ a. FirstIs told (EndsAt faults last_fault told old new (reply_of a)) names)
+replied faults last_fault told asks old new unread names (Ok a) ended tells =
+    first_map most_bytes told
+    (λ file. EndsAt faults last_fault told old new (reply_of a) file × AsksUpTo asks names file)
+    (EndsAt faults last_fault told old new (reply_of a)) names (λ file h. h.0)
+    (told_in most_bytes cannot_read too_long faults last_fault told asks old new unread (reply_of a) names tells ended)
+replied faults last_fault told asks old new unread names (Err e) ended tells = tt
+
 pub on_end : {I E : Type 0} (content : I → List ℕ → Option (List ℕ)) (faults : I → ℕ) (last_fault : I → List ℕ)
-    (asked had : I → List (List ℕ)) (command : Command) (old new : I) (r : Result Answer E) (count : ℕ)
+    (asked had : I → List (List ℕ)) (command : Command) (old new : I) (unread : Unread) (r : Result Answer E) (count : ℕ)
     → FetchesUpTo asked had (files_of command) old new
-    → IfOk r (λ a. FirstIs (content old) (EndsAt faults last_fault (content old) old new (reply_of a)) (files_of command))
+    → EndsIn most_bytes faults last_fault (content old) (asks_of asked old new) old new unread (files_of command)
+    → IfOk r (λ a. Tells cannot_read too_long unread (reply_of a))
     → IsAnswered content faults last_fault asked had command old new r count count
-on_end content faults last_fault asked had command old new r count asked_for at = record {
-  reply = IfOk-weaker r _ _ (λ a h. ends faults last_fault (content old) command old new (reply_of a) h) at;
-  asked_for = asked_for;
-  all = λ stands. absurd (not_in_files faults last_fault (content old) old new (files_of command) r at stands);
-  counts = inl (no_answer_in faults last_fault (content old) command old new (files_of command) r at, refl);
-}
+on_end content faults last_fault asked had command old new unread r count asked_for ended tells =
+    let at = replied faults last_fault (content old) (asks_of asked old new) old new unread (files_of command) r ended
+    tells in
+    record {
+      reply = IfOk-weaker r _ _ (λ a h. ends faults last_fault (content old) command old new (reply_of a) h) at;
+      asked_for = asked_for;
+      all = λ stands. absurd (not_in_files faults last_fault (content old) old new (files_of command) r at stands);
+      counts = inl (no_answer_in faults last_fault (content old) command old new (files_of command) r at, refl);
+    }
 
 -- ---- by status
 -- the bytes of files that are not too long, and what the reply on them is

@@ -1,9 +1,9 @@
 -- What the program answers on words and files, and what it means that the answer is given.
 use Rattle.std.specs.Prelude.{◌≡◌, ◌≤◌, ◌⊎◌, ◌++◌, ℕ, List, codes, Option, Some, None, IfSome}
-use Rattle.outside.specs.Faults.{Rose}
 use Rattle.outside.specs.Fetching as fetching
 pub use Rattle.outside.specs.Fetching.{FailedAt}
-use Rattle.outside.specs.Written.{Output, output, PutsWhole, PutsFront}
+use Rattle.outside.specs.Written.{Output}
+use Rattle.replies.specs.Given as given
 use Rattle.command_replies.specs.Replies.{Reply, usage, cannot_read, too_long}
 use Rattle.netcalc_cli.specs.Commands.{Command, files_of, IsReplyTo, IsAnswerable, IsAnswer}
 use Rattle.netcalc_cli.specs.Files.{Told, most_bytes, MayHoldAll, FirstIs, FirstLong, AllFit, all_told}
@@ -47,7 +47,7 @@ StandsOnFiles status = (status ≡ 0) ⊎ (6 ≤ status)
 -- ---- given
 -- The status is the reply's, and there was one put, of its bytes, which were written.
 abbrev pub Gives : ℕ → Output → Output → Reply → Type 0
-Gives status old new reply = (status ≡ reply.status) × PutsWhole reply.bytes old new
+Gives status old new reply = given.Gives status reply.status reply.bytes old new
 
 -- The files of a command hold bytes that are not too many, and a reply of this kind on them was given.
 pub record Brings (IsKind : Command → List (List ℕ) → Reply → Type 0) (told : Told) (command : Command) (status : ℕ)
@@ -72,7 +72,6 @@ AnswersWhatItCan command told status = IfSome (all_told told (files_of command))
     → IsAnswer command status ⊎ ((status ≡ 3) ⊎ ((status ≡ 4) ⊎ (status ≡ 5))))
 
 -- The sink failed in this call: there was one put, of the reply's bytes, a front of which was written.
-pub record FailsToGive {K : Type 0} (faults : K → ℕ) (written : K → Option (List ℕ)) (puts : K → List (List ℕ))
-    (old new : K) (reply : Reply) : Type 0 where
-  pub rose : Rose (faults old) (faults new)
-  pub front : PutsFront reply.bytes (output written puts old) (output written puts new)
+abbrev pub FailsToGive : {K : Type 0} → (faults : K → ℕ) → (written : K → Option (List ℕ)) → (puts : K → List (List ℕ))
+    → K → K → Reply → Type 0
+FailsToGive faults written puts old new reply = given.FailsToGive faults written puts old new reply.bytes

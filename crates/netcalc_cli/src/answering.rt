@@ -6,7 +6,7 @@ ghost use Rattle.netcalc_cli.specs.Answered.{IsAnswered};
 ghost use Rattle.netcalc_cli.specs.Commands as commands;
 ghost use Rattle.netcalc_cli.specs.View.{command_view};
 
-use crate::fetching::{fetch_one, fetch_two};
+use crate::fetching::{MOST_BYTES, unread_answer};
 use crate::words::Command;
 use command_replies::Answer;
 use commands::analyse::on_bytes;
@@ -19,6 +19,7 @@ use commands::simulate::on_trace;
 use fraction128::Frac;
 use outcomes::Steps;
 use outside::{Inputs, NoMemory};
+use replies::{fetch_one, fetch_two};
 use report_text::json_report::Form;
 use std::alloc::Global;
 use std::sync::ledger::Ledger;
@@ -33,9 +34,9 @@ fn on_network<I: Inputs, L: Ledger>(
     ensures { IsAnswered I.content I.faults I.last_fault I.asked I.had (commands.Analyse form net.now)
         inputs.old inputs.new result steps.old steps.new }
 {
-    match fetch_one(alloc, net, inputs) {
+    match fetch_one(alloc, MOST_BYTES, net, inputs) {
         Ok(bytes) => on_bytes(alloc, net, &bytes, form, steps),
-        Err(ended) => ended,
+        Err(unread) => unread_answer(alloc, unread),
     }
 }
 
@@ -50,9 +51,9 @@ fn on_edited<I: Inputs, L: Ledger>(
     ensures { IsAnswered I.content I.faults I.last_fault I.asked I.had (commands.Edit form net.now edits.now)
         inputs.old inputs.new result steps.old steps.new }
 {
-    match fetch_two(alloc, net, edits, inputs) {
+    match fetch_two(alloc, MOST_BYTES, net, edits, inputs) {
         Ok((bytes, rows)) => on_edits(alloc, net, &bytes, edits, &rows, form, steps),
-        Err(ended) => ended,
+        Err(unread) => unread_answer(alloc, unread),
     }
 }
 
@@ -66,9 +67,9 @@ fn on_simulated<I: Inputs, L: Ledger>(
     ensures { IsAnswered I.content I.faults I.last_fault I.asked I.had (commands.Simulate net.now trace.now)
         inputs.old inputs.new result steps.old steps.new }
 {
-    match fetch_two(alloc, net, trace, inputs) {
+    match fetch_two(alloc, MOST_BYTES, net, trace, inputs) {
         Ok((bytes, rows)) => on_trace(alloc, net, &bytes, trace, &rows, steps),
-        Err(ended) => ended,
+        Err(unread) => unread_answer(alloc, unread),
     }
 }
 
@@ -82,9 +83,9 @@ fn on_checked<I: Inputs, L: Ledger>(
     ensures { IsAnswered I.content I.faults I.last_fault I.asked I.had (commands.Check net.now run.now)
         inputs.old inputs.new result steps.old steps.new }
 {
-    match fetch_two(alloc, net, run, inputs) {
+    match fetch_two(alloc, MOST_BYTES, net, run, inputs) {
         Ok((bytes, rows)) => on_run(alloc, net, &bytes, run, &rows, steps),
-        Err(ended) => ended,
+        Err(unread) => unread_answer(alloc, unread),
     }
 }
 
@@ -114,9 +115,9 @@ fn on_measured<I: Inputs, L: Ledger>(
     ensures { IsAnswered I.content I.faults I.last_fault I.asked I.had (commands.Measure net.now trace.now name.now rate)
         inputs.old inputs.new result steps.old steps.new }
 {
-    match fetch_two(alloc, net, trace, inputs) {
+    match fetch_two(alloc, MOST_BYTES, net, trace, inputs) {
         Ok((bytes, rows)) => on_measure(alloc, net, &bytes, trace, &rows, name, rate, steps),
-        Err(ended) => ended,
+        Err(unread) => unread_answer(alloc, unread),
     }
 }
 
@@ -129,9 +130,9 @@ fn on_curves<I: Inputs, L: Ledger>(
     ensures { IsAnswered I.content I.faults I.last_fault I.asked I.had (commands.Curve script.now)
         inputs.old inputs.new result steps.old steps.new }
 {
-    match fetch_one(alloc, script, inputs) {
+    match fetch_one(alloc, MOST_BYTES, script, inputs) {
         Ok(bytes) => on_script(alloc, script, &bytes, steps),
-        Err(ended) => ended,
+        Err(unread) => unread_answer(alloc, unread),
     }
 }
 

@@ -24,7 +24,7 @@ const USAGE: &str = "netcalc: usage: \
     netcalc analyse NET [--json], edit NET EDITS [--json], simulate NET TRACE, exercise N, check NET RUN, \
     measure NET TRACE FLOW RATE, curve FILE\n";
 
-/// Gives an answer: puts its text, and returns its status, or that the sink failed.
+// Gives an answer: puts its text, and returns its status, or that the sink failed.
 fn give<K: Sink>(out: &mut K, status: Status, text: &[u8]) -> u8
     requires { code_of status ≢ 4 }
     ensures given { let reply : Reply = record { status = code_of status; bytes = text.now } in
@@ -33,10 +33,7 @@ fn give<K: Sink>(out: &mut K, status: Status, text: &[u8]) -> u8
         result ≡ 4 → FailsToGive K.faults K.written K.puts out.old out.new reply }
     ensures status { result ≤ 9 }
 {
-    match out.put(text) {
-        Ok(()) => status.code(),
-        Err(_) => Status::WriteFault.code(),
-    }
+    replies::give(out, status.code(), text)
 }
 
 /// Does what the words ask for, and gives the status. The program's name is the first word. Words that are taken are

@@ -1,3 +1,1 @@
 pub mod KnownBytesLemmas
-pub mod FileLemmas
-pub mod Fetches

@@ -20,7 +20,7 @@ const USUAL_OVERHEAD: u64 = 20;
 const MOST_OVERHEAD: u64 = 1_048_576;
 
 /// The bounds of the network of two tables.
-#[derive(Clone, Copy, Debug)]
+#[derive(Clone, Copy)]
 pub struct Bounds<'a> {
     /// The name of the file with the table of ports.
     pub ports: &'a str,
@@ -33,7 +33,7 @@ pub struct Bounds<'a> {
 }
 
 /// What is asked for.
-#[derive(Clone, Copy, Debug)]
+#[derive(Clone, Copy)]
 pub enum Request<'a> {
     /// The bounds of the network of two tables.
     Bounds(Bounds<'a>),
@@ -44,7 +44,7 @@ pub enum Request<'a> {
 }
 
 /// Why words ask for nothing.
-#[derive(Clone, Copy, Debug)]
+#[derive(Clone, Copy)]
 pub enum WordFault {
     /// They are not taken.
     NotTaken,

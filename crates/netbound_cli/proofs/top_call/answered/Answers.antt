@@ -4,7 +4,7 @@ use Rattle.bounds_command.specs.View.{reply_of}
 use Rattle.netbound_cli.specs.words.Requests.{Help, Version, request_of, texts}
 use Rattle.netbound_cli.specs.words.View.{bounds_view}
 use Rattle.netbound_cli.specs.Calls.{bounds_call, call_of, names_of}
-use Rattle.outside.proofs.Fetches.{asks_none}
+use Rattle.replies.proofs.Fetches.{asks_none}
 use Rattle.netbound_cli.proofs.Outcomes.{may_reply_text, text_asks}
 use Rattle.netbound_cli.proofs.top_call.answered.Goals as goal
 

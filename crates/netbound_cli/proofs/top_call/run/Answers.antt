@@ -1,25 +1,27 @@
-use Rattle.std.proofs.Common.{ℕ, refl, sym, ◌∙◌, subst, inl, arith}
+use Rattle.std.proofs.Common.{◌≢◌, ℕ, refl, sym, ◌∙◌, subst, inl, arith}
 use Rattle.bounds_command.specs.View.{reply_of}
 use Rattle.netbound_cli.specs.words.Requests.{request_of, texts}
 use Rattle.netbound_cli.proofs.Outcomes.{known_status, never, no_outcome, not_failed, outcome}
-use Rattle.netbound_cli.specs.Reply.{IsOnBoth, output}
+use Rattle.netbound_cli.specs.Reply.{Gives, IsOnBoth, output}
 use Rattle.netbound_cli.proofs.top_call.run.Goals as goal
 
 pub give-requires : goal.give-requires
 give-requires g c =
-    (never g.I.Inputs.content g.I.Inputs.faults g.I.Inputs.last_fault g.I.Inputs.asked (request_of (texts c.args.words.now))
+    rw c.code.ensures (never g.I.Inputs.content g.I.Inputs.faults g.I.Inputs.last_fault g.I.Inputs.asked (request_of (texts c.args.words.now))
     c.args.inputs.now c.answered.new.inputs (reply_of c.in-Ok.answer) c.in-Ok.ensures.reply).0
 
 pub returns-in-Ok : goal.returns-in-Ok
 returns-in-Ok g c =
-    let given = c.give.ensures.given in
-    let put = rw c.as_str.ensures.value at c.give.ensures.put in
+    let old = output g.K.Sink.written g.K.Sink.puts c.args.out.now in
+    let new = output g.K.Sink.written g.K.Sink.puts c.give.new.out in
+    let given : c.give.result ≢ 4 → Gives c.give.result old new (reply_of c.in-Ok.answer) =
+    λ unlike. let done = c.give.ensures.given unlike in
+    (done.0 ∙ c.code.ensures, rw c.as_bytes.ensures.value at done.1) in
+    let put = rw c.as_bytes.ensures.value at c.give.ensures.put in
     let all = outcome g.I.Inputs.content g.I.Inputs.faults g.I.Inputs.last_fault g.I.Inputs.asked
     (request_of (texts c.args.words.now))
     c.args.inputs.now c.answered.new.inputs (reply_of c.in-Ok.answer) c.give.result
-    (output g.K.Sink.written g.K.Sink.puts c.args.out.now) (output g.K.Sink.written g.K.Sink.puts c.give.new.out)
-    c.in-Ok.ensures.reply
-    (λ unlike. let done = given unlike in (done.0, rw c.as_str.ensures.value at done.1, put)) in
+    old new c.in-Ok.ensures.reply given in
     let no = never g.I.Inputs.content g.I.Inputs.faults g.I.Inputs.last_fault g.I.Inputs.asked (request_of (texts c.args.words.now))
     c.args.inputs.now c.answered.new.inputs (reply_of c.in-Ok.answer) c.in-Ok.ensures.reply in
     record {
@@ -34,14 +36,12 @@ returns-in-Ok g c =
       write_fault = λ four. let failed = c.give.ensures.failed four in (
         reply_of c.in-Ok.answer,
         c.in-Ok.ensures.reply,
-        record
-            { rose = failed.rose; front = rw c.as_str.ensures.value at failed.front; put = put },
+        record { rose = failed.rose; front = rw c.as_bytes.ensures.value at failed.front },
       );
       no_memory = λ five. absurd (no.1 (sym (given (λ four. absurd (cc))).0 ∙ five));
       told = all.told;
       complete = all.complete;
-      answers = λ four five. let done = given four in
-          (reply_of c.in-Ok.answer, c.in-Ok.ensures.reply, (done.0, rw c.as_str.ensures.value at done.1, put));
+      answers = λ four five. (reply_of c.in-Ok.answer, c.in-Ok.ensures.reply, given four);
       asked = c.answered.ensures.asked;
       asked_all = λ both.
           let P : ℕ → Type 0 = λ n. IsOnBoth n in
@@ -54,9 +54,9 @@ pub returns-in-Err : goal.returns-in-Err
 returns-in-Err g c =
     let all = no_outcome g.I.Inputs.content g.I.Inputs.faults g.I.Inputs.last_fault g.I.Inputs.asked
     (request_of (texts c.args.words.now))
-    c.args.inputs.now c.answered.new.inputs c.code.result (output g.K.Sink.written g.K.Sink.puts c.args.out.now)
-    (output g.K.Sink.written g.K.Sink.puts c.args.out.now) c.code.ensures in
-    let five = c.code.ensures in
+    c.args.inputs.now c.answered.new.inputs c.code-in-Err.result (output g.K.Sink.written g.K.Sink.puts c.args.out.now)
+    (output g.K.Sink.written g.K.Sink.puts c.args.out.now) c.code-in-Err.ensures in
+    let five = c.code-in-Err.ensures in
     record {
       known = inl (omega (arith, five));
       usage = all.usage;
@@ -72,7 +72,7 @@ returns-in-Err g c =
       complete = all.complete;
       answers = λ four no_five. absurd (no_five five);
       asked = c.answered.ensures.asked;
-      asked_all = λ both. absurd ((not_failed c.code.result both).1 five);
+      asked_all = λ both. absurd ((not_failed c.code-in-Err.result both).1 five);
       one_put = λ no_five. absurd (no_five five);
       no_put = λ is. refl;
     }

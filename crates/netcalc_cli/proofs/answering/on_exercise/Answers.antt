@@ -1,5 +1,5 @@
 use Rattle.std.proofs.Common.{[]}
-use Rattle.outside.proofs.Fetches.{fetches_none}
+use Rattle.replies.proofs.Fetches.{fetches_none}
 use Rattle.netcalc_cli.specs.Commands.{Exercise}
 use Rattle.netcalc_cli.proofs.Replies.{on_files}
 use Rattle.netcalc_cli.proofs.answering.on_exercise.Goals as goal

@@ -1,7 +1,8 @@
-use Rattle.std.proofs.Common.{[], ◌∷◌, inl}
-use Rattle.std.proofs.lemmas.Result.{IfOk-weaker}
-use Rattle.outside.proofs.Fetches.{stops_at_first}
+use Rattle.std.proofs.Common.{[], ◌∷◌}
+use Rattle.replies.specs.Ended.{asks_of}
+use Rattle.replies.proofs.Fetches.{first_ends, stops_at_first}
 use Rattle.netcalc_cli.specs.Commands.{Analyse}
+use Rattle.netcalc_cli.specs.Files.{most_bytes}
 use Rattle.netcalc_cli.proofs.Replies.{on_files, on_end}
 use Rattle.netcalc_cli.proofs.answering.on_network.Goals as goal
 
@@ -15,7 +16,11 @@ returns-in-Ok g c =
 pub returns-in-Err : goal.returns-in-Err
 returns-in-Err g c =
     on_end g.I.Inputs.content g.I.Inputs.faults g.I.Inputs.last_fault g.I.Inputs.asked g.I.Inputs.had
-    (Analyse c.args.form c.args.net.now) c.args.inputs.now c.fetch_one.new.inputs c.in-Err.ended c.args.steps.now
+    (Analyse c.args.form c.args.net.now) c.args.inputs.now c.fetch_one.new.inputs c.in-Err.unread
+    c.unread_answer.result c.args.steps.now
     (stops_at_first g.I.Inputs.asked g.I.Inputs.had c.args.net.now [] c.args.inputs.now c.fetch_one.new.inputs
     c.fetch_one.ensures.asked c.in-Err.ensures.not_had)
-    (IfOk-weaker c.in-Err.ended _ _ (λ a at. inl at) c.in-Err.ensures.ended)
+    (first_ends most_bytes g.I.Inputs.faults g.I.Inputs.last_fault (g.I.Inputs.content c.args.inputs.now)
+    (asks_of g.I.Inputs.asked c.args.inputs.now c.fetch_one.new.inputs) c.args.inputs.now c.fetch_one.new.inputs c.args.net.now []
+    c.in-Err.unread c.fetch_one.ensures.asked c.in-Err.ensures.ended)
+    c.unread_answer.ensures

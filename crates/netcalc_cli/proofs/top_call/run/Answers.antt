@@ -2,7 +2,7 @@ use Rattle.std.proofs.Common.{◌≡◌, false, true, refl, sym, ap, ◌∙◌, 
 use Rattle.std.proofs.lemmas.Bool.{cases_eq}
 use Rattle.std.specs.Prelude.{is_some}
 use Rattle.outside.specs.Written.{output}
-use Rattle.outside.proofs.Fetches.{asks_none}
+use Rattle.replies.proofs.Fetches.{asks_none}
 use Rattle.command_replies.specs.Replies.{usage}
 use Rattle.command_replies.specs.View.{reply_of}
 use Rattle.netcalc_cli.specs.Commands.{names_of}

@@ -1,13 +1,15 @@
 -- Files that are fetched one after another.
 use Rattle.std.proofs.Common.{◌≡◌, ◌+◌, ◌-◌, ◌^◌, ◌≤◌, ◌++◌, ℕ, List, [], ◌∷◌, length, Result, Ok, Err}
-use Rattle.std.proofs.Common.{IfOk, IfErr, OnOk, OnErr, inl, inr, sym, ◌∙◌, ap, arith, subst, append_assoc, append-nil, take_all}
+use Rattle.std.proofs.Common.{IfOk, IfErr, OnOk, OnErr, inl, inr, refl, sym, ◌∙◌, ap, arith, subst, append_assoc, append-nil, take_all}
 use Rattle.std.specs.Prelude.{Vec, min}
 use Rattle.std.specs.declared.alloc.Global.{Global}
-use Rattle.std.proofs.lemmas.Result.{IfOk-weaker}
 use Rattle.std.proofs.Math.Nat.{min-le_left, min-le_right, le-min}
 use Rattle.outside.specs.Faults.{Rose}
-use Rattle.outside.specs.Files.{Told, MayHold, MayFit, IsTooLong, FirstIs, MayHoldAll, AllFit}
-use Rattle.outside.specs.Fetching.{EndsAt, FetchesAll, FetchesUpTo}
+use Rattle.outside.specs.Files.{Told, MayHold, MayFit, IsTooLong, MayHoldAll, AllFit}
+use Rattle.outside.specs.Fetching.{FetchesAll, FetchesUpTo}
+use Rattle.replies.specs.declared.fetching.Unread.{Unread}
+use Rattle.replies.specs.declared.fetching.Unread.TheVariants.{Failed, TooLong, NoMemory}
+use Rattle.replies.specs.Ended.{EndsAt, EndsIn, AsksUpTo}
 
 -- ---- one name after another
 pub asked_both : (old between new : List (List ℕ)) (first second : List ℕ) → between ≡ old ++ first ∷ []
@@ -102,23 +104,17 @@ rose_later before between after up rose =
     le-min next (min-le_right (before + 1) (2 ^ 64 - 1)) in
     omega (arith, rose)
 
--- what ends a later fetch ends the call
-pub ends_later : {I R : Type 0} (most : ℕ) (cannot_read too_long : List ℕ → R) (faults : I → ℕ)
-    (last_fault : I → List ℕ) (told later : Told) (old between new : I) (reply : R) (file : List ℕ)
-    → faults old ≤ faults between → later file ≡ told file
-    → EndsAt most cannot_read too_long faults last_fault later between new reply file
-    → EndsAt most cannot_read too_long faults last_fault told old new reply file
-ends_later most cannot_read too_long faults last_fault told later old between new reply file up same (inl failed) =
-    let rose = rose_later (faults old) (faults between) (faults new) up failed.0.rose in
-    inl (record { rose = rose; name = failed.0.name }, failed.1)
-ends_later most cannot_read too_long faults last_fault told later old between new reply file up same (inr long) =
-    inr (subst (IsTooLong most) same long.0, long.1)
+-- what ended a later fetch
+pub ends_later : {I : Type 0} (most : ℕ) (faults : I → ℕ) (last_fault : I → List ℕ) (told later : Told) (old between new : I)
+    (unread : Unread) (file : List ℕ) → faults old ≤ faults between → later file ≡ told file
+    → EndsAt most faults last_fault later between new unread file → EndsAt most faults last_fault told old new unread file
+ends_later most faults last_fault told later old between new (Failed name) file up same at =
+    (at.0, record { rose = rose_later (faults old) (faults between) (faults new) up at.1.rose; name = at.1.name })
+ends_later most faults last_fault told later old between new (TooLong name) file up same at =
+    (at.0, subst (IsTooLong most) same at.1)
+ends_later most faults last_fault told later old between new NoMemory file up same at = tt
 
 -- ---- two files
-pub on_ok : {T E P : Type 0} (r : Result T E) → P → OnOk r P
-on_ok (Ok x) p = p
-on_ok (Err e) p = tt
-
 abbrev Files : Type 0
 Files = Vec ℕ Global × Vec ℕ Global
 
@@ -138,23 +134,32 @@ two_fit most bytes (Ok files) fits before after =
     (subst (λ (v : Vec ℕ Global). length v.items ≤ most) (sym before) fits, (after, tt))
 two_fit most bytes (Err e) fits before after = tt
 
--- the second ended the call
-pub second_ends : {I A R E : Type 0} (most : ℕ) (cannot_read too_long : List ℕ → R) (reply_of : A → R) (faults : I → ℕ)
-    (last_fault : I → List ℕ) (told later : Told) (old between new : I) (first second : List ℕ)
-    (r : Result Files (Result A E)) → MayFit most (told first) → faults old ≤ faults between
-    → later second ≡ told second
-    → IfErr r (λ ended. IfOk ended (λ a.
-    EndsAt most cannot_read too_long faults last_fault later between new (reply_of a) second))
-    → IfErr r (λ ended. IfOk ended (λ a. FirstIs most told
-    (EndsAt most cannot_read too_long faults last_fault told old new (reply_of a)) (first ∷ second ∷ [])))
-second_ends most cannot_read too_long reply_of faults last_fault told later old between new first second (Ok files) fit up
-    same ended = tt
-second_ends most cannot_read too_long reply_of faults last_fault told later old between new first second (Err e) fit up
-    same ended =
-    IfOk-weaker e _ _
-    (λ a at. inr (
-      fit,
-      inl (ends_later most cannot_read too_long faults last_fault told later old between new (reply_of a)
-          second up same at),
-    ))
-    ended
+-- the second was not had
+one_end : {I : Type 0} (most : ℕ) (faults : I → ℕ) (last_fault : I → List ℕ) (told : Told) (asks : List (List ℕ) → Type 0)
+    (old new : I) (first second : List ℕ) (unread : Unread) → MayFit most (told first)
+    → AsksUpTo asks (first ∷ second ∷ []) second → EndsAt most faults last_fault told old new unread second
+    → EndsIn most faults last_fault told asks old new unread (first ∷ second ∷ [])
+one_end most faults last_fault told asks old new first second (Failed name) fit both at = inr (fit, inl (at, both))
+one_end most faults last_fault told asks old new first second (TooLong name) fit both at = inr (fit, inl (at, both))
+one_end most faults last_fault told asks old new first second NoMemory fit both at = tt
+
+pub second_ends : {I T : Type 0} (most : ℕ) (faults : I → ℕ) (last_fault : I → List ℕ) (told later : Told)
+    (asks : List (List ℕ) → Type 0) (old between new : I) (first second : List ℕ) (r : Result T Unread)
+    → MayFit most (told first) → faults old ≤ faults between → later second ≡ told second → asks (first ∷ second ∷ [])
+    → IfErr r (λ unread. EndsAt most faults last_fault later between new unread second)
+    → IfErr r (λ unread. EndsIn most faults last_fault told asks old new unread (first ∷ second ∷ []))
+second_ends most faults last_fault told later asks old between new first second (Ok files) fit up same both ended = tt
+second_ends most faults last_fault told later asks old between new first second (Err unread) fit up same both ended =
+    one_end most faults last_fault told asks old new first second unread fit (record { place = 1; last = refl; are = both })
+    (ends_later most faults last_fault told later old between new unread second up same ended)
+
+-- the first was not
+pub first_ends : {I : Type 0} (most : ℕ) (faults : I → ℕ) (last_fault : I → List ℕ) (told : Told)
+    (asks : List (List ℕ) → Type 0) (old new : I) (first : List ℕ) (rest : List (List ℕ)) (unread : Unread)
+    → asks (first ∷ []) → EndsAt most faults last_fault told old new unread first
+    → EndsIn most faults last_fault told asks old new unread (first ∷ rest)
+first_ends most faults last_fault told asks old new first rest (Failed name) one at =
+    inl (at, record { place = 0; last = refl; are = one })
+first_ends most faults last_fault told asks old new first rest (TooLong name) one at =
+    inl (at, record { place = 0; last = refl; are = one })
+first_ends most faults last_fault told asks old new first rest NoMemory one at = tt

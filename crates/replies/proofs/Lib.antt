@@ -1,0 +1,3 @@
+pub mod FileLemmas
+pub mod Fetches
+pub mod Ends
