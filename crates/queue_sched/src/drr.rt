@@ -76,6 +76,32 @@ fn head_fits(queues: &Links, lengths: &[u32], queue: u32, deficit: u64) -> bool
     }
 }
 
+/// The packets of so many queues, and the queues that wait for a visit: none is there.
+fn fresh_lists(alloc: Global, packets: u32, queues: u32) -> Result<(Links, Links), AllocError>
+    ensures queues { IfOk result (λ r. r.0 ≡ record { nodes = packets; lists = replicate queues [] }) }
+    ensures turns { IfOk result (λ r. r.1 ≡ record { nodes = queues; lists = replicate 1 [] }) }
+{
+    let waiting = Links::new(alloc, packets, queues)?;
+    let turns = Links::new(alloc, queues, 1)?;
+    Ok((waiting, turns))
+}
+
+/// The quanta, no deficit, and no bits of each packet.
+fn fresh_numbers(
+    alloc: Global,
+    packets: u32,
+    quanta: &[u64],
+) -> Result<(Vec<u64>, Vec<u64>, Vec<u32>), AllocError>
+    ensures quanta { IfOk result (λ r. r.0.items ≡ quanta.now) }
+    ensures deficits { IfOk result (λ r. r.1.items ≡ replicate (length quanta.now) 0) }
+    ensures lengths { IfOk result (λ r. r.2.items ≡ replicate packets 0) }
+{
+    let kept = Vec::from_slice(alloc, quanta)?;
+    let deficits = vec![in alloc; 0; quanta.len()]?;
+    let lengths = vec![in alloc; 0; packets as usize]?;
+    Ok((kept, deficits, lengths))
+}
+
 impl DrrSched {
     /// A queue for each quantum, in bits and at most 2^24, and room for so many packets, of which none is there.
     /// Refused only for want of memory.
@@ -96,12 +122,14 @@ impl DrrSched {
         ensures { IfOk result (λ s. s ≡ fresh packets quanta.now) }
     {
         let queues = quanta.len() as u32;
+        let lists = fresh_lists(alloc, packets, queues)?;
+        let numbers = fresh_numbers(alloc, packets, quanta)?;
         Ok(DrrSched {
-            queues: Links::new(alloc, packets, queues)?,
-            turns: Links::new(alloc, queues, 1)?,
-            quanta: Vec::from_slice(alloc, quanta)?,
-            deficits: vec![in alloc; 0; quanta.len()]?,
-            lengths: vec![in alloc; 0; packets as usize]?,
+            queues: lists.0,
+            turns: lists.1,
+            quanta: numbers.0,
+            deficits: numbers.1,
+            lengths: numbers.2,
             visited: None,
         })
     }
