@@ -7,7 +7,7 @@ ghost use Rattle.document_rows.specs.Reads as spec;
 use std::alloc::{AllocError, AllocFailed};
 
 /// The columns of the tables.
-#[derive(Debug, Clone, Copy)]
+#[derive(Clone, Copy)]
 pub enum Column {
     Name,
     Rate,
@@ -24,7 +24,7 @@ pub enum Column {
 }
 
 /// What is wrong with a head line or with a cell of a row. Ports of a path count from 1.
-#[derive(Debug, Clone, Copy)]
+#[derive(Clone, Copy)]
 pub enum Wrong {
     /// The head line lacks the column.
     Missing,
@@ -77,14 +77,14 @@ pub enum Wrong {
 }
 
 /// What is wrong with a row, and in which of its columns.
-#[derive(Debug, Clone, Copy)]
+#[derive(Clone, Copy)]
 pub struct CellFault {
     pub column: Column,
     pub wrong: Wrong,
 }
 
 /// Why nothing is read of a row.
-#[derive(Debug, Clone, Copy)]
+#[derive(Clone, Copy)]
 pub enum RowError {
     /// Something is wrong with it.
     Cell(CellFault),

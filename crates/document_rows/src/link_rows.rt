@@ -3,7 +3,9 @@
 ghost use Rattle.std.specs.Prelude.{◌≡◌, ◌≤◌, ◌<◌, ◌^◌, map, IfOk};
 ghost use Rattle.csv.specs.Records.{fields_of};
 ghost use Rattle.document_rows.specs.LinkRows as spec;
-ghost use Rattle.document_rows.specs.Reads.{Tells, viewed};
+ghost use Rattle.document_rows.specs.Reads.{Tells, at, viewed};
+ghost use Rattle.document_rows.specs.declared.fault.Column.TheVariants as column;
+ghost use Rattle.table_cells.specs.Words.{words_of};
 
 use crate::cells::{gap_in, time_in, time_or_zero, whole_between};
 use crate::fault::{Column, RowError, Wrong, at};
@@ -62,6 +64,15 @@ fn path_of(words: Vec<&[u8]>) -> Result<Vec<&[u8]>, Wrong>
     Ok(words)
 }
 
+// The words of a path that a cell tells.
+fn path_in(alloc: Global, cell: &[u8]) -> Result<Vec<&[u8]>, RowError>
+    ensures { Tells (λ v. map (λ word. word.now) v.items) result
+        (at column.Path (spec.path_of (words_of cell.now))) }
+{
+    let words = words_in(alloc, cell)?;
+    Ok(at(Column::Path, path_of(words))?)
+}
+
 fn deadline_in(cell: &[u8]) -> Result<Option<Amount>, Wrong>
     ensures { result ≡ spec.deadline_in cell.now }
 {
@@ -87,8 +98,7 @@ pub fn link_row<'a>(
     )?;
     let jitter = at(Column::Jitter, time_or_zero(cell(row, head.jitter)))?;
     let priority = at(Column::Priority, priority_in(cell(row, head.priority)))?;
-    let words = words_in(alloc, cell(row, head.path))?;
-    let path = at(Column::Path, path_of(words))?;
+    let path = path_in(alloc, cell(row, head.path))?;
     let deadline = at(
         Column::Deadline,
         deadline_in(cell_or_empty(row, head.deadline)),

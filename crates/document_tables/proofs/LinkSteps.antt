@@ -10,6 +10,7 @@ use Rattle.std.proofs.lemmas.Option.{slice_get-get_or, slice_get_within}
 use Rattle.std.proofs.lemmas.Bool.{eq-eqb, ne_eqb, cases_lt, cases_eq, le-leb, lt-leb}
 use Rattle.std.proofs.Math.Seq.{get_or-append_seam}
 use Rattle.csv_rows.specs.Rows.{Row}
+use Rattle.table_cells.specs.declared.amount.Amount.{Amount}
 use Rattle.document_rows.specs.declared.fault.CellFault.{CellFault}
 use Rattle.document_rows.specs.declared.fault.Column.TheVariants as column
 use Rattle.document_rows.specs.declared.fault.RowError.{RowError}
@@ -20,14 +21,15 @@ use Rattle.document_rows.specs.Reads.{CellRead, RowRead, and_then, at, Tells}
 use Rattle.document_rows.specs.Heads.{row_name}
 use Rattle.document_rows.specs.LinkRows.{LinkText, link_row, frame_on_wire}
 use Rattle.document_tables.specs.declared.links.Branch.{Branch}
+use Rattle.document_tables.specs.declared.links.LinkTable.{LinkTable}
 use Rattle.document_tables.specs.declared.trees.Tree.{Tree}
 use Rattle.document_tables.specs.Growing.{Grows}
-use Rattle.document_tables.specs.LinkTrees.{MakesLink}
-use Rattle.document_tables.specs.Links.{Links, BranchText, branch_view, keys_of, with_link, has_room, number_or_next, with_branch, with_row, paths_of, most_branches}
+use Rattle.document_tables.specs.LinkTrees.{AreTrees, MakesLink}
+use Rattle.document_tables.specs.Links.{Links, BranchText, branch_view, keys_of, with_link, has_room, number_or_next, with_path, with_branch, with_text, with_row, paths_of, most_branches}
 use Rattle.document_tables.specs.Paths.{path_ports}
 use Rattle.document_tables.specs.Ports.{Ports}
 use Rattle.document_tables.specs.Tables.{Makes}
-use Rattle.document_tables.specs.Trees.{hangs_from}
+use Rattle.document_tables.specs.Trees.{IsTreeOf, hangs_from}
 
 -- ---- names
 from_none : {X : Type 0} (p : X → Bool) (n : ℕ) (xs : List X) → position_from p n xs ≡ None → list_any p xs ≡ false
@@ -104,52 +106,62 @@ paths_same link bs b e =
     one b t = rw t refl
 
 -- ---- branches
+module _ (link : ℕ) (before : Links) (path : List ℕ) (deadline : Option Amount) where
+  abbrev pub grown : Links
+  grown = record before { branches = before.branches ++ record { link = link; path = path; deadline = deadline } ∷ [] }
+
+  pub no_tree : (error : RowError) (last : Option ℕ) (paths : List (List ℕ)) (tree : Tree) (made : Links) → Grows (Err error) (hangs_from (paths_of link before.branches) 0 None path) last paths tree
+      → Makes (Err error) (with_path link before path deadline) made
+  no_tree (Cell fault) last paths tree made g = ap (λ (r : RowRead (Option ℕ)). and_then r (λ last. Ok grown)) g
+  no_tree NoMemory last paths tree made g = tt
+
+  pub branch_made : (last : Option ℕ) → hangs_from (paths_of link before.branches) 0 None path ≡ Ok last → with_path link before path deadline ≡ Ok grown
+  branch_made last h = ap (λ (r : CellRead (Option ℕ)). and_then (at column.Path r) (λ last. Ok grown)) h
+
+-- the tree of a link
+pub tree_there : (table : LinkTable) (link : ℕ) (tree : Tree) → AreTrees table → link < length table.keys.items → tree ≡ get_or table.trees.items link tree
+    → IsTreeOf (paths_of link (map branch_view table.branches.items)) tree
+tree_there table link tree kept below is = kept.each link tree (slice_get-get_or table.trees.items link tree (omega (arith, kept.trees, below)) ∙ ap Some (sym is))
+
 module _ (ports : Ports) (overhead link : ℕ) (before : Links) (row : LinkText) where
   abbrev pub ports_read : CellRead (List ℕ)
   ports_read = path_ports ports row.priority (frame_on_wire row.largest_frame overhead) row.path
 
   abbrev pub hung : List ℕ → RowRead Links
-  hung path =
-      and_then (at column.Path (hangs_from (paths_of link before.branches) 0 None path)) (λ last.
-      Ok (record before { branches = before.branches ++ record { link = link; path = path; deadline = row.deadline } ∷ [] }))
-
-  wrong_path : (fault : CellFault) → at column.Path ports_read ≡ Err fault → with_branch ports overhead link before row ≡ Err fault
-  unfolding with_branch
-  wrong_path fault h = ap (λ (r : RowRead (List ℕ)). and_then r hung) h
-
-  right_path : (path : List ℕ) → at column.Path ports_read ≡ Ok path → with_branch ports overhead link before row ≡ hung path
-  unfolding with_branch
-  right_path path h = ap (λ (r : RowRead (List ℕ)). and_then r hung) h
+  hung path = with_path link before path row.deadline
 
   same_read : (frame : ℕ) (words : List (List ℕ)) → frame ≡ frame_on_wire row.largest_frame overhead → words ≡ row.path → path_ports ports row.priority frame words ≡ ports_read
   same_read frame words f w = ap₂ (path_ports ports row.priority) f w
 
   pub no_path : {X : Type 0} (view : X → List ℕ) (error : RowError) (made : Links) (frame : ℕ) (words : List (List ℕ)) → frame ≡ frame_on_wire row.largest_frame overhead → words ≡ row.path
       → Tells view (Err error) (at column.Path (path_ports ports row.priority frame words)) → Makes (Err error) (with_branch ports overhead link before row) made
-  no_path view (Cell fault) made frame words f w t = wrong_path fault (ap (λ (r : CellRead (List ℕ)). at column.Path r) (sym (same_read frame words f w)) ∙ t)
+  unfolding with_branch
+  no_path view (Cell fault) made frame words f w t =
+      ap (λ (r : RowRead (List ℕ)). and_then r hung) (ap (λ (r : CellRead (List ℕ)). at column.Path r) (sym (same_read frame words f w)) ∙ t)
   no_path view NoMemory made frame words f w t = tt
 
-  module _ (path : List ℕ) (frame : ℕ) (words : List (List ℕ)) (f : frame ≡ frame_on_wire row.largest_frame overhead) (w : words ≡ row.path)
-      (read : at column.Path (path_ports ports row.priority frame words) ≡ Ok path) where
-    path_read : with_branch ports overhead link before row ≡ hung path
-    path_read = right_path path (ap (λ (r : CellRead (List ℕ)). at column.Path r) (sym (same_read frame words f w)) ∙ read)
-
-    pub no_tree : (error : RowError) (last : Option ℕ) (paths : List (List ℕ)) (tree : Tree) (made : Links) → Grows (Err error) (hangs_from (paths_of link before.branches) 0 None path) last paths tree
-        → Makes (Err error) (with_branch ports overhead link before row) made
-    no_tree (Cell fault) last paths tree made g =
-        path_read ∙ ap (λ (r : RowRead (Option ℕ)). and_then r (λ last. Ok (record before { branches = before.branches ++ record { link = link; path = path; deadline = row.deadline } ∷ [] }))) g
-    no_tree NoMemory last paths tree made g = tt
-
-    pub branch_made : (last : Option ℕ) → hangs_from (paths_of link before.branches) 0 None path ≡ Ok last
-        → with_branch ports overhead link before row ≡ Ok (record before { branches = before.branches ++ record { link = link; path = path; deadline = row.deadline } ∷ [] })
-    branch_made last h =
-        path_read
-        ∙ ap (λ (r : CellRead (Option ℕ)). and_then (at column.Path r) (λ last. Ok (record before { branches = before.branches ++ record { link = link; path = path; deadline = row.deadline } ∷ [] }))) h
+  pub path_read : (path : List ℕ) (frame : ℕ) (words : List (List ℕ)) → frame ≡ frame_on_wire row.largest_frame overhead → words ≡ row.path
+      → at column.Path (path_ports ports row.priority frame words) ≡ Ok path → with_branch ports overhead link before row ≡ hung path
+  unfolding with_branch
+  path_read path frame words f w read =
+      ap (λ (r : RowRead (List ℕ)). and_then r hung) (ap (λ (r : CellRead (List ℕ)). at column.Path r) (sym (same_read frame words f w)) ∙ read)
 
 -- ---- rows
+module _ (ports : Ports) (overhead : ℕ) (before : Links) (name : List ℕ) (number : Option ℕ) (text : LinkText) where
+  abbrev branched : Links → RowRead Links
+  branched links = with_branch ports overhead (number_or_next before number) links text
+
+  pub no_link : (error : RowError) (some made : Links) (link : ℕ) → MakesLink (Err error) (with_link before name number (keys_of text)) some link → Makes (Err error) (with_text ports overhead name number before text) made
+  no_link (Cell fault) some made link m = ap (λ (r : RowRead Links). and_then r branched) m
+  no_link NoMemory some made link m = tt
+
+  pub to_branch : (links : Links) (link : ℕ) → MakesLink (Ok link) (with_link before name number (keys_of text)) links (number_or_next before number)
+      → with_text ports overhead name number before text ≡ with_branch ports overhead link links text
+  to_branch links link m = ap (λ (r : RowRead Links). and_then r branched) m.0 ∙ ap (λ (n : ℕ). with_branch ports overhead n links text) (sym m.1)
+
 module _ (ports : Ports) (overhead : ℕ) (head : LinkHead) (before : Links) (row : Row) where
   abbrev pub linked : List ℕ → Option ℕ → LinkText → RowRead Links
-  linked name number text = and_then (with_link before name number (keys_of text)) (λ links. with_branch ports overhead (number_or_next before number) links text)
+  linked name number text = with_text ports overhead name number before text
 
   abbrev pub roomed : List ℕ → Option ℕ → RowRead Links
   roomed name number = and_then (link_row head row) (linked name number)
@@ -182,20 +194,8 @@ module _ (ports : Ports) (overhead : ℕ) (head : LinkHead) (before : Links) (ro
         no_text view (Cell fault) made t = to_room ∙ ap (λ (r : RowRead LinkText). and_then r (linked name number)) t
         no_text view NoMemory made t = tt
 
-        module _ (text : LinkText) (says : link_row head row ≡ Ok text) where
-          to_text : with_row ports overhead head before row ≡ linked name number text
-          to_text = to_room ∙ ap (λ (r : RowRead LinkText). and_then r (linked name number)) says
-
-          pub no_link : (error : RowError) (some made : Links) (link : ℕ) → MakesLink (Err error) (with_link before name number (keys_of text)) some link → Makes (Err error) (with_row ports overhead head before row) made
-          no_link (Cell fault) some made link m = to_text ∙ ap (λ (r : RowRead Links). and_then r (λ links. with_branch ports overhead (number_or_next before number) links text)) m
-          no_link NoMemory some made link m = tt
-
-          pub to_branch : (links : Links) (link : ℕ) → MakesLink (Ok link) (with_link before name number (keys_of text)) links (number_or_next before number)
-              → with_row ports overhead head before row ≡ with_branch ports overhead link links text
-          to_branch links link m =
-              to_text
-              ∙ (ap (λ (r : RowRead Links). and_then r (λ links. with_branch ports overhead (number_or_next before number) links text)) m.0
-              ∙ ap (λ (n : ℕ). with_branch ports overhead n links text) (sym m.1))
+        pub to_text : (text : LinkText) → link_row head row ≡ Ok text → with_row ports overhead head before row ≡ with_text ports overhead name number before text
+        to_text text says = to_room ∙ ap (λ (r : RowRead LinkText). and_then r (linked name number)) says
 
 -- ---- tests
 pub is_full : (most n : ℕ) → most ≤ n → nat_le most n ≡ true

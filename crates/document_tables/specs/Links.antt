@@ -82,12 +82,23 @@ has_room before (Some number) = Ok (Some number)
 has_room before None =
     if nat_le most_links (length before.names) then Err (record { column = column.Name; wrong = TooManyLinks }) else Ok None
 
--- the branch of a row, whose link is there
+-- a branch over a path, whose link is there
+abbrev pub with_path : (link : ℕ) → Links → List ℕ → Option Amount → RowRead Links
+with_path link before path deadline =
+    and_then (at column.Path (hangs_from (paths_of link before.branches) 0 None path)) (λ last.
+    Ok (record before { branches = before.branches ++ record { link = link; path = path; deadline = deadline } ∷ [] }))
+
+-- that of a row
 unfoldable pub with_branch : Ports → (overhead link : ℕ) → Links → LinkText → RowRead Links
 with_branch ports overhead link before row =
     and_then (at column.Path (path_ports ports row.priority (frame_on_wire row.largest_frame overhead) row.path)) (λ path.
-    and_then (at column.Path (hangs_from (paths_of link before.branches) 0 None path)) (λ last.
-    Ok (record before { branches = before.branches ++ record { link = link; path = path; deadline = row.deadline } ∷ [] })))
+    with_path link before path row.deadline)
+
+-- the link of a row, by its name and the number that was looked up, and the row's branch
+abbrev pub with_text : Ports → (overhead : ℕ) → (name : List ℕ) → (number : Option ℕ) → Links → LinkText → RowRead Links
+with_text ports overhead name number before text =
+    and_then (with_link before name number (keys_of text)) (λ links.
+    with_branch ports overhead (number_or_next before number) links text)
 
 -- a row behind these
 unfoldable pub with_row : Ports → (overhead : ℕ) → LinkHead → Links → Row → RowRead Links
@@ -96,8 +107,7 @@ with_row ports overhead head before row =
     else and_then (row_name head.width head.name row) (λ name.
     and_then (has_room before (position (bytes_eq name) before.names)) (λ number.
     and_then (link_row head row) (λ text.
-    and_then (with_link before name number (keys_of text)) (λ links.
-    with_branch ports overhead (number_or_next before number) links text))))
+    with_text ports overhead name number before text)))
 
 abbrev pub no_links : Links
 no_links = record { names = []; keys = []; branches = [] }

@@ -9,7 +9,7 @@ use document_rows::{Column, RowError, Wrong};
 use std::alloc::{AllocError, AllocFailed};
 
 /// The first fault of a table. Lines count from 1.
-#[derive(Debug, Clone, Copy)]
+#[derive(Clone, Copy)]
 pub struct LineFault {
     pub line: usize,
     pub column: Column,
@@ -17,7 +17,7 @@ pub struct LineFault {
 }
 
 /// Why nothing is read of a table.
-#[derive(Debug, Clone, Copy)]
+#[derive(Clone, Copy)]
 pub enum LineError {
     Fault(LineFault),
     /// An allocation was refused.
@@ -41,14 +41,14 @@ impl<T: Drop> From<AllocFailed<T>> for LineError {
 }
 
 /// The tables of a document.
-#[derive(Debug, Clone, Copy)]
+#[derive(Clone, Copy)]
 pub enum TableFile {
     Ports,
     Links,
 }
 
 /// Why a document is refused.
-#[derive(Debug, Clone, Copy)]
+#[derive(Clone, Copy)]
 pub enum DocumentError {
     /// The first fault of a table.
     Fault(TableFile, LineFault),

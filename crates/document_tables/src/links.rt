@@ -8,6 +8,7 @@ ghost use Rattle.document_rows.specs.LinkRows.{link_view};
 ghost use Rattle.document_rows.specs.declared.fault.Column.TheVariants as column;
 ghost use Rattle.document_rows.specs.declared.fault.RowError.TheVariants as errors;
 ghost use Rattle.document_rows.specs.declared.fault.Wrong.TheVariants as wrongs;
+ghost use Rattle.document_tables.specs.Growing.{HasOwnPorts};
 ghost use Rattle.document_tables.specs.Links as spec;
 ghost use Rattle.document_tables.specs.LinkTrees.{AreTrees, AreAlike, MakesLink};
 ghost use Rattle.document_tables.specs.Ports.{ports_view};
@@ -181,6 +182,30 @@ fn add_link(
     }
 }
 
+// Puts a branch over a path behind the others, and its ports into the tree of its link.
+fn hang(
+    table: &mut LinkTable,
+    link: usize,
+    path: Vec<usize>,
+    deadline: Option<Amount>,
+) -> Result<(), RowError>
+    requires there { link < length table.old.keys.items }
+    requires some { 0 < length path.items }
+    requires own { HasOwnPorts path.items }
+    requires kept { AreTrees table.old }
+    ensures value { Makes result (spec.with_path link (spec.links_view table.old) path.items deadline)
+        (spec.links_view table.new) }
+    ensures kept { OnOk result (AreTrees table.new) }
+{
+    table.trees[link].grow(&path)?;
+    table.branches.push(Branch {
+        link,
+        path,
+        deadline,
+    })?;
+    Ok(())
+}
+
 // Puts the branch of a row behind the others.
 fn add_branch(
     alloc: Global,
@@ -201,13 +226,31 @@ fn add_branch(
 {
     let frame = frame_on_wire(row.largest_frame, overhead);
     let path = path_ports(alloc, ports, row.priority as usize, frame, &row.path)?;
-    table.trees[link].grow(&path)?;
-    table.branches.push(Branch {
-        link,
-        path,
-        deadline: row.deadline,
-    })?;
-    Ok(())
+    hang(table, link, path, row.deadline)
+}
+
+// Puts a row that is read behind the others: its link, where it is new, and its branch.
+fn put_row(
+    alloc: Global,
+    ports: &PortTable,
+    overhead: u64,
+    table: &mut LinkTable,
+    name: &str,
+    number: Option<usize>,
+    row: &LinkRow,
+) -> Result<(), RowError>
+    requires overhead { overhead ≤ 1048576 }
+    requires number { number ≡ position (bytes_eq name.now) table.old.names }
+    requires within { ForSome number (λ n. n < length table.old.keys.items) }
+    requires kept { AreTrees table.old }
+    requires row { IsLinkText (link_view row.now) }
+    ensures value { Makes result
+        (spec.with_text (ports_view ports.now) overhead name.now number (spec.links_view table.old) (link_view row.now))
+        (spec.links_view table.new) }
+    ensures kept { OnOk result (AreTrees table.new) }
+{
+    let link = add_link(alloc, table, name, number, keys_of(row))?;
+    add_branch(alloc, ports, overhead, table, link, row)
 }
 
 // Puts a row behind the others.
@@ -232,8 +275,7 @@ fn add_row(
     let name = row_name(head.width, head.name, row)?;
     let number = has_room(table, number_of(&table.names, name))?;
     let row = link_row(alloc, head, row)?;
-    let link = add_link(alloc, table, name, number, keys_of(&row))?;
-    add_branch(alloc, ports, overhead, table, link, &row)
+    put_row(alloc, ports, overhead, table, name, number, &row)
 }
 
 // No link.

@@ -1,8 +1,10 @@
 //! Names by their numbers.
 
-ghost use Rattle.std.specs.Prelude.{◌≡◌, ◌++◌, ◌∷◌, ◌<◌, [], not, option_map, slice_get, IfSome, IfOk, true, length};
+ghost use Rattle.std.specs.Prelude.{◌≡◌, ◌++◌, ◌∷◌, ◌<◌, [], not, map, option_map, slice_get, IfSome, IfOk, OnOk, None, true, length};
 ghost use Rattle.std.specs.List.{list_any, position};
 ghost use Rattle.std.specs.Str.{bytes_eq};
+ghost use Rattle.std.specs.String.{string_bytes};
+ghost use Rattle.document_tables.specs.Names.{AreNumbersOf};
 
 use std::alloc::{AllocError, Global};
 use std::collections::BTreeMap;
@@ -65,6 +67,27 @@ pub(crate) fn number_of(names: &Names, name: &str) -> Option<usize>
     names.numbers.get(name).copied()
 }
 
+// Puts a text that is new behind others, under the next number.
+fn push_text(
+    alloc: Global,
+    texts: &mut Vec<String>,
+    numbers: &mut BTreeMap<String, usize>,
+    name: &str,
+) -> Result<(), AllocError>
+    requires numbered { AreNumbersOf numbers.old (map string_bytes texts.old.items) }
+    requires new { position (bytes_eq name.now) (map string_bytes texts.old.items) ≡ None }
+    ensures numbered { AreNumbersOf numbers.new (map string_bytes texts.new.items) }
+    ensures grown { OnOk result (map string_bytes texts.new.items
+        ≡ map string_bytes texts.old.items ++ name.now ∷ []) }
+{
+    let number = texts.len();
+    texts.reserve(1)?;
+    let text = String::from_str(alloc, name)?;
+    numbers.insert(String::from_str(alloc, name)?, number)?;
+    texts.push_reserved(text);
+    Ok(())
+}
+
 /// Puts a name behind others, and says whether it is new.
 pub(crate) fn add_name(alloc: Global, names: &mut Names, name: &str) -> Result<bool, AllocError>
     ensures new { IfOk result (λ is_new. is_new ≡ not (list_any (bytes_eq name.now) names.old)) }
@@ -73,11 +96,6 @@ pub(crate) fn add_name(alloc: Global, names: &mut Names, name: &str) -> Result<b
     if number_of(names, name).is_some() {
         return Ok(false);
     }
-    let text = String::from_str(alloc, name)?;
-    let key = String::from_str(alloc, name)?;
-    let number = names.texts.len();
-    names.texts.reserve(1)?;
-    names.numbers.insert(key, number)?;
-    names.texts.push_reserved(text);
+    push_text(alloc, &mut names.texts, &mut names.numbers, name)?;
     Ok(true)
 }

@@ -1,5 +1,6 @@
 -- How large the numbers of few digits are.
 use Rattle.std.proofs.Common.{◌≡◌, ℕ, zero, suc, ◌+◌, ◌*◌, ◌-◌, ◌<◌, ◌≤◌, ◌^◌, ◌&&◌, nat_le, nat_lt, Bool, true, false, List, [], ◌∷◌, Some, length, refl, sym, ap, subst, ◌∙◌, arith}
+use Rattle.std.proofs.lemmas.Bool.{and_parts, le-leb}
 use Rattle.std.proofs.lemmas.Bool.Decides.{nat_tests}
 use Rattle.std.proofs.lemmas.Int.Digits.{digits_value-lt}
 use Rattle.std.proofs.lemmas.Nat.{pow-add}
@@ -13,8 +14,7 @@ use Rattle.table_cells.specs.Amounts.{IsAmount, few_digits}
 use Rattle.fraction128.proofs.Parsed.{digit_is}
 
 pub both : (a b : Bool) → a && b ≡ true → (a ≡ true) × (b ≡ true)
-both true b h = (refl, h)
-both false b h = (h, grind arith)
+both a b h = and_parts a b h
 
 digit : (c : ℕ) → is_ascii_digit c ≡ true → digit_value c < 10
 digit c h = let e = digit_is c h in let r : c ≤ 57 = grind (arith, nat_tests) in omega (arith, e, r)
@@ -46,7 +46,7 @@ joined front back w a f b l =
 
 pub few_is : (ds : List ℕ) (n : ℕ) → length ds ≤ 18 → is_numeral ds ≡ true → n ≡ cap (digits_value 10 ds) → Some n ≡ few_digits ds
 few_is ds n l h e =
-    let t : nat_le (length ds) 18 ≡ true = grind (arith, nat_tests) in
+    let t : nat_le (length ds) 18 ≡ true = le-leb (length ds) 18 l in
     rw (t, h) (ap Some (capped ds n l h e))
 
 pub amount_joined : (front back w a bottom : ℕ) → bottom ≡ 10 ^ a → front < 10 ^ w → back < 10 ^ a → w + a ≤ 18

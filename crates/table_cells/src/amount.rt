@@ -11,7 +11,7 @@ use fraction128::read_digits;
 const MOST_DIGITS: usize = 18;
 
 /// A number from 0 on, exact: `top` over `bottom`, which is not 0.
-#[derive(Debug, Clone, Copy)]
+#[derive(Clone, Copy)]
 pub struct Amount {
     pub top: u64,
     pub bottom: u64,

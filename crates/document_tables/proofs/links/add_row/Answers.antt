@@ -3,12 +3,10 @@ use Rattle.std.proofs.lemmas.List.{length-map}
 use Rattle.csv.specs.Records.{fields_of}
 use Rattle.document_rows.specs.LinkRows.{link_view}
 use Rattle.document_rows.specs.declared.fault.RowError.TheVariants.{Cell}
-use Rattle.document_tables.specs.declared.links.LinkKeys.{LinkKeys}
-use Rattle.document_tables.specs.LinkTrees.{MakesLink}
-use Rattle.document_tables.specs.Links.{branch_view, links_view, with_link, with_row, has_room, number_or_next, most_branches}
+use Rattle.document_tables.specs.Links.{branch_view, links_view, with_row, has_room, most_branches}
 use Rattle.document_tables.specs.Ports.{ports_view}
 use Rattle.document_tables.specs.Tables.{Makes}
-use Rattle.document_tables.proofs.LinkSteps.{too_many, no_name, no_room, no_text, no_link, to_branch, is_full, few_rows}
+use Rattle.document_tables.proofs.LinkSteps.{too_many, no_name, no_room, no_text, to_text, is_full, few_rows}
 use Rattle.document_tables.proofs.Steps.{handed_on}
 use Rattle.document_tables.proofs.RowRanges.{link_says}
 use Rattle.document_tables.proofs.links.add_row.Goals as goal
@@ -51,34 +49,16 @@ returns-in_err-row-clause-value c =
     (no_text ports c.args.overhead c.args.head.now before row few c.in_ok-name.name.now (sym c.in_ok-name.ensures) c.in_ok-number.number
     (ap (has_room before) (sym c.number_of.ensures.value) ∙ sym c.in_ok-number.ensures.value) link_view c.in_err-row.field-0.0 before c.in_err-row.ensures)
 
-pub returns-in_err-link-clause-value : goal.returns-in_err-link-clause-value
-returns-in_err-link-clause-value c =
-    let ports = ports_view c.args.ports.now in
-    let before = links_view c.args.table.now in
-    let row = fields_of c.args.row.now in
-    let text = link_view c.in_ok-row.row in
-    let few = few_rows c.args.table.now.branches.items (omega (arith, c.len.ensures, c.if-len-ge-MOST_BRANCHES.false)) in
-    let made = links_view c.add_link.new.table in
-    let next = number_or_next before c.in_ok-number.number in
-    let m = subst (λ (keys : LinkKeys). MakesLink (Err c.in_err-link.field-0.0) (with_link before c.in_ok-name.name.now c.in_ok-number.number keys) made next) c.keys_of.ensures c.in_err-link.ensures.value in
-    handed_on c.from_residual-in_err-link.result c.in_err-link.field-0.0 (with_row ports c.args.overhead c.args.head.now before row) made c.from_residual-in_err-link.ensures.1
-    (no_link ports c.args.overhead c.args.head.now before row few c.in_ok-name.name.now (sym c.in_ok-name.ensures) c.in_ok-number.number
-    (ap (has_room before) (sym c.number_of.ensures.value) ∙ sym c.in_ok-number.ensures.value) text c.in_ok-row.ensures c.in_err-link.field-0.0 made made next m)
-
-pub add_branch-requires-clause-row : goal.add_branch-requires-clause-row
-add_branch-requires-clause-row c = link_says c.args.head.now (fields_of c.args.row.now) (link_view c.in_ok-row.row) c.in_ok-row.ensures
+pub put_row-requires-clause-row : goal.put_row-requires-clause-row
+put_row-requires-clause-row c = link_says c.args.head.now (fields_of c.args.row.now) (link_view c.in_ok-row.row) c.in_ok-row.ensures
 
 pub returns-clause-value : goal.returns-clause-value
 returns-clause-value c =
     let ports = ports_view c.args.ports.now in
     let before = links_view c.args.table.now in
     let row = fields_of c.args.row.now in
-    let text = link_view c.in_ok-row.row in
     let few = few_rows c.args.table.now.branches.items (omega (arith, c.len.ensures, c.if-len-ge-MOST_BRANCHES.false)) in
-    let made = links_view c.add_link.new.table in
-    let next = number_or_next before c.in_ok-number.number in
-    let m = subst (λ (keys : LinkKeys). MakesLink (Ok c.in_ok-link.link) (with_link before c.in_ok-name.name.now c.in_ok-number.number keys) made next) c.keys_of.ensures c.in_ok-link.ensures.value in
-    let same = to_branch ports c.args.overhead c.args.head.now before row few c.in_ok-name.name.now (sym c.in_ok-name.ensures) c.in_ok-number.number
-    (ap (has_room before) (sym c.number_of.ensures.value) ∙ sym c.in_ok-number.ensures.value) text c.in_ok-row.ensures made c.in_ok-link.link m
+    let same = to_text ports c.args.overhead c.args.head.now before row few c.in_ok-name.name.now (sym c.in_ok-name.ensures) c.in_ok-number.number
+    (ap (has_room before) (sym c.number_of.ensures.value) ∙ sym c.in_ok-number.ensures.value) (link_view c.in_ok-row.row) c.in_ok-row.ensures
     in
-    subst (λ read. Makes c.add_branch.result read (links_view c.add_branch.new.table)) (sym same) c.add_branch.ensures.value
+    subst (λ read. Makes c.put_row.result read (links_view c.put_row.new.table)) (sym same) c.put_row.ensures.value
