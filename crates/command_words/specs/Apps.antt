@@ -1,5 +1,6 @@
 -- The command line of netcalc, as a parse reads it. Own choice.
-use Rattle.std.specs.Prelude.{Some, true, codes}
+use Rattle.std.specs.Prelude.{List, Some, true, codes, fold, if◌then◌else◌}
+use Rattle.std.specs.Str.{bytes_eq}
 use Rattle.clap.specs.Words.{App, Rule, Text, new_app, new_rule, with_rule, with_subcommand}
 use Rattle.clap.specs.declared.builder.action.ArgAction.TheVariants.{SetTrue}
 
@@ -9,6 +10,13 @@ operand_rule id = record (new_rule id) { required = true }
 
 abbrev pub json_rule : Rule
 json_rule = record (new_rule (codes "json")) { long = Some (codes "json"); action = Some SetTrue }
+
+abbrev pub argument_rule : Text → Rule
+argument_rule id = if bytes_eq id (codes "json") then json_rule else operand_rule id
+
+-- ---- commands by the names of their arguments
+abbrev pub of_arguments : Text → List Text → App
+of_arguments word ids = fold (λ app id. with_rule app (argument_rule id)) (new_app word) ids
 
 -- ---- commands by the number of their operands
 abbrev pub one : Text → App
