@@ -1,10 +1,9 @@
 -- What is left at the end of a recorded run, by the walk.
 use Rattle.std.proofs.Common.{◌≡◌, ℕ, zero, suc, ◌<◌, List, [], ◌∷◌, length, get_or, refl, sym, ap, ◌∙◌, subst, arith, inl, inr, Some, None}
-use Rattle.std.specs.Prelude.{Option, slice_get, Bool, IsTrue, not, ◌↔◌, true, false}
+use Rattle.std.specs.Prelude.{Option, slice_get, Bool, IsTrue, ◌↔◌, true, false}
 use Rattle.std.specs.List.{Any, All}
 use Rattle.std.proofs.lemmas.Option.{slice_get-get_or, get_or_from_slice_get}
-use Rattle.rational.specs.Rational.{ℚ, ◌≤ℚ◌, ◌<ℚ◌}
-use Rattle.rational.proofs.Laws.{le_of_not_lt, lt_irrefl, lt_le_trans}
+use Rattle.rational.specs.Rational.{ℚ}
 use Rattle.rational.proofs.Linear.{with3}
 use Rattle.run_laws.specs.declared.steps.Step.{Step}
 use Rattle.run_laws.specs.Cards.{size}
@@ -13,15 +12,16 @@ use Rattle.run_laws.specs.Allows.{IsComplete}
 use Rattle.run_laws.specs.Routes.{Routes}
 use Rattle.run_laws.specs.Lawful.{Due, RunState, state_at}
 use Rattle.net_model.proofs.stated_runs.Lists.{at_in, in_contains}
-use Rattle.run_check.specs.declared.broken_laws.place.Place.{Place}
-use Rattle.run_check.specs.declared.broken_laws.place.Place.TheVariants.{At, OnLink, Gone}
+use Rattle.run_packets.specs.declared.place.Place.{Place}
+use Rattle.run_packets.specs.declared.place.Place.TheVariants.{At, OnLink, Gone}
 use Rattle.run_check.specs.broken_laws.FirstBroken.{IsUnfinished}
 use Rattle.run_check.specs.broken_laws.Tracked.{place_of}
-use Rattle.run_check.specs.declared.site.Underway.{Underway}
+use Rattle.run_packets.specs.declared.underway.Underway.{Underway}
 use Rattle.run_check.specs.declared.site.Site.{Site}
 use Rattle.run_check.specs.declared.walk.Walk.{Walk}
-use Rattle.run_check.specs.Sites.{AreUnder, is_worked_off}
-use Rattle.run_check.specs.Ends.{IsLate}
+use Rattle.run_check.specs.Sites.{AreUnder}
+use Rattle.run_packets.specs.Works.{is_worked_off}
+use Rattle.run_packets.specs.Places.{IsLate}
 use Rattle.run_check.specs.Walks.{Keeps}
 use Rattle.run_check.proofs.ReachRows.{some_site}
 
@@ -90,10 +90,6 @@ finished net room grid most before r w end h none whole (inr (k, σ, l, e, compl
     whole k x within (subst (λ (y : Site). is_worked_off y.under) (sym (get_or_from_slice_get w.sites.items k x x at)) here)
 
 -- ---- tests
-pub late_test : (b : Bool) (x y : ℚ) → (IsTrue b ↔ (x <ℚ y)) → (IsTrue (not b) → y ≤ℚ x) × (y ≤ℚ x → IsTrue (not b))
-late_test true x y h = (λ t. absurd (let f : false ≡ true = t in cc), λ l. absurd (lt_irrefl x (lt_le_trans (h.0 refl) l)))
-late_test false x y h = (λ t. le_of_not_lt (λ l. let f : false ≡ true = h.1 l in cc), λ l. refl)
-
 pub unfinished_test : (net : Routes) (room grid : ℕ) (most : ℚ) (before : List Step) (r : RunState) (w : Walk) (end : ℚ) (b : Bool) → Keeps net room grid most before r w
     → All (λ x. ¬ IsLate end x) w.places.items → (b ≡ true → Any (λ x. is_worked_off x.under) w.sites.items) → (b ≡ false → All (λ x. ¬ is_worked_off x.under) w.sites.items)
     → (IsTrue b ↔ IsUnfinished end r)

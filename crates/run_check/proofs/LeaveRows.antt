@@ -42,7 +42,7 @@ bits_at net room grid most before r w p h l =
     ap (λ xs. get_or xs p 0) h.bits ∙ get_or-map (λ (e : Entry). e.bits) r.entered p record { flow = 0; bits = 0 } 0 l
 
 -- ---- whether it may leave
-off_leaves : (net : Routes) (before : List Step) (r : RunState) (tracks : List Rattle.run_check.specs.declared.broken_laws.place.Place.Place) (s p : ℕ) (t : ℚ) → IsTracked net before r tracks
+off_leaves : (net : Routes) (before : List Step) (r : RunState) (tracks : List Rattle.run_packets.specs.declared.place.Place.Place) (s p : ℕ) (t : ℚ) → IsTracked net before r tracks
     → GoesOff (state_at r s).under p t → MayLeave (state_at r s).under (card_of net r.entered p s) t
 off_leaves net before r tracks s p t h g = go (state_at r s).under refl g
   where

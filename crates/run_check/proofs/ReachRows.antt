@@ -16,7 +16,7 @@ use Rattle.queue_sched.specs.Waiting.{HasPacket}
 use Rattle.net_model.proofs.stated_runs.Lists.{In, contains_in, in_contains}
 use Rattle.run_check.specs.declared.broken_laws.law.Law.{Law}
 use Rattle.run_check.specs.declared.broken_laws.law.Law.TheVariants.{L1, L2, L3, L4, L5, L6, L7, L8, L9}
-use Rattle.run_check.specs.declared.broken_laws.place.Place.TheVariants.{At, OnLink}
+use Rattle.run_packets.specs.declared.place.Place.TheVariants.{At, OnLink}
 use Rattle.run_check.specs.broken_laws.FirstBroken.{number_of, BreaksNone}
 use Rattle.run_check.specs.broken_laws.Broken.{Breaks}
 use Rattle.run_check.specs.broken_laws.Tracked.{place_of}

@@ -15,10 +15,11 @@ use Rattle.run_laws.proofs.Heads.{same_some}
 use Rattle.net_model.specs.stated_runs.TimeGrids.{HasRoom, IsTime}
 use Rattle.net_model.proofs.stated_runs.GridTimes.{difference_fits, rest_is_time}
 use Rattle.sim_servers.specs.Queues.{served_by, StandFor, work_goes_on}
-use Rattle.run_check.specs.declared.site.Underway.{Underway}
+use Rattle.run_packets.specs.declared.underway.Underway.{Underway}
 use Rattle.run_check.specs.declared.site.Piece.{Piece}
 use Rattle.run_check.specs.declared.site.Site.{Site}
-use Rattle.run_check.specs.Sites.{IsUnder, AreUnder, IsSite, IsOther, IsWrong, MayGo, IsOut, GoesOff, IsTakenOn, rest_of, rest_by, IsOtherBy, IsWrongBy, IsFresh, IsOnGrid, IsFineUnder, IsFast}
+use Rattle.run_check.specs.Sites.{IsUnder, AreUnder, IsSite, IsWrong, IsOut, GoesOff, IsTakenOn, rest_by, IsOtherBy, IsWrongBy, IsFresh, IsOnGrid, IsFineUnder, IsFast}
+use Rattle.run_packets.specs.Works.{IsOther, MayGo, rest_of}
 use Rattle.run_check.proofs.SiteSteps.{busy_of, untrue}
 
 pub in_time : (d : Discipline) (room : ℕ) (σ : ServerState) (site : Site) (end t : ℚ) (b : Bool) → IsSite d room σ site

@@ -15,10 +15,11 @@ use Rattle.queue_sched.specs.declared.turn.Turn.TheVariants.{Visit}
 use Rattle.net_model.proofs.stated_runs.Unique.{no_visit, not_idle, visit_once}
 use Rattle.net_model.proofs.stated_runs.Lists.{In, head_in}
 use Rattle.sim_servers.specs.Queues.{served_by, room_of, StandFor}
-use Rattle.run_check.specs.declared.site.Underway.{Underway}
+use Rattle.run_packets.specs.declared.underway.Underway.{Underway}
 use Rattle.run_check.specs.declared.site.Site.{Site}
 use Rattle.run_check.specs.declared.site.Piece.{Piece}
-use Rattle.run_check.specs.Sites.{AreUnder, IsSite, Starts, Turns, IsOther, IsWrong}
+use Rattle.run_check.specs.Sites.{AreUnder, IsSite, Starts, Turns, IsWrong}
+use Rattle.run_packets.specs.Works.{IsOther}
 
 pub idle_of : (o : Option Under) (v : Option Underway) → AreUnder o v → v ≡ None → o ≡ None
 idle_of None v h e = refl

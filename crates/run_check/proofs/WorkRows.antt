@@ -20,7 +20,7 @@ use Rattle.net_model.specs.stated_runs.TimeGrids.{HasRoom, IsTime}
 use Rattle.net_model.proofs.stated_runs.Lists.{head_in}
 use Rattle.run_check.specs.declared.broken_laws.law.Law.{Law}
 use Rattle.run_check.specs.declared.broken_laws.law.Law.TheVariants.{L1, L2, L3, L4, L5, L6, L7, L8, L9}
-use Rattle.run_check.specs.declared.broken_laws.place.Place.TheVariants.{At}
+use Rattle.run_packets.specs.declared.place.Place.TheVariants.{At}
 use Rattle.run_check.specs.broken_laws.FirstBroken.{number_of, BreaksNone}
 use Rattle.run_check.specs.broken_laws.Broken.{Breaks, IsWrongWork, IsNotPicked, IsTooFast}
 use Rattle.run_check.specs.broken_laws.Broken as broken

@@ -2,7 +2,6 @@ pub mod Sites
 pub mod Rows
 pub mod Walks
 pub mod Following
-pub mod Ends
 pub mod Fresh
 pub mod broken_laws
 pub mod run_table

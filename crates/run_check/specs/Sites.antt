@@ -12,7 +12,8 @@ use Rattle.sim_servers.specs.Queues.{served_by, room_of, StandFor}
 use Rattle.run_check.specs.declared.broken_laws.law.Law.{Law}
 use Rattle.run_check.specs.declared.broken_laws.law.Law.TheVariants.{L1, L2, L3, L4, L5, L6, L7, L8, L9}
 use Rattle.run_check.specs.broken_laws.Broken.{IsTooFast}
-use Rattle.run_check.specs.declared.site.Underway.{Underway}
+use Rattle.run_packets.specs.declared.underway.Underway.{Underway}
+use Rattle.run_packets.specs.Works.{IsOther}
 use Rattle.run_check.specs.declared.site.Piece.{Piece}
 use Rattle.run_check.specs.declared.site.Site.{Site}
 
@@ -45,29 +46,11 @@ pub record KeepsSome (site : Site) : Type 0 where
   pub keeps : IsSite discipline room state site
 
 -- ---- tests
-abbrev pub IsOther : Option Underway → ℕ → Type 0
-IsOther None p = ⊥
-IsOther (Some v) p = v.packet ≢ p
-
 -- work that is wrong by itself, where so many bits are yet to be worked of its packet
 abbrev pub IsWrong : Site → Piece → ℚ → Type 0
 IsWrong site w rest =
     (w.end ≤ℚ w.start) ⊎ (w.bits ≤ℚ int (pos 0)) ⊎ (w.start <ℚ site.busy) ⊎ IsOther site.under w.packet
     ⊎ (rest <ℚ w.bits)
-
--- the packet is under way and worked off, and this is the end of its last work
-pub record IsOver (v : Underway) (p : ℕ) (t : ℚ) : Type 0 where
-  pub packet : v.packet ≡ p
-  pub none_left : v.left ≡ int (pos 0)
-  pub at_end : v.end ≡ t
-
-abbrev pub MayGo : Option Underway → ℕ → ℚ → Type 0
-MayGo None p t = ⊥
-MayGo (Some v) p t = IsOver v p t
-
-abbrev pub is_worked_off : Option Underway → Type 0
-is_worked_off None = ⊥
-is_worked_off (Some v) = v.left ≡ int (pos 0)
 
 -- ---- what the calls ask for
 -- the packet may arrive
@@ -160,12 +143,7 @@ VisitAnswer d room σ end q t after (Some L7) = (¬ IsOut σ end t) × (¬ MayVi
 VisitAnswer d room σ end q t after (Some L8) = ⊥
 VisitAnswer d room σ end q t after (Some L9) = ⊥
 
--- a row with work: what is yet to be worked of a packet
-abbrev pub rest_of : Option Underway → ℚ → ℚ
-rest_of None fresh = fresh
-rest_of (Some v) fresh = v.left
-
--- where none is under way, a packet that the discipline picks has all its bits
+-- a row with work: where none is under way, a packet that the discipline picks has all its bits
 abbrev pub IsFresh : Discipline → ServerState → ℕ → ℚ → Type 0
 IsFresh d σ p fresh = σ.under ≡ None → (c : Card) → c.packet ≡ p → pick d σ.inside σ.round ≡ Some c → fresh ≡ size c
 

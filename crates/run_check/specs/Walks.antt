@@ -12,7 +12,7 @@ use Rattle.run_laws.specs.Views.{entry_of}
 use Rattle.run_laws.specs.Lawful.{RunState, state_at, next_run}
 use Rattle.net_model.specs.stated_runs.TimeGrids.{HasRoom, IsTime}
 use Rattle.run_check.specs.declared.broken_laws.law.Law.{Law}
-use Rattle.run_check.specs.declared.broken_laws.place.Place.{Place}
+use Rattle.run_packets.specs.declared.place.Place.{Place}
 use Rattle.run_check.specs.broken_laws.Recorded.{HasPaths, IsRecordedStep}
 use Rattle.run_check.specs.broken_laws.FirstBroken.{BreaksNone, BreaksFirst}
 use Rattle.run_check.specs.broken_laws.Tracked.{IsTracked, place_of, place_after, has_left}

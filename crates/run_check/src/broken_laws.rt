@@ -3,8 +3,6 @@
 
 mod law;
 mod laws;
-mod place;
 
 pub use law::Law;
 pub use laws::{broken_runs_are_unlawful, first_broken_is_one, unbroken_runs_are_lawful};
-pub use place::Place;

@@ -1,38 +1,11 @@
-//! What is left at the end of a recorded run.
+//! Which packets have not left at the end of a recorded run.
 
-ghost use Rattle.std.specs.Prelude.{◌≡◌, ◌<◌, ◌↔◌, ◌⊎◌, ℕ, List, Some, slice_get, IsTrue, true, false};
+ghost use Rattle.std.specs.Prelude.{◌≡◌, true, false};
 ghost use Rattle.std.specs.List.{Any, All};
-ghost use Rattle.run_check.specs.Ends.{IsLate};
-ghost use Rattle.run_check.specs.declared.site.Site.{Site as SpecSite};
-ghost use Rattle.run_check.specs.Sites.{is_worked_off};
+ghost use Rattle.run_packets.specs.Works.{is_worked_off};
 
-use crate::broken_laws::Place;
 use crate::site::Site;
-use fraction128::{Frac, is_less};
-
-/// Whether a packet in this place is on a link, and due by a time.
-fn is_late(place: &Place, end: Frac) -> bool
-    ensures { IsTrue result ↔ IsLate end place.now }
-{
-    match place {
-        Place::OnLink { time, .. } => !is_less(end, *time),
-        Place::At { .. } => false,
-        Place::Gone => false,
-    }
-}
-
-/// Whether a packet that is on a link is due by a time.
-pub(crate) fn some_late(places: &[Place], end: Frac) -> bool
-    ensures late { result ≡ true → Any (IsLate end) places.now }
-    ensures none { result ≡ false → All (λ x. ¬ IsLate end x) places.now }
-{
-    for place in places {
-        if is_late(place, end) {
-            return true;
-        }
-    }
-    false
-}
+use run_packets::is_complete;
 
 /// Whether a packet that is worked off is at a server.
 pub(crate) fn some_complete(sites: &[Site]) -> bool
@@ -40,7 +13,7 @@ pub(crate) fn some_complete(sites: &[Site]) -> bool
     ensures none { result ≡ false → All (λ x. ¬ is_worked_off x.under) sites.now }
 {
     for site in sites {
-        if site.is_complete() {
+        if is_complete(&site.under) {
             return true;
         }
     }

@@ -10,27 +10,20 @@ ghost use Rattle.queue_sched.specs.Turns.{IsCard};
 ghost use Rattle.net_model.specs.Accepted.{HasFewQueues};
 ghost use Rattle.net_model.specs.Views.{discipline_of};
 ghost use Rattle.run_check.specs.Sites.{LeaveAnswer, VisitAnswer, WorkAnswer, TakesOn, IsFast, HasPace};
-ghost use Rattle.run_check.specs.Sites.{WorkRoom, IsOnGrid, IsFine, IsFresh, rest_of};
-ghost use Rattle.run_check.specs.Sites.{IsSite, KeepsSome, IsOther, MayLose, MayGo};
-ghost use Rattle.run_check.specs.Sites.{IsWrong, MayTake, Turns, Starts, is_worked_off};
+ghost use Rattle.run_check.specs.Sites.{WorkRoom, IsOnGrid, IsFine, IsFresh};
+ghost use Rattle.run_check.specs.Sites.{IsSite, KeepsSome, MayLose};
+ghost use Rattle.run_check.specs.Sites.{IsWrong, MayTake, Turns, Starts};
 
 use crate::broken_laws::Law;
 use fraction128::{Frac, difference, is_less, quotient};
 use net_model::Discipline;
 use queue_sched::{Scheduler, Turn};
+use run_packets::{Underway, is_other, may_leave, rest};
 use sim_servers::ServerQueues;
 use std::alloc::{AllocError, Global};
 
-/// The packet under way at a server: the bits of it that are yet to be worked, and when its last work ends.
-#[derive(Debug, Clone, Copy)]
-pub(crate) struct Underway {
-    pub(crate) packet: u32,
-    pub(crate) left: Frac,
-    pub(crate) end: Frac,
-}
-
 /// A piece of work on a packet, as a row has it.
-#[derive(Debug, Clone, Copy)]
+#[derive(Clone, Copy)]
 pub(crate) struct Piece {
     pub(crate) packet: u32,
     pub(crate) start: Frac,
@@ -105,39 +98,7 @@ impl Site {
         if is_less(piece.start, self.busy) {
             return true;
         }
-        self.is_other(piece.packet) || is_less(rest, piece.bits)
-    }
-
-    /// Whether another packet is under way.
-    fn is_other(&self, packet: u32) -> bool
-        ensures { IsTrue result ↔ IsOther self.now.under packet }
-    {
-        match self.under {
-            Some(under) => under.packet != packet,
-            None => false,
-        }
-    }
-
-    /// Whether the packet is under way, worked off, and this is the end of its last work.
-    pub(crate) fn may_leave(&self, packet: u32, time: Frac) -> bool
-        ensures { IsTrue result ↔ MayGo self.now.under packet time }
-    {
-        match self.under {
-            Some(under) => {
-                under.packet == packet && under.left == Frac::zero() && under.end == time
-            }
-            None => false,
-        }
-    }
-
-    /// Whether the packet under way is worked off.
-    pub(crate) fn is_complete(&self) -> bool
-        ensures { IsTrue result ↔ is_worked_off self.now.under }
-    {
-        match self.under {
-            Some(under) => under.left == Frac::zero(),
-            None => false,
-        }
+        is_other(&self.under, piece.packet) || is_less(rest, piece.bits)
     }
 
     /// A packet arrives.
@@ -182,7 +143,7 @@ impl Site {
         if !known {
             return Some(Law::L2);
         }
-        if !self.may_leave(packet, time) {
+        if !may_leave(&self.under, packet, time) {
             return Some(Law::L6);
         }
         self.leave(time);
@@ -203,16 +164,6 @@ impl Site {
             return Some(Law::L7);
         }
         None
-    }
-
-    /// What is yet to be worked of a packet: of the one under way, where there is one, and else as it is told.
-    fn rest(&self, fresh: Frac) -> Frac
-        ensures { result ≡ rest_of self.now.under fresh }
-    {
-        match self.under {
-            Some(under) => under.left,
-            None => fresh,
-        }
     }
 
     /// Whether the packet is under way, or may start; then the queues have it under way. No other is under way.
@@ -252,7 +203,7 @@ impl Site {
         if !known {
             return Some(Law::L2);
         }
-        let rest = self.rest(fresh);
+        let rest = rest(&self.under, fresh);
         if self.is_wrong(piece, rest) {
             return Some(Law::L4);
         }

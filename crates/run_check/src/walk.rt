@@ -13,14 +13,15 @@ ghost use Rattle.run_check.specs.broken_laws.Tracked.{place_of};
 ghost use Rattle.run_check.specs.Following.{Follows, Goes};
 ghost use Rattle.run_check.specs.Walks.{work_of, Keeps, Stands, Told, fresh_for, sent_places};
 
-use crate::broken_laws::{Law, Place};
-use crate::ends::{some_complete, some_late};
+use crate::broken_laws::Law;
+use crate::ends::some_complete;
 use crate::rows::{arrive_row, is_out_at, leave_row, visit_row, work_row};
 use crate::site::{Piece, Site};
 use crate::ways::{destination, has_left, pace_of};
 use fraction128::Frac;
 use net_model::Network;
 use run_laws::{Run, Step, whole};
+use run_packets::{Place, is_due, some_late};
 use simulator::sim_routes::{entrance, queue_of};
 use std::alloc::AllocError;
 
@@ -32,20 +33,6 @@ pub(crate) struct Walk {
     pub(crate) bits: Vec<u32>,
     pub(crate) places: Vec<Place>,
     pub(crate) sites: Vec<Site>,
-}
-
-/// Whether the packet in this place is due at a server at a time.
-fn is_due_in(place: &Place, server: u32, time: Frac) -> bool
-    ensures { IsTrue result ↔ (place.now ≡ Place.OnLink server time) }
-{
-    match place {
-        Place::OnLink {
-            server: to,
-            time: at,
-        } => *to == server && *at == time,
-        Place::At { .. } => false,
-        Place::Gone => false,
-    }
 }
 
 impl Walk {
@@ -171,7 +158,7 @@ impl Walk {
         requires { packet < length self.now.places.items }
         ensures { IsTrue result ↔ (place_of self.now.places.items packet ≡ Place.OnLink server time) }
     {
-        is_due_in(&self.places[packet as usize], server, time)
+        is_due(&self.places[packet as usize], server, time)
     }
 
     /// The flow of a packet.

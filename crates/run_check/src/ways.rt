@@ -7,10 +7,10 @@ ghost use Rattle.run_laws.specs.Routes.{route_of, link_at, server_after, server_
 ghost use Rattle.net_model.specs.NetRoutes.{routes_of, hops_along};
 ghost use Rattle.run_check.specs.broken_laws.Tracked.{is_on, is_before, has_left as spec_has_left, place_after};
 
-use crate::broken_laws::Place;
 use fraction128::{Frac, sum};
 use net_cells::{live_flow, server};
 use net_model::Network;
+use run_packets::Place;
 use simulator::sim_routes::{link_of, next_server};
 
 /// How many bits a unit of time a server works at most, where that is limited: its rate in version 2.

@@ -21,7 +21,7 @@ use Rattle.net_model.proofs.stated_runs.Routed.{place_of, first_passes}
 use Rattle.run_laws.proofs.Deciding.{may_visit}
 use Rattle.run_check.specs.declared.broken_laws.law.Law.{Law}
 use Rattle.run_check.specs.declared.broken_laws.law.Law.TheVariants.{L1, L2, L3, L4, L5, L6, L7, L8, L9}
-use Rattle.run_check.specs.declared.broken_laws.place.Place.{Place}
+use Rattle.run_packets.specs.declared.place.Place.{Place}
 use Rattle.run_check.specs.broken_laws.Recorded.{HasPaths, IsRecordedStep}
 use Rattle.run_check.specs.broken_laws.Broken.{IsOutOfTime, IsOther, IsWrongWork, IsNotPicked, IsTooFast, Breaks}
 use Rattle.run_check.proofs.broken_laws.Deciding.{holds, picked_same, due_in, may_leave}

@@ -23,8 +23,8 @@ use Rattle.net_model.proofs.stated_runs.Good.{extends_push}
 use Rattle.net_model.proofs.stated_runs.GoodSteps.{sent_in}
 use Rattle.sim_servers.specs.sim_states.Places.{one, cards_of, dues_of}
 use Rattle.sim_servers.proofs.sim_states.Places.{one_same, card_counts, no_due, dues_less, at_most, placed_next, places_reach, places_work, places_visit, places_leave, placed_enter}
-use Rattle.run_check.specs.declared.broken_laws.place.Place.{Place}
-use Rattle.run_check.specs.declared.broken_laws.place.Place.TheVariants.{At, OnLink}
+use Rattle.run_packets.specs.declared.place.Place.{Place}
+use Rattle.run_packets.specs.declared.place.Place.TheVariants.{At, OnLink}
 use Rattle.run_check.specs.broken_laws.Recorded.{PassOnce, HasPaths}
 use Rattle.run_check.specs.broken_laws.Worked.{worked_by, worked_in}
 use Rattle.run_check.specs.broken_laws.Tracked.{place_of, place_after, next_places, has_left, worked_of, worked_at, IsHere, IsOnWay, IsLiveEntry, IsTracked}

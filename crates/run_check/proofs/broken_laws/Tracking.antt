@@ -17,8 +17,8 @@ use Rattle.run_laws.proofs.States.{IsSound}
 use Rattle.run_laws.proofs.Views.{own_state, other_state}
 use Rattle.net_model.proofs.stated_runs.Lists.{In, head_in}
 use Rattle.sim_servers.proofs.sim_states.Places.{none_placed}
-use Rattle.run_check.specs.declared.broken_laws.place.Place.{Place}
-use Rattle.run_check.specs.declared.broken_laws.place.Place.TheVariants.{At, OnLink, Gone}
+use Rattle.run_packets.specs.declared.place.Place.{Place}
+use Rattle.run_packets.specs.declared.place.Place.TheVariants.{At, OnLink, Gone}
 use Rattle.run_check.specs.broken_laws.Worked.{worked_by, worked_in}
 use Rattle.run_check.specs.broken_laws.Tracked.{place_of, has_left, worked_of, IsHere, IsTracked}
 

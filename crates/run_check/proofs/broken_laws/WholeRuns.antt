@@ -14,7 +14,7 @@ use Rattle.run_laws.specs.Routes.{Routes}
 use Rattle.run_laws.specs.Lawful.{Due, RunState, next_run, run_start, after_run, AllowsInRun, AllAllowedInRun, IsLawful}
 use Rattle.run_check.specs.declared.broken_laws.law.Law.{Law}
 use Rattle.run_check.specs.declared.broken_laws.law.Law.TheVariants.{L1, L2, L3, L4, L5, L6, L7, L8, L9}
-use Rattle.run_check.specs.declared.broken_laws.place.Place.{Place}
+use Rattle.run_packets.specs.declared.place.Place.{Place}
 use Rattle.run_check.specs.broken_laws.Recorded.{HasPaths, AreRecorded}
 use Rattle.run_check.specs.broken_laws.FirstBroken.{number_of, BreaksNone, BreaksFirst, NoneBreaks, IsBrokenAtStep, IsBrokenAtEnd, IsUnfinished, IsFirstBroken}
 use Rattle.run_check.specs.broken_laws.Tracked.{next_places, IsTracked}

@@ -14,8 +14,8 @@ use Rattle.run_laws.specs.Members.{Has}
 use Rattle.run_laws.specs.Sound.{IsSound}
 use Rattle.net_model.specs.stated_runs.CardsAt.{IsCardAt}
 use Rattle.sim_servers.specs.sim_states.Places.{ArePlaced}
-use Rattle.run_check.specs.declared.broken_laws.place.Place.{Place}
-use Rattle.run_check.specs.declared.broken_laws.place.Place.TheVariants.{At, OnLink, Gone}
+use Rattle.run_packets.specs.declared.place.Place.{Place}
+use Rattle.run_packets.specs.declared.place.Place.TheVariants.{At, OnLink, Gone}
 use Rattle.run_check.specs.broken_laws.Worked.{worked_in}
 
 -- packet p

@@ -13,7 +13,7 @@ use net_model::Network;
 use run_laws::Step;
 
 /// The words with which rows begin.
-#[derive(Debug, Clone, Copy, PartialEq, Eq)]
+#[derive(Clone, Copy)]
 pub enum RunWord {
     Enter,
     Reach,
@@ -24,7 +24,7 @@ pub enum RunWord {
 }
 
 /// What a row puts into a recorded run.
-#[derive(Debug, Clone, Copy)]
+#[derive(Clone, Copy)]
 pub enum RunEntry {
     /// A step.
     Does(Step),

@@ -1,7 +1,7 @@
 use Rattle.std.proofs.Common.{refl, subst}
 use Rattle.std.specs.List.{Any, All}
-use Rattle.run_check.specs.Ends.{IsLate}
-use Rattle.run_check.specs.Sites.{is_worked_off}
+use Rattle.run_packets.specs.Places.{IsLate}
+use Rattle.run_packets.specs.Works.{is_worked_off}
 use Rattle.run_check.proofs.AtEnd.{late_unfinished, unfinished_test}
 use Rattle.run_check.proofs.walk.Walk.is_unfinished.Goals as goal
 

@@ -1,8 +1,8 @@
 use Rattle.std.proofs.Common.{sym, subst}
 use Rattle.std.specs.Prelude.{IsTrue, not}
-use Rattle.run_check.specs.Ends.{IsLate}
-use Rattle.run_check.proofs.AtEnd.{late_test}
-use Rattle.run_check.proofs.ends.is_late.Goals as goal
+use Rattle.run_packets.specs.Places.{IsLate}
+use Rattle.run_packets.proofs.Late.{late_test}
+use Rattle.run_packets.proofs.place.is_late.Goals as goal
 
 pub returns-in-OnLink : goal.returns-in-OnLink
 returns-in-OnLink c =

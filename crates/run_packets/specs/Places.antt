@@ -1,7 +1,7 @@
--- What is left at the end of a recorded run.
+-- Where a packet of a recorded run is.
 use Rattle.rational.specs.Rational.{ℚ, ◌≤ℚ◌}
-use Rattle.run_check.specs.declared.broken_laws.place.Place.{Place}
-use Rattle.run_check.specs.declared.broken_laws.place.Place.TheVariants.{At, OnLink, Gone}
+use Rattle.run_packets.specs.declared.place.Place.{Place}
+use Rattle.run_packets.specs.declared.place.Place.TheVariants.{At, OnLink, Gone}
 
 -- a packet on a link is due by a time
 abbrev pub IsLate : ℚ → Place → Type 0

@@ -1,0 +1,8 @@
+//! The packets of a recorded run: where each is, and what is yet to be worked of the one under way at a server.
+#![tactic(auto)]
+
+mod place;
+mod underway;
+
+pub use place::{Place, is_due, is_late, some_late};
+pub use underway::{Underway, is_complete, is_other, may_leave, rest};
