@@ -2,8 +2,6 @@
 use Rattle.std.specs.Prelude.{◌≡◌, ◌≢◌, ◌↔◌, ℕ, suc, ◌+◌, ◌-◌, ◌*◌, ◌<◌, ◌≤◌, ◌^◌, ℤ, pos, max, min, nat_le, List, [], ◌∷◌, length, get_or, drop, take, map, sum_by, nat_abs, Some, slice_get, Result, Ok, Err, IsOk, IsTrue, All, nat_eq}
 use Rattle.std.proofs.Common.{arith, refl, sym, ap, subst, ◌∙◌, inl, inr}
 use Rattle.std.proofs.lemmas.Bool.{leb-true, le-leb}
-use Rattle.std.proofs.lemmas.List.{take_all, length-drop}
-use Rattle.std.proofs.lemmas.Option.{slice_get_within, get_or_from_slice_get}
 use Rattle.std.proofs.lemmas.List.Elements.{All-filter}
 use Rattle.std.proofs.lemmas.List.Kept.{AllPairs-filter}
 use Rattle.rational.specs.Rational.{ℚ, ◌≤ℚ◌}
@@ -17,14 +15,15 @@ use Rattle.upp_limits.specs.Gathered.{Gathers}
 use Rattle.upp_limits.specs.declared.gathered.Gathered.{Gathered}
 use Rattle.net_model.specs.declared.trace.TracePacket.{TracePacket}
 use Rattle.net_model.specs.Traces.{SpecTrace, IsTrace, IsTracePacket}
-use Rattle.measure_curve.specs.declared.windows.Window.{Window}
+use Rattle.packet_windows.specs.declared.windows.Window.{Window}
 use Rattle.measure_curve.specs.Grids.{width_of, numbers_of, IsNarrow}
 use Rattle.measure_curve.specs.Limits.{grid_of, reach_of}
 use Rattle.upp_curve.specs.declared.affine_segment.line.Piece.{Piece}
 use Rattle.upp_curve.specs.declared.curve.Tail.TheVariants.{Affine}
 use Rattle.upp_curve.specs.Curve.{SpecCurve}
 use Rattle.upp_curve.specs.Curves.{IsCurve}
-use Rattle.measure_curve.specs.Staircases.{last_length, Fit, time_of, piece_of}
+use Rattle.packet_windows.specs.Scans.{last_length}
+use Rattle.measure_curve.specs.Staircases.{Fit, time_of, piece_of}
 use Rattle.measure_curve.proofs.Stairs.{stairs_curve}
 use Rattle.measure_curve.specs.Windows.{of_flow}
 
@@ -41,19 +40,6 @@ made_ok (Err TooBig) z w n g p q some small short none big =
     absurd (wide (small_ratio z w other top bottom))
 
 -- ---- the last step
-pub last_is : (n : ℕ) (ws : List Window) (d : Window) → 0 < length ws → (get_or ws (length ws - 1) d).length ≡ last_length n ws
-last_is n [] d h = absurd (omega arith)
-last_is n (w ∷ []) d h = refl
-last_is n (w ∷ v ∷ vs) d h =
-    let e : length (w ∷ v ∷ vs) - 1 ≡ suc (length (v ∷ vs) - 1) = omega arith in
-    ap (λ k. (get_or (w ∷ v ∷ vs) k d).length) e ∙ last_is w.length (v ∷ vs) d (omega arith)
-
-pub last_found : (ws : List Window) (w : Window) → slice_get ws (length ws - 1) ≡ Some w → w.length ≡ last_length 0 ws
-last_found ws w e =
-    let l = slice_get_within ws (length ws - 1) w e in
-    let g = get_or_from_slice_get ws (length ws - 1) w w e in
-    sym (ap (λ (x : Window). x.length) g) ∙ last_is 0 ws w (omega arith)
-
 pub stair_curve : (grid : ℕ) (ws : List Window) (ps : List Piece) (rank : ℚ) (n : ℕ) → Fit grid ws → ps ≡ map (piece_of grid) ws → rank ≡ time_of grid n → n ≡ last_length 0 ws
     → (let c : SpecCurve = record { pieces = ps; tail = Affine rank } in IsCurve c)
 stair_curve grid ws ps rank n h p r e =
@@ -108,10 +94,6 @@ pub grid_known : (g : Gathered) (ps : List TracePacket) → Gathers g (numbers_o
 grid_known g ps h l =
     let t = le_times (grid_of ps) (64 * (reach_of ps + 1)) (omega arith) in
     h.dv.is ∙ elim (cap_cases (grid_of ps)) [ inl p ↦ p.0 | inr p ↦ absurd (let far = p.1 in omega arith) ]
-
--- ---- lists
-pub whole_rest : {A : Type 0} (xs : List A) (i : ℕ) → take (length xs - i) (drop i xs) ≡ drop i xs
-whole_rest xs i = take_all (length xs - i) (drop i xs) (let e = length-drop i xs in omega arith)
 
 -- ---- the packets of a flow in a trace
 pub narrow_of : (flow grid : ℕ) (trace : SpecTrace) (own : List TracePacket) → IsTrace trace → own ≡ of_flow flow trace.packets → length (of_flow flow trace.packets) ≤ 1024

@@ -11,10 +11,11 @@ use Rattle.min_plus.specs.Functions.{zero_q}
 use Rattle.upp_curve.specs.Curve.{SpecCurve, value_at}
 use Rattle.run_laws.specs.Cards.{whole}
 use Rattle.net_model.specs.declared.trace.TracePacket.{TracePacket}
-use Rattle.measure_curve.specs.declared.windows.Entry.{Entry}
-use Rattle.measure_curve.specs.declared.windows.Window.{Window}
+use Rattle.packet_windows.specs.declared.windows.Entry.{Entry}
+use Rattle.packet_windows.specs.declared.windows.Window.{Window}
 use Rattle.measure_curve.specs.Grids.{IsNarrow}
-use Rattle.measure_curve.specs.Scans.{entry_of, windows, LengthenFrom, steps_after, no_window}
+use Rattle.packet_windows.specs.Scans.{windows, LengthenFrom, steps_after, no_window}
+use Rattle.measure_curve.specs.Scans.{entry_of}
 use Rattle.measure_curve.specs.Staircases.{staircase, Fit, TellRises}
 use Rattle.measure_curve.specs.Windows.{IsLeastArrival}
 use Rattle.measure_curve.proofs.Tests.{most, level}

@@ -13,7 +13,7 @@ use Rattle.upp_curve.specs.Curve.{value_at}
 use Rattle.upp_curve.proofs.StairValues.{flat_value}
 use Rattle.run_laws.specs.Cards.{whole}
 use Rattle.run_laws.proofs.Sizes.{whole_lt}
-use Rattle.measure_curve.specs.declared.windows.Window.{Window}
+use Rattle.packet_windows.specs.declared.windows.Window.{Window}
 use Rattle.measure_curve.specs.Staircases.{time_of, piece_of, staircase, StepUp, AreSteps, TellRises}
 use Rattle.measure_curve.specs.Windows.{RisesAt}
 use Rattle.measure_curve.proofs.Stairs.{pieces_of, starts, rise_from, time_lt, time_zero}

@@ -28,8 +28,9 @@ use Rattle.upp_curve.proofs.ByTail.{some_is}
 use Rattle.upp_curve.proofs.StairValues.{flat_value}
 use Rattle.run_laws.specs.Cards.{whole}
 use Rattle.run_laws.proofs.Sizes.{whole_lt}
-use Rattle.measure_curve.specs.declared.windows.Window.{Window}
-use Rattle.measure_curve.specs.Staircases.{time_of, piece_of, last_length, staircase, StepUp, AreSteps, Fit}
+use Rattle.packet_windows.specs.declared.windows.Window.{Window}
+use Rattle.packet_windows.specs.Scans.{last_length}
+use Rattle.measure_curve.specs.Staircases.{time_of, piece_of, staircase, StepUp, AreSteps, Fit}
 use Rattle.measure_curve.proofs.Tests.{level}
 use Rattle.measure_curve.proofs.WindowSums.{near, time_le}
 

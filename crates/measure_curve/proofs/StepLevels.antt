@@ -1,12 +1,12 @@
 -- What a sweep over windows in the order of their lengths keeps: the steps of the most bits.
-use Rattle.std.specs.Prelude.{◌≡◌, ℕ, suc, ◌<◌, ◌≤◌, Bool, true, false, ◌==◌, nat_le, List, [], ◌∷◌, max, All, length, get_or}
-use Rattle.std.specs.List.Sorted.{IsPermutation, IsNonDecreasingBy}
-use Rattle.std.proofs.Common.{arith, refl, sym, ap, subst, ◌∙◌, inl, inr}
+use Rattle.std.specs.Prelude.{◌≡◌, ℕ, ◌<◌, ◌≤◌, Bool, true, false, ◌==◌, nat_le, List, [], ◌∷◌, max, All, length}
+use Rattle.std.specs.List.Sorted.{IsPermutation}
+use Rattle.std.proofs.Common.{arith, refl, ap, subst, ◌∙◌, inl, inr}
 use Rattle.std.proofs.lemmas.Bool.{cases_Bool, cases_eq, leb-true, leb-false, eqb-true, eqb-false}
 use Rattle.std.proofs.lemmas.List.Sorted.{All-permutation, IsPermutation-sym}
 use Rattle.std.proofs.lemmas.List.Elements.{All-nil, All-cons, All-tail}
-use Rattle.measure_curve.specs.declared.windows.Window.{Window}
-use Rattle.measure_curve.specs.Scans.{LengthenFrom, steps_after, no_window}
+use Rattle.packet_windows.specs.declared.windows.Window.{Window}
+use Rattle.packet_windows.specs.Scans.{LengthenFrom, steps_after, no_window}
 use Rattle.measure_curve.specs.Staircases.{StepUp, AreSteps}
 use Rattle.measure_curve.proofs.Tests.{most, level, GoesDown}
 use Rattle.measure_curve.proofs.Sums.{not_up}
@@ -128,16 +128,6 @@ most_moved fits xs ys p =
     let a = most_moved_le fits xs ys p in
     let b = most_moved_le fits ys xs (IsPermutation-sym xs ys p) in
     omega arith
-
-pub lengthen : (ws : List Window) (d : ℕ) → IsNonDecreasingBy (λ w. w.length) ws → ((w : Window) (vs : List Window) → ws ≡ w ∷ vs → d ≤ w.length) → LengthenFrom d ws
-lengthen [] d h k = tt
-lengthen (w ∷ ws) d h k = (
-  k w ws refl,
-  lengthen ws w.length (λ i j e l m. h (suc i) (suc j) e (omega arith) (omega arith)) (λ v vs e. first w ws v vs e (h 0 1 w (omega arith))),
-)
-  where
-    first : (w : Window) (ws : List Window) (v : Window) (vs : List Window) → ws ≡ v ∷ vs → (1 < length (w ∷ ws) → w.length ≤ (get_or (w ∷ ws) 1 w).length) → w.length ≤ v.length
-    first w ws v vs e f = subst (λ (xs : List Window). (1 < length (w ∷ xs) → w.length ≤ (get_or (w ∷ xs) 1 w).length) → w.length ≤ v.length) (sym e) (λ g. g (omega arith)) f
 
 -- ---- the steps are some of the windows, or no window
 pub steps_short : (P : Window → Type 0) (last : Window) (ws : List Window) → P last → All P ws → All P (steps_after last ws)

@@ -2,9 +2,9 @@
 use Rattle.std.specs.Prelude.{◌≡◌, ℕ, ◌+◌, ◌-◌, ◌≤◌, Bool, true, false, ◌&&◌, nat_le, List, [], ◌∷◌, ◌++◌, max}
 use Rattle.std.proofs.Common.{arith, refl, sym, ◌∙◌, inl, inr, true≢false}
 use Rattle.std.proofs.lemmas.Bool.{cases_Bool, cases_lt, le-leb}
-use Rattle.measure_curve.specs.declared.windows.Entry.{Entry}
-use Rattle.measure_curve.specs.declared.windows.Window.{Window}
-use Rattle.measure_curve.specs.Scans.{EnterFrom, windows_from, windows}
+use Rattle.packet_windows.specs.declared.windows.Entry.{Entry}
+use Rattle.packet_windows.specs.declared.windows.Window.{Window}
+use Rattle.packet_windows.specs.Scans.{EnterFrom, windows_from, windows}
 use Rattle.measure_curve.proofs.Tests.{passed, most, GoesDown}
 
 -- ---- tests

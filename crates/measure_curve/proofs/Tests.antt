@@ -1,7 +1,7 @@
 -- Sums of bits by a test of the time, and the most bits by a test of the length.
 use Rattle.std.specs.Prelude.{◌≡◌, ℕ, ◌+◌, ◌≤◌, Bool, true, List, [], ◌∷◌, max, if◌then◌else◌}
-use Rattle.measure_curve.specs.declared.windows.Entry.{Entry}
-use Rattle.measure_curve.specs.declared.windows.Window.{Window}
+use Rattle.packet_windows.specs.declared.windows.Entry.{Entry}
+use Rattle.packet_windows.specs.declared.windows.Window.{Window}
 
 -- the bits of the packets whose time passes
 abbrev pub passed : (ℕ → Bool) → List Entry → ℕ

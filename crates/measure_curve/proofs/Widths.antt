@@ -15,11 +15,12 @@ use Rattle.curve_library.proofs.SharesAre.{frac_times, steps_on}
 use Rattle.min_plus.specs.Functions.{zero_q}
 use Rattle.net_model.specs.declared.trace.TracePacket.{TracePacket}
 use Rattle.net_model.specs.Traces.{IsTracePacket}
-use Rattle.measure_curve.specs.declared.windows.Entry.{Entry}
-use Rattle.measure_curve.specs.declared.windows.Window.{Window}
+use Rattle.packet_windows.specs.declared.windows.Entry.{Entry}
+use Rattle.packet_windows.specs.declared.windows.Window.{Window}
 use Rattle.measure_curve.specs.Limits.{grid_of, reach_of}
 use Rattle.measure_curve.specs.Grids.{IsNarrow}
-use Rattle.measure_curve.specs.Scans.{ticks, entry_of, EnterFrom, windows_from, windows}
+use Rattle.packet_windows.specs.Scans.{EnterFrom, windows_from, windows}
+use Rattle.measure_curve.specs.Scans.{ticks, entry_of}
 use Rattle.measure_curve.specs.Staircases.{time_of}
 use Rattle.measure_curve.proofs.WindowSums.{AreOnGrid, le_time}
 

@@ -10,7 +10,8 @@ use Rattle.rational.proofs.Linear.{with3, with4}
 use Rattle.rational.proofs.Over.{le_over, sub_over, le_q_out, le_q_in}
 use Rattle.run_laws.specs.Counts.{within}
 use Rattle.net_model.specs.declared.trace.TracePacket.{TracePacket}
-use Rattle.measure_curve.specs.Scans.{EnterFrom, entry_of, ticks, windows}
+use Rattle.packet_windows.specs.Scans.{EnterFrom, windows}
+use Rattle.measure_curve.specs.Scans.{entry_of, ticks}
 use Rattle.measure_curve.specs.Staircases.{time_of}
 use Rattle.measure_curve.specs.Windows.{bits_in, IsMost}
 use Rattle.measure_curve.proofs.Tests.{passed, most, GoesDown}

@@ -10,7 +10,8 @@ use Rattle.upp_curve.specs.Curve.{SpecCurve}
 use Rattle.upp_curve.specs.Kinds.{flat}
 use Rattle.run_laws.specs.Cards.{whole}
 use Rattle.measure_curve.specs.Windows.{RisesAt}
-use Rattle.measure_curve.specs.declared.windows.Window.{Window}
+use Rattle.packet_windows.specs.declared.windows.Window.{Window}
+use Rattle.packet_windows.specs.Scans.{last_length}
 
 -- ---- the pieces of a curve as the times at which it rises
 -- each starts at 0 or where the curve rises, with its value there, and one starts wherever it rises
@@ -27,11 +28,6 @@ time_of grid n = over (pos n) grid
 
 abbrev pub piece_of : ℕ → Window → Piece
 piece_of grid w = flat (time_of grid w.length) (whole w.bits)
-
--- the length of the last of w and those after it
-abbrev pub last_length : ℕ → List Window → ℕ
-last_length n [] = n
-last_length n (w ∷ ws) = last_length w.length ws
 
 abbrev pub staircase : ℕ → List Window → SpecCurve
 staircase grid ws = record { pieces = map (piece_of grid) ws; tail = Affine (time_of grid (last_length 0 ws)) }

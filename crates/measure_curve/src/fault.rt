@@ -3,7 +3,7 @@
 use std::alloc::AllocError;
 
 /// Why there is no least arrival curve. (The limits are our own choice.)
-#[derive(Debug, Clone, Copy, PartialEq, Eq)]
+#[derive(Clone, Copy)]
 pub enum MeasureFault {
     /// The flow has more than 1,024 packets in the trace.
     TooMany,

@@ -10,10 +10,9 @@ ghost use Rattle.measure_curve.specs.Windows.{of_flow, IsLeastArrival};
 
 use crate::fault::MeasureFault;
 use crate::packets::{count_of, entries_of, grid_of_flow, own_packets};
-use crate::rises::{put_in_order, steps_of};
 use crate::staircase::staircase;
-use crate::windows::windows_of;
 use net_model::{Trace, TracePacket};
+use packet_windows::{put_in_order, steps_of, windows_of};
 use std::alloc::{AllocError, Global};
 use upp_curve::Curve;
 

@@ -6,10 +6,8 @@ mod fault;
 mod laws;
 mod least;
 mod packets;
-mod rises;
 mod staircase;
 mod ticks;
-mod windows;
 
 pub use burst::least_burst;
 pub use fault::MeasureFault;

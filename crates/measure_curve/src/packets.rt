@@ -9,8 +9,8 @@ ghost use Rattle.measure_curve.specs.Scans as scans;
 ghost use Rattle.measure_curve.specs.Windows.{of_flow};
 
 use crate::ticks::ticks;
-use crate::windows::Entry;
 use net_model::TracePacket;
+use packet_windows::Entry;
 use std::alloc::{AllocError, Global};
 use upp_limits::gathered::Gathered;
 

@@ -5,8 +5,8 @@ ghost use Rattle.run_laws.specs.Cards.{whole};
 ghost use Rattle.measure_curve.specs.Staircases as staircases;
 
 use crate::ticks::time_of;
-use crate::windows::Window;
 use fraction128::Frac;
+use packet_windows::{Window, last_length};
 use rational::Extended;
 use std::alloc::{AllocError, Global};
 use upp_curve::affine_segment::{Line, Piece};
@@ -17,15 +17,6 @@ fn level_of(step: &Window) -> Frac
     ensures { result ≡ whole step.now.bits }
 {
     Frac::from_whole(step.bits as i128)
-}
-
-fn last_length(steps: &[Window]) -> u128
-    ensures { result ≡ staircases.last_length 0 steps.now }
-{
-    match steps.last() {
-        Some(step) => step.length,
-        None => 0,
-    }
 }
 
 /// The pieces of steps.

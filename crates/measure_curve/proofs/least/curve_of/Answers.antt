@@ -1,7 +1,7 @@
 use Rattle.std.proofs.Common.{subst, sym, ap, ◌∙◌}
-use Rattle.measure_curve.specs.declared.windows.Window.{Window}
+use Rattle.packet_windows.specs.declared.windows.Window.{Window}
 use Rattle.std.specs.Prelude.{List}
-use Rattle.measure_curve.specs.Scans.{EnterFrom, steps_after, no_window}
+use Rattle.packet_windows.specs.Scans.{EnterFrom, steps_after, no_window}
 use Rattle.measure_curve.specs.Staircases.{Fit}
 use Rattle.measure_curve.proofs.Measured.{sorted_of, steps_fit, measured_ok, rises_ok}
 use Rattle.measure_curve.proofs.Widths.{stand}

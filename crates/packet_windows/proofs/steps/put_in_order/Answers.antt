@@ -1,8 +1,8 @@
 use Rattle.std.proofs.Common.{rules, arith}
 use Rattle.std.proofs.lemmas.List.Sorted.{IsNonDecreasingBy-from_sort_by_key}
-use Rattle.measure_curve.specs.declared.windows.Window.{Window}
-use Rattle.measure_curve.proofs.StepLevels.{lengthen}
-use Rattle.measure_curve.proofs.rises.put_in_order.Goals as goal
+use Rattle.packet_windows.specs.declared.windows.Window.{Window}
+use Rattle.packet_windows.proofs.Loops.{lengthen}
+use Rattle.packet_windows.proofs.steps.put_in_order.Goals as goal
 
 pub returns-clause-ordered : goal.returns-clause-ordered
 returns-clause-ordered c =

@@ -1,6 +1,6 @@
-use Rattle.measure_curve.proofs.Answers.{whole_rest}
-use Rattle.measure_curve.proofs.Loops.{rest_enters}
-use Rattle.measure_curve.proofs.windows.windows_of.Goals as goal
+use Rattle.packet_windows.proofs.Loops.{whole_rest}
+use Rattle.packet_windows.proofs.Loops.{rest_enters}
+use Rattle.packet_windows.proofs.windows.windows_of.Goals as goal
 
 pub push_windows-requires-clause-ordered : goal.push_windows-requires-clause-ordered
 push_windows-requires-clause-ordered c =

@@ -1,6 +1,6 @@
 use Rattle.std.proofs.Common.{◌≡◌, ◌++◌, drop}
-use Rattle.measure_curve.specs.Scans.{steps_after, no_window}
-use Rattle.measure_curve.proofs.rises.steps_of.Given as goal
+use Rattle.packet_windows.specs.Scans.{steps_after, no_window}
+use Rattle.packet_windows.proofs.steps.steps_of.Given as goal
 
 -- what is made, and what is made of those that are left, is all
 abbrev pub invariant-loop-window : goal.invariant-loop-window

@@ -1,5 +1,5 @@
-use Rattle.measure_curve.proofs.Loops.{enter_at}
-use Rattle.measure_curve.proofs.windows.push_windows.Goals as goal
+use Rattle.packet_windows.proofs.Loops.{enter_at}
+use Rattle.packet_windows.proofs.windows.push_windows.Goals as goal
 
 pub overflow_sub-entry : goal.overflow_sub-entry
 overflow_sub-entry c =

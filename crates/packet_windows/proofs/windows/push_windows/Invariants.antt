@@ -1,6 +1,6 @@
 use Rattle.std.proofs.Common.{◌≡◌, ◌++◌, ◌*◌, ◌^◌, ◌≤◌, drop}
-use Rattle.measure_curve.specs.Scans.{windows_from}
-use Rattle.measure_curve.proofs.windows.push_windows.Given as goal
+use Rattle.packet_windows.specs.Scans.{windows_from}
+use Rattle.packet_windows.proofs.windows.push_windows.Given as goal
 
 -- what is made, and what is made of those that are left, is all
 abbrev pub invariant-loop-entry : goal.invariant-loop-entry

@@ -1,25 +1,25 @@
 //! The windows from each packet of a flow to itself and to each later one.
 
 ghost use Rattle.std.specs.Prelude.{◌≡◌, ◌++◌, ◌≤◌, IfOk, OnOk, OnErr, length};
-ghost use Rattle.measure_curve.specs.Scans as scans;
+ghost use Rattle.packet_windows.specs.Scans as scans;
 
 use std::alloc::{AllocError, Global};
 
 /// A packet of the flow.
-#[derive(Debug, Clone, Copy)]
-pub(crate) struct Entry {
+#[derive(Clone, Copy)]
+pub struct Entry {
     /// When it enters, on the grid.
-    pub(crate) time: u128,
-    pub(crate) bits: u32,
+    pub time: u128,
+    pub bits: u32,
 }
 
 /// The time from one packet to another.
-#[derive(Debug, Clone, Copy)]
-pub(crate) struct Window {
+#[derive(Clone, Copy)]
+pub struct Window {
     /// How long it is, on the grid.
-    pub(crate) length: u128,
+    pub length: u128,
     /// The bits of the two packets and of those between them.
-    pub(crate) bits: u64,
+    pub bits: u64,
 }
 
 /// Appends the windows from the packet at `first` to each of these.
@@ -40,7 +40,7 @@ fn push_windows(into: &mut Vec<Window>, first: u128, entries: &[Entry]) -> Resul
 }
 
 /// The windows from each packet to itself and to each later one.
-pub(crate) fn windows_of(alloc: Global, entries: &[Entry]) -> Result<Vec<Window>, AllocError>
+pub fn windows_of(alloc: Global, entries: &[Entry]) -> Result<Vec<Window>, AllocError>
     requires ordered { scans.EnterFrom 0 entries.now }
     requires few { length entries.now ≤ 1024 }
     ensures { IfOk result (λ v. v.items ≡ scans.windows entries.now) }

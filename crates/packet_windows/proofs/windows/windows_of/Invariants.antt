@@ -1,6 +1,6 @@
 use Rattle.std.proofs.Common.{◌≡◌, ◌++◌, drop}
-use Rattle.measure_curve.specs.Scans.{windows}
-use Rattle.measure_curve.proofs.windows.windows_of.Given as goal
+use Rattle.packet_windows.specs.Scans.{windows}
+use Rattle.packet_windows.proofs.windows.windows_of.Given as goal
 
 -- what is made, and what is made of those that are left, is all
 abbrev pub invariant-loop-first : goal.invariant-loop-first
