@@ -5,11 +5,11 @@ use Rattle.std.proofs.lemmas.Grind.{flat_map-append}
 use Rattle.std.proofs.lemmas.List.{map-append, take_more}
 
 -- a text that a word tells of, and what comes behind it
-pub told : (old label text shown rest : List ℕ) {mid new : List ℕ} → mid ≡ old ++ (label ++ text) → text ≡ shown → new ≡ mid ++ rest → new ≡ old ++ (label ++ (shown ++ rest))
-told old label text shown rest is same more =
+pub told : (old label text rest : List ℕ) {mid new : List ℕ} → mid ≡ old ++ (label ++ text) → new ≡ mid ++ rest → new ≡ old ++ (label ++ (text ++ rest))
+told old label text rest is more =
     more
-    ∙ (ap (λ (xs : List ℕ). xs ++ rest) (is ∙ ap (λ (xs : List ℕ). old ++ (label ++ xs)) same)
-    ∙ (append_assoc old (label ++ shown) rest ∙ ap (λ (xs : List ℕ). old ++ xs) (append_assoc label shown rest)))
+    ∙ (ap (λ (xs : List ℕ). xs ++ rest) is
+    ∙ (append_assoc old (label ++ text) rest ∙ ap (λ (xs : List ℕ). old ++ xs) (append_assoc label text rest)))
 
 pub shown_next : {X Y Z : Type 0} (show : X → Y) (make : Z → Y) (xs more : List X) (x : X) (zs : List Z) (k : ℕ) (d : Z) → k < length zs
     → map show xs ≡ map make (take k zs) → more ≡ xs ++ x ∷ [] → show x ≡ make (get_or zs k d) → map show more ≡ map make (take (k + 1) zs)

@@ -6,7 +6,7 @@ ghost use Rattle.serde_json.specs.View.{view, items_of, members_view};
 ghost use Rattle.std.specs.String.{string_bytes};
 ghost use Rattle.table_cells.specs.Amounts.{IsAmount};
 ghost use Rattle.bounds_report.specs.Data as spec;
-ghost use Rattle.bounds_report.specs.Numbers.{exact, is_met};
+ghost use Rattle.bounds_report.specs.Numbers.{exact, is_met, microseconds, or_none};
 ghost use Rattle.bounds_report.specs.Ranges.{HasDeadlineInRange};
 
 use crate::numbers::{count_text, exact_text, is_met, load_text, time_text};
@@ -28,6 +28,32 @@ fn put_text(
     put(members, alloc, key, Value::String(text))
 }
 
+// Puts a name among the members of an object.
+fn put_name(
+    alloc: Global,
+    members: &mut Map<String, Value>,
+    key: &str,
+    name: &str,
+) -> Result<(), AllocError>
+    ensures { OnOk result (members_view members.new.entries
+        ≡ with_member key.now (string name.now) (members_view members.old.entries)) }
+{
+    put_text(alloc, members, key, String::from_str(alloc, name)?)
+}
+
+// Puts a time among the members of an object.
+fn put_time(
+    alloc: Global,
+    members: &mut Map<String, Value>,
+    key: &str,
+    time: Option<u64>,
+) -> Result<(), AllocError>
+    ensures { OnOk result (members_view members.new.entries
+        ≡ with_member key.now (string (or_none microseconds time)) (members_view members.old.entries)) }
+{
+    put_text(alloc, members, key, time_text(alloc, time)?)
+}
+
 // Puts the members of a queue into an object that has none.
 #[tactic(auto, unfolding(crate::specs::Data::queue_data))]
 fn put_queue(
@@ -39,9 +65,9 @@ fn put_queue(
     ensures { OnOk result (object (members_view members.new.entries) ≡ spec.queue_data row.now) }
 {
     put_text(alloc, members, "backlog", count_text(alloc, row.backlog)?)?;
-    put_text(alloc, members, "delay", time_text(alloc, row.delay)?)?;
+    put_time(alloc, members, "delay", row.delay)?;
     put_text(alloc, members, "load", load_text(alloc, row.load)?)?;
-    put_text(alloc, members, "name", String::from_str(alloc, row.name)?)?;
+    put_name(alloc, members, "name", row.name)?;
     put(members, alloc, "queue", Value::from(row.queue))
 }
 
@@ -81,9 +107,9 @@ fn put_branch(
     requires deadline { HasDeadlineInRange row.now.deadline }
     ensures { OnOk result (object (members_view members.new.entries) ≡ spec.branch_data row.now) }
 {
-    put_text(alloc, members, "bound", time_text(alloc, row.bound)?)?;
-    put_text(alloc, members, "link", String::from_str(alloc, row.link)?)?;
-    put_text(alloc, members, "port", String::from_str(alloc, row.port)?)?;
+    put_time(alloc, members, "bound", row.bound)?;
+    put_name(alloc, members, "link", row.link)?;
+    put_name(alloc, members, "port", row.port)?;
     match row.deadline {
         Some(deadline) => put_deadline(alloc, members, row.bound, deadline),
         None => Ok(()),

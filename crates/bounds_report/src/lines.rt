@@ -5,6 +5,7 @@ ghost use Rattle.std.specs.List.{flat_map};
 ghost use Rattle.std.specs.Fmt.{decimal};
 ghost use Rattle.std.specs.String.{string_bytes};
 ghost use Rattle.bounds_report.specs.Lines as spec;
+ghost use Rattle.bounds_report.specs.Numbers.{microseconds, or_none, thousandths};
 ghost use Rattle.bounds_report.specs.Ranges.{HasDeadlineInRange};
 
 use crate::numbers::{count_text, exact_text, is_met, load_text, time_text};
@@ -27,6 +28,42 @@ fn push_number(alloc: Global, into: &mut String, label: &str, number: u64) -> Re
     push_told(into, label, &format!(in alloc; "{number}")?)
 }
 
+// Puts a load behind what tells of it.
+fn push_load(
+    alloc: Global,
+    into: &mut String,
+    label: &str,
+    load: Option<u128>,
+) -> Result<(), AllocError>
+    ensures { OnOk result (string_bytes into.new ≡ string_bytes into.old ++ (label.now ++ or_none thousandths load)) }
+{
+    push_told(into, label, &load_text(alloc, load)?)
+}
+
+// Puts a time behind what tells of it.
+fn push_time(
+    alloc: Global,
+    into: &mut String,
+    label: &str,
+    time: Option<u64>,
+) -> Result<(), AllocError>
+    ensures { OnOk result (string_bytes into.new ≡ string_bytes into.old ++ (label.now ++ or_none microseconds time)) }
+{
+    push_told(into, label, &time_text(alloc, time)?)
+}
+
+// Puts a count of bits behind what tells of it.
+fn push_count(
+    alloc: Global,
+    into: &mut String,
+    label: &str,
+    count: Option<u64>,
+) -> Result<(), AllocError>
+    ensures { OnOk result (string_bytes into.new ≡ string_bytes into.old ++ (label.now ++ or_none decimal count)) }
+{
+    push_told(into, label, &count_text(alloc, count)?)
+}
+
 // The line of a queue.
 #[tactic(auto, unfolding(crate::specs::Lines::queue_line))]
 fn push_queue(alloc: Global, into: &mut String, row: &QueueRow) -> Result<(), AllocError>
@@ -34,9 +71,9 @@ fn push_queue(alloc: Global, into: &mut String, row: &QueueRow) -> Result<(), Al
 {
     push_told(into, "port ", row.name)?;
     push_number(alloc, into, " ", row.queue)?;
-    push_told(into, " load ", &load_text(alloc, row.load)?)?;
-    push_told(into, " delay ", &time_text(alloc, row.delay)?)?;
-    push_told(into, " backlog ", &count_text(alloc, row.backlog)?)?;
+    push_load(alloc, into, " load ", row.load)?;
+    push_time(alloc, into, " delay ", row.delay)?;
+    push_count(alloc, into, " backlog ", row.backlog)?;
     into.push_str("\n")?;
     Ok(())
 }
@@ -71,7 +108,7 @@ fn push_branch(alloc: Global, into: &mut String, row: &BranchRow) -> Result<(), 
 {
     push_told(into, "branch ", row.link)?;
     push_told(into, " ", row.port)?;
-    push_told(into, " bound ", &time_text(alloc, row.bound)?)?;
+    push_time(alloc, into, " bound ", row.bound)?;
     push_deadline(alloc, into, row.bound, row.deadline)?;
     into.push_str("\n")
 }

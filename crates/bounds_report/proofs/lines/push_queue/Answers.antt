@@ -1,4 +1,4 @@
-use Rattle.std.proofs.Common.{refl, ◌∙◌, ◌++◌}
+use Rattle.std.proofs.Common.{◌++◌}
 use Rattle.std.specs.Fmt.{decimal}
 use Rattle.std.specs.Prelude.{codes}
 use Rattle.std.specs.String.{string_bytes}
@@ -18,8 +18,8 @@ returns c =
     let from_delay = codes " delay " ++ (delay ++ from_backlog) in
     let from_load = codes " load " ++ (load ++ from_delay) in
     let from_queue = codes " " ++ (decimal row.queue ++ from_load) in
-    told (string_bytes c.args.into.now) (codes "port ") row.name.now row.name.now from_queue c.in_ok-push_told.ensures refl
-    (told (string_bytes c.push_told.new.into) (codes " ") (decimal row.queue) (decimal row.queue) from_load c.in_ok-push_number.ensures refl
-    (told (string_bytes c.push_number.new.into) (codes " load ") c.deref.result.now load from_delay c.in_ok-push_told-2.ensures (c.deref.ensures ∙ c.in_ok-load_text.ensures)
-    (told (string_bytes c.push_told-2.new.into) (codes " delay ") c.deref-2.result.now delay from_backlog c.in_ok-push_told-3.ensures (c.deref-2.ensures ∙ c.in_ok-time_text.ensures)
-    (told (string_bytes c.push_told-3.new.into) (codes " backlog ") c.deref-3.result.now backlog (codes "\n") c.in_ok-push_told-4.ensures (c.deref-3.ensures ∙ c.in_ok-count_text.ensures) c.in_ok-push_str.ensures.bytes))))
+    told (string_bytes c.args.into.now) (codes "port ") row.name.now from_queue c.in_ok-push_told.ensures
+    (told (string_bytes c.push_told.new.into) (codes " ") (decimal row.queue) from_load c.in_ok-push_number.ensures
+    (told (string_bytes c.push_number.new.into) (codes " load ") load from_delay c.in_ok-push_load.ensures
+    (told (string_bytes c.push_load.new.into) (codes " delay ") delay from_backlog c.in_ok-push_time.ensures
+    (told (string_bytes c.push_time.new.into) (codes " backlog ") backlog (codes "\n") c.in_ok-push_count.ensures c.in_ok-push_str.ensures.bytes))))
