@@ -9,10 +9,10 @@ use Rattle.net_edits.specs.Edited.{edited}
 use Rattle.net_edits.specs.Replies.{IsOverNone}
 use Rattle.net_edits.specs.declared.fault.EditFault.{EditFault}
 use Rattle.net_edits.specs.declared.fault.EditFault.TheVariants.{UnknownName, NameTaken, BadValue, LimitReached, Cycle, TooMany, TooWide, NothingToUndo, NoMemory}
-use Rattle.cell_store.specs.edit_store.Stored.{AreTouched}
+use Rattle.cell_store.specs.edit_store.Stored.{AreTouched, AreLost}
 use Rattle.cell_store.specs.edit_store.Applied.{Gives, IsPlanned, IsUnplanned, IsRefused, before_cells}
 use Rattle.cell_store.specs.edit_store.Faults.{EditWants}
-use Rattle.cell_store.proofs.edit_store.Outcomes.{counts, bounds, cell_refused, taken, unplanned_refused, evaluated, given_none}
+use Rattle.cell_store.proofs.edit_store.Outcomes.{counts, bounds, cell_refused, taken, unplanned_refused, evaluated}
 use Rattle.cell_store.proofs.edit_store.store.Store.step.Given.{Over}
 use Rattle.cell_store.proofs.edit_store.store.Store.step.Goals.{After-advance}
 use Rattle.cell_store.proofs.edit_store.store.Store.step.Goals as goal
@@ -91,32 +91,6 @@ returns-in_err-net-clause-kept g c = in_any c.from_residual.result _ refl
 pub returns-in_err-net-clause-idle : goal.returns-in_err-net-clause-idle
 returns-in_err-net-clause-idle g c = λ none. refl
 
-pub returns-in_err-gone-clause-refused : goal.returns-in_err-gone-clause-refused
-returns-in_err-gone-clause-refused g c =
-    let p = err_from_is_err_and c.from_residual-in_err-gone.result c.from_residual-in_err-gone.ensures.1 in
-    on_err c.from_residual-in_err-gone.result (IsRefused c.args.self.now c.args.edit.now) p.0 NoMemory p.1 p.2 c.requires.edit
-
-pub returns-in_err-gone-clause-memory : goal.returns-in_err-gone-clause-memory
-returns-in_err-gone-clause-memory g c =
-    let p = err_from_is_err_and c.from_residual-in_err-gone.result c.from_residual-in_err-gone.ensures.1 in
-    on_err c.from_residual-in_err-gone.result _ p.0 NoMemory p.1 p.2
-    (before_cells (none_yet (g.E.Evaluator.count c.args.eval.now))
-    (subst (λ (n : Net). IsOverNone (edited n c.args.edit.now)) (ap (λ s. s.present) c.self.view_is)
-    (given_none _ c.in_ok-net.field-0.net c.args.edit.now c.in_ok-net.ensures.planned.gives)))
-
-pub returns-in_err-replaced-clause-refused : goal.returns-in_err-replaced-clause-refused
-returns-in_err-replaced-clause-refused g c =
-    let p = err_from_is_err_and c.from_residual-in_err-replaced.result c.from_residual-in_err-replaced.ensures.1 in
-    on_err c.from_residual-in_err-replaced.result (IsRefused c.args.self.now c.args.edit.now) p.0 NoMemory p.1 p.2 c.requires.edit
-
-pub returns-in_err-replaced-clause-memory : goal.returns-in_err-replaced-clause-memory
-returns-in_err-replaced-clause-memory g c =
-    let p = err_from_is_err_and c.from_residual-in_err-replaced.result c.from_residual-in_err-replaced.ensures.1 in
-    on_err c.from_residual-in_err-replaced.result _ p.0 NoMemory p.1 p.2
-    (before_cells (none_yet (g.E.Evaluator.count c.args.eval.now))
-    (subst (λ (n : Net). IsOverNone (edited n c.args.edit.now)) (ap (λ s. s.present) c.self.view_is)
-    (given_none _ c.in_ok-net.field-0.net c.args.edit.now c.in_ok-net.ensures.planned.gives)))
-
 pub returns-in-Ok-clause-idle : goal.returns-in-Ok-clause-idle
 returns-in-Ok-clause-idle g c =
     let here = (goal.at.returns-in-Ok-clause-idle g c).After-advance in
@@ -128,8 +102,13 @@ returns-clause-idle g c =
     λ none. absurd (none (evaluated c.args.self.now.present c.args.edit.now c.in_ok-net.field-0.net c.deref-2.result.now (gives g here) (are g here)))
 
 pub advance-requires-clause-back : goal.advance-requires-clause-back
-advance-requires-clause-back g c =
-    c.in_ok-replaced.ensures c.in_ok-net.field-0.net c.in_ok-net.ensures.planned.gives ∙ ap (λ s. s.present) c.self.view_is
+advance-requires-clause-back g c = c.in_ok-net.ensures.back ∙ ap (λ s. s.present) c.self.view_is
+
+pub advance-requires-clause-gone : goal.advance-requires-clause-gone
+advance-requires-clause-gone g c =
+    subst (λ (n : Net). AreLost n c.in_ok-net.field-0.net c.deref.result.now) (ap (λ s. s.present) c.self.view_is)
+    (subst (λ (cells : List Cell). AreLost c.self.inside.present c.in_ok-net.field-0.net cells) (sym c.deref.ensures.value)
+    c.in_ok-net.ensures.lost)
 
 -- ---- what is counted
 pub returns-in-Ok-clause-exact : goal.returns-in-Ok-clause-exact
