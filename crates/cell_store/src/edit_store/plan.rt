@@ -8,8 +8,10 @@ ghost use Rattle.net_edits.specs.Replies.{IsOverNone};
 ghost use Rattle.cell_rules.specs.Finding.{HaveSameCellsBut};
 ghost use Rattle.cell_store.specs.edit_store.Stored.{AreTouched, AreLost};
 ghost use Rattle.cell_store.specs.edit_store.Applied.{Gives, IsPlanned, IsUnplanned};
+ghost use Rattle.cell_store.specs.edit_store.Replaced.{put_back};
 
 use crate::edit_store::faults::graph_fault;
+use crate::edit_store::replaced::{Replaced, replaced_by};
 use crate::edit_store::site::{edits_are_made_at_one_site, edits_have_one_site, site_of};
 use cell_rules::{Site, cells_of, gone_cells, touched_cells};
 use net_cells::Cell;
@@ -18,11 +20,13 @@ use net_model::net_graph::order;
 use net_model::{Edit, Network};
 use std::alloc::{AllocError, Global};
 
-/// An edited network, and the cells that the edit touches.
+/// An edited network, the cells that the edit touches, those that it takes away, and what it replaced.
 #[derive(Drop)]
 pub(crate) struct Planned {
     pub net: Network,
     pub touched: Vec<Cell>,
+    pub gone: Vec<Cell>,
+    pub replaced: Replaced,
 }
 
 // The cells of a network that another one lacks, where they share all others but those of a number.
@@ -41,8 +45,8 @@ fn lost_of(
     Ok(gone)
 }
 
-/// The cells of a network that an edit takes away: they are of the server or the flow that the edit changes.
-pub(crate) fn lost_cells(
+// The cells of a network that an edit takes away: they are of the server or the flow that the edit changes.
+fn lost_cells(
     alloc: Global,
     old: &Network,
     edit: &Edit,
@@ -80,7 +84,32 @@ fn touched_by(
     Ok(touched)
 }
 
-// The touched cells of a network that an edit gives; refused where it has a cycle.
+// What an edit does by the network that it gives, and by the order of its servers.
+fn planned_by(
+    alloc: Global,
+    present: &Network,
+    edit: &Edit,
+    net: Network,
+    order: &[u32],
+) -> Result<Planned, AllocError>
+    requires order { IsOrder net order.now }
+    requires gives { Gives present.now edit.now net }
+    ensures planned { IfOk result (λ p. IsPlanned present.now edit.now p.net p.touched.items) }
+    ensures lost { IfOk result (λ p. AreLost present.now p.net p.gone.items) }
+    ensures back { IfOk result (λ p. put_back p.replaced p.net ≡ present.now) }
+{
+    let touched = touched_by(alloc, present, edit, &net, order)?;
+    let gone = lost_cells(alloc, present, edit, &net)?;
+    let replaced = replaced_by(present, edit)?;
+    Ok(Planned {
+        net,
+        touched,
+        gone,
+        replaced,
+    })
+}
+
+// What an edit does by the network that it gives; refused where it has a cycle.
 fn ordered_plan(
     alloc: Global,
     present: &Network,
@@ -89,22 +118,26 @@ fn ordered_plan(
 ) -> Result<Planned, EditFault>
     requires { Gives present.now edit.now net }
     ensures planned { IfOk result (λ p. IsPlanned present.now edit.now p.net p.touched.items) }
+    ensures lost { IfOk result (λ p. AreLost present.now p.net p.gone.items) }
+    ensures back { IfOk result (λ p. put_back p.replaced p.net ≡ present.now) }
     ensures refused { IfErr result (IsUnplanned present.now edit.now) }
 {
     match order(alloc, &net) {
         Ok(servers) => {
-            let touched = touched_by(alloc, present, edit, &net, &servers)?;
-            Ok(Planned { net, touched })
+            let planned = planned_by(alloc, present, edit, net, &servers)?;
+            Ok(planned)
         }
         Err(fault) => Err(graph_fault(fault)),
     }
 }
 
-/// The network that an edit other than the undo makes of another one, and the touched cells; refused for the first
+/// The network that an edit other than the undo makes of another one, with all that the edit does; refused for the first
 /// cause but a cell over a limit. Where that is want of memory, the curve that the edit makes is over no limit.
 pub(crate) fn plan(alloc: Global, present: &Network, edit: &Edit) -> Result<Planned, EditFault>
     requires { edit.now ≢ Undo }
     ensures planned { IfOk result (λ p. IsPlanned present.now edit.now p.net p.touched.items) }
+    ensures lost { IfOk result (λ p. AreLost present.now p.net p.gone.items) }
+    ensures back { IfOk result (λ p. put_back p.replaced p.net ≡ present.now) }
     ensures refused { IfErr result (IsUnplanned present.now edit.now) }
     ensures memory { result ≡ Err EditFault.NoMemory → IsOverNone (edited present.now edit.now) }
 {

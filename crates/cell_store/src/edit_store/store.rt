@@ -1,8 +1,8 @@
 //! The store.
 
 use crate::edit_store::faults::analysis_fault;
-use crate::edit_store::plan::{Planned, lost_cells, plan};
-use crate::edit_store::replaced::{Replaced, no_network, put_back, replaced_by};
+use crate::edit_store::plan::{Planned, plan};
+use crate::edit_store::replaced::{Replaced, no_network, put_back};
 use crate::{Values, edited_values, made_anew};
 use net_cells::cell_table::{AnalysisFault, CellValue, Evaluator, Table};
 use net_cells::{Cell, cells};
@@ -195,9 +195,12 @@ impl<V: CellValue + Drop> Store<V> {
         ensures idle { ¬ (IsEvaluated self.old.present edit.now) → E.count eval.new ≡ E.count eval.old }
         ensures same { E.counter eval.new ≡ E.counter eval.old }
     {
-        let Planned { net, touched } = plan(self.alloc, &self.present, edit)?;
-        let gone = lost_cells(self.alloc, &self.present, edit, &net)?;
-        let replaced = replaced_by(&self.present, edit)?;
+        let Planned {
+            net,
+            touched,
+            gone,
+            replaced,
+        } = plan(self.alloc, &self.present, edit)?;
         match self.advance(net, replaced, &gone, &touched, eval) {
             Ok(()) => Ok(touched.len() as u32),
             Err(fault) => Err(analysis_fault(fault)),

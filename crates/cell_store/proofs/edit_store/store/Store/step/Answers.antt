@@ -1,7 +1,7 @@
 use Rattle.std.proofs.Common.{rules, arith, ◌≡◌, ℕ, Ok, Err, ap, ◌∙◌, sym, subst, refl, ◌+◌, ◌-◌, ◌≤◌, List, sum_by}
 use Rattle.std.specs.Prelude.{Result, IfErr, OnErr}
 use Rattle.std.proofs.lemmas.Grind.{common_steps}
-use Rattle.std.proofs.lemmas.Result.{err_from_is_err_and}
+use Rattle.std.proofs.lemmas.Result.{IfOk-from_err, err_from_is_err_and}
 use Rattle.net_model.specs.Networks.{Net}
 use Rattle.net_cells.specs.declared.cell.Cell.{Cell}
 use Rattle.net_cells.specs.Work.{work}
@@ -9,10 +9,13 @@ use Rattle.net_edits.specs.Edited.{edited}
 use Rattle.net_edits.specs.Replies.{IsOverNone}
 use Rattle.net_edits.specs.declared.fault.EditFault.{EditFault}
 use Rattle.net_edits.specs.declared.fault.EditFault.TheVariants.{UnknownName, NameTaken, BadValue, LimitReached, Cycle, TooMany, TooWide, NothingToUndo, NoMemory}
-use Rattle.cell_store.specs.edit_store.Stored.{AreTouched}
-use Rattle.cell_store.specs.edit_store.Applied.{Gives, IsPlanned, IsUnplanned, IsRefused, before_cells}
-use Rattle.cell_store.specs.edit_store.Faults.{EditWants}
-use Rattle.cell_store.proofs.edit_store.Outcomes.{counts, bounds, cell_refused, taken, unplanned_refused, evaluated, given_none}
+use Rattle.cell_store.specs.Placed.{placed}
+use Rattle.cell_store.specs.edit_store.Stored.{AreTouched, AreLost}
+use Rattle.cell_store.specs.edit_store.Applied.{Gives, IsPlanned, IsUnplanned, IsRefused, EndsInEdit, before_cells, in_cells}
+use Rattle.net_cells.specs.declared.cell_table.fault.AnalysisFault.{AnalysisFault}
+use Rattle.net_cells.specs.declared.cell_table.fault.AnalysisFault.TheVariants as analysis
+use Rattle.cell_store.specs.edit_store.Faults.{EditWants, analysis_fault}
+use Rattle.cell_store.proofs.edit_store.Outcomes.{counts, bounds, cell_refused, taken, unplanned_refused, evaluated}
 use Rattle.cell_store.proofs.edit_store.store.Store.step.Given.{Over}
 use Rattle.cell_store.proofs.edit_store.store.Store.step.Goals.{After-advance}
 use Rattle.cell_store.proofs.edit_store.store.Store.step.Goals as goal
@@ -91,32 +94,6 @@ returns-in_err-net-clause-kept g c = in_any c.from_residual.result _ refl
 pub returns-in_err-net-clause-idle : goal.returns-in_err-net-clause-idle
 returns-in_err-net-clause-idle g c = λ none. refl
 
-pub returns-in_err-gone-clause-refused : goal.returns-in_err-gone-clause-refused
-returns-in_err-gone-clause-refused g c =
-    let p = err_from_is_err_and c.from_residual-in_err-gone.result c.from_residual-in_err-gone.ensures.1 in
-    on_err c.from_residual-in_err-gone.result (IsRefused c.args.self.now c.args.edit.now) p.0 NoMemory p.1 p.2 c.requires.edit
-
-pub returns-in_err-gone-clause-memory : goal.returns-in_err-gone-clause-memory
-returns-in_err-gone-clause-memory g c =
-    let p = err_from_is_err_and c.from_residual-in_err-gone.result c.from_residual-in_err-gone.ensures.1 in
-    on_err c.from_residual-in_err-gone.result _ p.0 NoMemory p.1 p.2
-    (before_cells (none_yet (g.E.Evaluator.count c.args.eval.now))
-    (subst (λ (n : Net). IsOverNone (edited n c.args.edit.now)) (ap (λ s. s.present) c.self.view_is)
-    (given_none _ c.in_ok-net.field-0.net c.args.edit.now c.in_ok-net.ensures.planned.gives)))
-
-pub returns-in_err-replaced-clause-refused : goal.returns-in_err-replaced-clause-refused
-returns-in_err-replaced-clause-refused g c =
-    let p = err_from_is_err_and c.from_residual-in_err-replaced.result c.from_residual-in_err-replaced.ensures.1 in
-    on_err c.from_residual-in_err-replaced.result (IsRefused c.args.self.now c.args.edit.now) p.0 NoMemory p.1 p.2 c.requires.edit
-
-pub returns-in_err-replaced-clause-memory : goal.returns-in_err-replaced-clause-memory
-returns-in_err-replaced-clause-memory g c =
-    let p = err_from_is_err_and c.from_residual-in_err-replaced.result c.from_residual-in_err-replaced.ensures.1 in
-    on_err c.from_residual-in_err-replaced.result _ p.0 NoMemory p.1 p.2
-    (before_cells (none_yet (g.E.Evaluator.count c.args.eval.now))
-    (subst (λ (n : Net). IsOverNone (edited n c.args.edit.now)) (ap (λ s. s.present) c.self.view_is)
-    (given_none _ c.in_ok-net.field-0.net c.args.edit.now c.in_ok-net.ensures.planned.gives)))
-
 pub returns-in-Ok-clause-idle : goal.returns-in-Ok-clause-idle
 returns-in-Ok-clause-idle g c =
     let here = (goal.at.returns-in-Ok-clause-idle g c).After-advance in
@@ -128,8 +105,13 @@ returns-clause-idle g c =
     λ none. absurd (none (evaluated c.args.self.now.present c.args.edit.now c.in_ok-net.field-0.net c.deref-2.result.now (gives g here) (are g here)))
 
 pub advance-requires-clause-back : goal.advance-requires-clause-back
-advance-requires-clause-back g c =
-    c.in_ok-replaced.ensures c.in_ok-net.field-0.net c.in_ok-net.ensures.planned.gives ∙ ap (λ s. s.present) c.self.view_is
+advance-requires-clause-back g c = c.in_ok-net.ensures.back ∙ ap (λ s. s.present) c.self.view_is
+
+pub advance-requires-clause-gone : goal.advance-requires-clause-gone
+advance-requires-clause-gone g c =
+    subst (λ (n : Net). AreLost n c.in_ok-net.field-0.net c.deref.result.now) (ap (λ s. s.present) c.self.view_is)
+    (subst (λ (cells : List Cell). AreLost c.self.inside.present c.in_ok-net.field-0.net cells) (sym c.deref.ensures.value)
+    c.in_ok-net.ensures.lost)
 
 -- ---- what is counted
 pub returns-in-Ok-clause-exact : goal.returns-in-Ok-clause-exact
@@ -150,3 +132,29 @@ returns-clause-refused g c =
 
 pub returns-clause-within : goal.returns-clause-within
 returns-clause-within g c = within g (goal.at.returns-clause-within g c).After-advance
+
+-- ---- refused by a cell, or where there is no memory for one
+wants_cells : (P : Type 0) (why : AnalysisFault) → (why ≡ analysis.NoMemory → P) → EditWants P (analysis_fault why)
+wants_cells P (analysis.TooMany cell) h = tt
+wants_cells P (analysis.TooWide cell) h = tt
+wants_cells P analysis.NoMemory h = h refl
+
+pub returns-clause-memory : goal.returns-clause-memory
+returns-clause-memory g c =
+    let here = (goal.at.returns-clause-memory g c).After-advance in
+    let ends = EndsInEdit c.args.self.now.present c.args.edit.now (placed g.V.CellValue.meaning c.args.self.now.values.newest)
+    (g.E.Evaluator.count c.advance.new.eval - g.E.Evaluator.count c.args.eval.now) in
+    subst (λ (f : EditFault). EditWants ends f) (sym c.analysis_fault.ensures)
+    (wants_cells ends c.in-Err.fault (λ lack. in_cells (record {
+      net = c.in_ok-net.field-0.net;
+      gives = gives g here;
+      touched = c.deref-2.result.now;
+      are = are g here;
+      ends = c.in-Err.ensures.memory (ap Err lack);
+    })))
+
+pub returns-in_err-net-clause-taken : goal.returns-in_err-net-clause-taken
+returns-in_err-net-clause-taken g c = IfOk-from_err c.from_residual.result _ c.from_residual.ensures.0
+
+pub returns-in_err-net-clause-exact : goal.returns-in_err-net-clause-exact
+returns-in_err-net-clause-exact g c = IfOk-from_err c.from_residual.result _ c.from_residual.ensures.0
