@@ -13,6 +13,7 @@ use Rattle.tree_network.specs.declared.network.Network.{Network}
 use Rattle.tree_bounds.specs.Tables.{IsTableOf}
 use Rattle.tree_bounds.specs.declared.analysis.Table.{Table}
 use Rattle.tree_bounds.proofs.guarantee.Caused.{none_has_a_cause}
+use Rattle.tree_bounds.proofs.guarantee.LoadOrLimit.{none_has_a_load_or_limit}
 use Rattle.tree_bounds.proofs.guarantee.Rooted.{none_has_a_root}
 use Rattle.bounds_report.specs.Ranges.{HasDeadlineInRange}
 use Rattle.bounds_report.specs.declared.rows.BranchRow.{BranchRow}
@@ -48,6 +49,7 @@ reported d net form table report (Ok r) w bounded tells timed h =
           (written_runs_are_runs overhead texts keys net run rounded keeps);
       causes = λ s q inside queue none. none_has_a_cause net table s q bounded inside queue none;
       roots = λ s q inside queue none. none_has_a_root net table s q w bounded inside queue none;
+      loads = λ s q inside queue none. none_has_a_load_or_limit net table s q w bounded inside queue none;
       is = h;
     }
 

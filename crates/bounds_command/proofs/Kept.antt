@@ -2,8 +2,7 @@
 -- up.
 use Rattle.std.proofs.Common.{◌≡◌, ℕ, zero, suc, pred, pos, ◌*ℤ◌, true, nat_le, ◌<◌, ◌≤◌, ◌+◌, ◌*◌, ◌/◌, Option, Some, None, List, [], ◌∷◌, length, get_or, refl, sym, ◌∙◌, ap, subst, arith, inl, inr}
 use Rattle.std.specs.Prelude.{slice_get, option_map, All}
-use Rattle.std.proofs.lemmas.Bool.{cases_lt}
-use Rattle.std.proofs.lemmas.Bool.Decides.{nat_tests}
+use Rattle.std.proofs.lemmas.Bool.{cases_lt, leb-true}
 use Rattle.std.proofs.lemmas.Int.{ints}
 use Rattle.std.proofs.lemmas.List.{get_or_past, length-map}
 use Rattle.std.proofs.lemmas.Option.{slice_get_within, get_or_from_slice_get}
@@ -142,7 +141,7 @@ met_covers bound top n h =
     ((le_frac (pos bound *ℤ pos 1) 999999 (pos top) n).1 (omega (arith, ints, h)))
 
 below_of_test : (a b : ℕ) → nat_le a b ≡ true → a ≤ b
-below_of_test a b e = grind (arith, nat_tests)
+below_of_test a b e = leb-true a b e
 
 amount_covers : (bound top bottom : ℕ) → 0 < bottom → bound * bottom ≤ top * 1000000
     → micros bound ≤ℚ frac (pos top) (pred bottom)

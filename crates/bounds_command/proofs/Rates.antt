@@ -1,10 +1,9 @@
 -- The rates of links at queues, as they are added up.
-use Rattle.std.proofs.Common.{◌≡◌, ◌≢◌, ◌⊎◌, ℕ, ◌<◌, ◌≤◌, ◌+◌, ◌*◌, ◌^◌, Bool, true, false, List, [], ◌∷◌, ◌++◌, length, get_or, set, take, map, replicate, Vec, refl, sym, ◌∙◌, ap, ap₂, subst, arith, inl, inr, length-append}
+use Rattle.std.proofs.Common.{◌≡◌, ◌≢◌, ◌⊎◌, ℕ, ◌<◌, ◌≤◌, ◌+◌, ◌*◌, ◌^◌, Bool, true, false, List, [], ◌∷◌, ◌++◌, length, get_or, set, take, map, replicate, Vec, refl, sym, ◌∙◌, ap, ap₂, subst, arith, inl, inr, length-append, ◌==◌}
 use Rattle.std.specs.Prelude.{sum_by, All}
 use Rattle.std.specs.Int.{div_ceil}
 use Rattle.std.proofs.Math.Nat.{div-le_self, mul-le-mul_right}
-use Rattle.std.proofs.lemmas.Bool.{cases_lt, cases_eq}
-use Rattle.std.proofs.lemmas.Bool.Decides.{nat_tests}
+use Rattle.std.proofs.lemmas.Bool.{cases_lt, cases_eq, cond-true, cond-false, and_from, and_left, and_right, eq-eqb, ne_eqb}
 use Rattle.std.proofs.lemmas.List.{length-replicate, get_or-replicate, get_or_append_left, get_or_at, get_or-map, map-set, get_or-set_same, get_or-set_other, length-set, length-map, take_all, get_or_default}
 use Rattle.std.proofs.lemmas.List.Sums.{sum_by_more, sum_by-le, sum_by-take-le}
 use Rattle.tree_network.specs.Networks.{no_node, longest_frame, IsNetwork, IsLink, IsNodeAt}
@@ -88,14 +87,16 @@ at_more rates node rate i k h l = by_port (cases_eq i node.port)
         + rate =
         ap (λ row. get_or row node.queue 0) (own rates node.port node.queue rate h)
         ∙ get_or-set_same (get_or rates node.port []) node.queue (at rates node.port node.queue + rate) 0 l in
-        let same : brought i k rate node ≡ rate = grind (arith, nat_tests) in
+        let same : brought i k rate node ≡ rate = cond-true (is_at i k node) rate 0
+        (and_from (node.port == i) (node.queue == k) (eq-eqb node.port i (sym e)) (eq-eqb node.queue k (sym f))) in
         ap₂ (λ a b. at (with_more rates node.port node.queue rate) a b) e f ∙ new
         ∙ ap₂ (λ a b. at rates a b + rate) (sym e) (sym f) ∙ ap (λ r. at rates i k + r) (sym same)
     by_queue e (inr n) =
         let new : at (with_more rates node.port node.queue rate) node.port k ≡ at rates node.port k =
         ap (λ row. get_or row k 0) (own rates node.port node.queue rate h)
         ∙ get_or-set_other (get_or rates node.port []) node.queue k (at rates node.port node.queue + rate) 0 n in
-        let nothing : brought i k rate node ≡ 0 = grind (arith, nat_tests) in
+        let nothing : brought i k rate node ≡ 0 = cond-false (is_at i k node) rate 0
+        (and_right (node.port == i) (node.queue == k) (ne_eqb node.queue k (λ same. n (sym same)))) in
         let moved = ap (λ a. at (with_more rates node.port node.queue rate) a k) e in
         let back = ap (λ a. at rates a k) (sym e) in
         omega (arith, moved, new, back, nothing)
@@ -105,7 +106,8 @@ at_more rates node rate i k h l = by_port (cases_eq i node.port)
     by_port (inl e) = by_queue e (cases_eq k node.queue)
     by_port (inr n) =
         let new = ap (λ row. get_or row k 0) (beside rates node.port node.queue rate i n) in
-        let nothing : brought i k rate node ≡ 0 = grind (arith, nat_tests) in
+        let nothing : brought i k rate node ≡ 0 = cond-false (is_at i k node) rate 0
+        (and_left (node.port == i) (node.queue == k) (ne_eqb node.port i (λ same. n (sym same)))) in
         omega (arith, new, nothing)
 
 -- as the code keeps lists

@@ -16,6 +16,7 @@ use Rattle.tree_network.specs.Rings.{IsNetworkToldRing}
 use Rattle.tree_bounds.specs.Tables.{IsTableOf, row_in}
 use Rattle.tree_bounds.specs.declared.analysis.Table.{Table}
 use Rattle.tree_bounds.specs.guarantee.Causes.{IsCausedIn}
+use Rattle.tree_bounds.specs.guarantee.Loads.{HasLoadOrLimitIn}
 use Rattle.tree_bounds.specs.guarantee.Roots.{IsRootedIn}
 use Rattle.bounds_report.specs.declared.rows.Report.{Report}
 use Rattle.bounds_command.specs.declared.answer.Form.{Form}
@@ -112,6 +113,10 @@ pub record IsReported (d : DocumentText) (net : Network) (form : Form) (reply : 
   pub roots : (s q : ℕ) → s < length net.ports.items → q < queues_of (port_at net s).discipline
       → row_in table s q ≡ None
       → IsRootedIn net table s q
+  -- in the links' own rates: the load of the links that pass a queue, there or at a port before it, is above its rate, or a number passes its limit
+  pub loads : (s q : ℕ) → s < length net.ports.items → q < queues_of (port_at net s).discipline
+      → row_in table s q ≡ None
+      → HasLoadOrLimitIn net table s q
   pub is : reply ≡ record { status = status_with report; bytes = text_in form report }
 
 abbrev pub IsReplyOnDocument : DocumentText → Network → Form → Reply → Type 0

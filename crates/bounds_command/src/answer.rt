@@ -4,7 +4,7 @@ ghost use Rattle.std.specs.Prelude.{◌≡◌};
 ghost use Rattle.bounds_command.specs.View.{code_of};
 
 /// How a call ends.
-#[derive(Clone, Copy, Debug)]
+#[derive(Clone, Copy)]
 pub enum Status {
     /// The report was written, and no deadline is missed.
     Done,
@@ -50,7 +50,7 @@ pub struct Answer {
 }
 
 /// How a report is written.
-#[derive(Clone, Copy, Debug)]
+#[derive(Clone, Copy)]
 pub enum Form {
     /// Line by line.
     Lines,

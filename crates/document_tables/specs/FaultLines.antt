@@ -81,6 +81,11 @@ abbrev pub port_text : Option ℕ → List ℕ
 port_text None = []
 port_text (Some port) = codes "port " ++ (decimal port ++ codes " ")
 
+-- where it is
+abbrev pub place_text : List ℕ → LineFault → List ℕ
+place_text file fault =
+    codes "netbound: " ++ (file ++ (codes " line " ++ (decimal fault.line ++ (codes " column " ++ (word_of fault.column ++ codes ": ")))))
+
 abbrev pub fault_line : List ℕ → LineFault → List ℕ
 fault_line file fault =
     codes "netbound: " ++ (file ++ (codes " line " ++ (decimal fault.line ++ (codes " column " ++ (word_of fault.column ++ (codes ": "

@@ -19,14 +19,22 @@ fn port_text(alloc: Global, wrong: Wrong) -> Result<String, AllocError>
     }
 }
 
+// Where it is.
+fn place_text(alloc: Global, file: &str, fault: &LineFault) -> Result<String, AllocError>
+    ensures { IfOk result (λ text. string_bytes text ≡ spec.place_text file.now fault.now) }
+{
+    let number = fault.line;
+    let column = word_of(fault.column);
+    format!(in alloc; "netbound: {file} line {number} column {column}: ")
+}
+
 /// `netbound: FILE line N column NAME: WHAT: MEND`, and the end of the line.
 pub fn fault_line(alloc: Global, file: &str, fault: &LineFault) -> Result<String, AllocError>
     ensures { IfOk result (λ line. string_bytes line ≡ spec.fault_line file.now fault.now) }
 {
-    let number = fault.line;
-    let column = word_of(fault.column);
+    let place = place_text(alloc, file, fault)?;
     let port = port_text(alloc, fault.wrong)?;
     let what = what_of(fault.wrong);
     let mend = mend_of(fault.column, fault.wrong);
-    format!(in alloc; "netbound: {file} line {number} column {column}: {port}{what}: {mend}\n")
+    format!(in alloc; "{place}{port}{what}: {mend}\n")
 }

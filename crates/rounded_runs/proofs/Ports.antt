@@ -1,7 +1,7 @@
 -- Ports that are written, and those that have them on the grid: as fast or faster, with links as long.
 use Rattle.std.specs.Prelude.{◌≡◌, ℕ, ◌*◌, ◌%◌, ◌==◌, true, List, [], ◌∷◌, All, map}
 use Rattle.std.proofs.Common.{refl, sym, ap, subst, ◌∙◌, arith}
-use Rattle.std.proofs.lemmas.Bool.Decides.{nat_tests}
+use Rattle.std.proofs.lemmas.Bool.{eqb-true}
 use Rattle.std.proofs.lemmas.List.Elements.{All-head, All-tail}
 use Rattle.rational.specs.Rational.{ℚ, ◌-ℚ◌, ◌≤ℚ◌, ◌<ℚ◌}
 use Rattle.rational.proofs.Laws.{le_of_lt, le_trans, mul_le_mul_right}
@@ -45,7 +45,7 @@ server_as_fast port text is range = record {
     forward from to up = with2 from to (λ c. omega (arith, c.le, c.lt, c.same))
 
 no_rest : (a b : ℕ) → (a % b == 0) ≡ true → a % b ≡ 0
-no_rest a b h = grind (arith, nat_tests, h)
+no_rest a b h = eqb-true (a % b) 0 h
 
 link_as_long : (port : Port) (text : PortText) → grid_port port ≡ port_on_grid text → IsPortText text
     → time_written text ≡ link_time port

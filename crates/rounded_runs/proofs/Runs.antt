@@ -1,7 +1,7 @@
 -- Runs of the network that is written are runs of the one on the grid.
 use Rattle.std.specs.Prelude.{◌≡◌, ℕ, zero, suc, ◌+◌, ◌*◌, ◌/◌, ◌%◌, ◌<◌, ◌≤◌, true, nat_le, List, Option, Some, None, length, get_or, slice_get, map, option_map}
 use Rattle.std.proofs.Common.{arith, refl, sym, ap, subst}
-use Rattle.std.proofs.lemmas.Bool.Decides.{nat_tests}
+use Rattle.std.proofs.lemmas.Bool.{leb-true}
 use Rattle.std.proofs.lemmas.List.{length-map}
 use Rattle.std.proofs.lemmas.List.Elements.{All-get_or}
 use Rattle.std.proofs.lemmas.Option.{slice_get-get_or}
@@ -45,7 +45,7 @@ use Rattle.rounded_runs.proofs.Units.{micros_up, micros_down, gap_down, speed_do
 
 -- ---- links
 reached : {a b : ℕ} → nat_le a b ≡ true → a ≤ b
-reached h = grind (arith, nat_tests, h)
+reached {a} {b} h = leb-true a b h
 
 -- a gap of a picosecond or more
 some_part : (n b : ℕ) → 0 < b → b ≤ n → 0 < n / b

@@ -20,7 +20,7 @@ use std::alloc::{AllocError, Global};
 use tree_network::{Fault, Network, Plan, plan_of};
 
 /// What is promised in a network; none where nothing is.
-#[derive(Debug, Drop)]
+#[derive(Drop)]
 pub struct Table {
     /// Of each queue, by port.
     pub rows: Vec<Vec<Option<Queue>>>,

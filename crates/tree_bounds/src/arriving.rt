@@ -8,10 +8,11 @@ ghost use Rattle.tree_network.specs.Spots.{spots_of};
 ghost use Rattle.arrival_stairs.specs.Views.{bunch_of, bunches};
 ghost use Rattle.port_bounds.specs.Incoming.{incoming_of};
 ghost use Rattle.port_bounds.specs.StairsIncoming.{stairs_of};
-ghost use Rattle.tree_bounds.specs.Bunches.{arriving_of, arriving_of_groups, bunch_of_group, stair_list, stairs_among};
+ghost use Rattle.tree_bounds.specs.Bunches.{arriving_at, arriving_of, arriving_of_groups, bunch_of_group, stair_list, stairs_among};
 ghost use Rattle.tree_bounds.specs.Coming.{IsComing, is_of_queue};
 ghost use Rattle.tree_bounds.specs.Grouping.{AreInGroups};
-ghost use Rattle.tree_bounds.specs.Groups.{incoming_of_groups, pace_line};
+ghost use Rattle.tree_bounds.specs.Groups.{incoming_at, incoming_of_groups, pace_line};
+ghost use Rattle.tree_bounds.specs.Lines.{line_of};
 ghost use Rattle.tree_bounds.specs.Onward.{stair_in};
 ghost use Rattle.tree_bounds.specs.Parts.{IsOfNetwork};
 ghost use Rattle.tree_bounds.specs.Solved.{AreAllStairs};
@@ -24,12 +25,21 @@ use std::alloc::{AllocError, Global};
 use tree_network::{Network, Plan, Spot};
 
 /// What arrives at some queues of a port.
-#[derive(Debug, Drop)]
+#[derive(Drop)]
 pub(crate) struct Coming {
     /// By lines.
     pub(crate) lines: Vec<Arrivals>,
     /// As stairs.
     pub(crate) stairs: Vec<StairArrivals>,
+}
+
+/// What arrives at one queue.
+#[derive(Drop)]
+struct Both {
+    /// By lines.
+    lines: Arrivals,
+    /// As stairs.
+    stairs: StairArrivals,
 }
 
 /// Adds the stair, if there is one.
@@ -152,6 +162,32 @@ fn stair_arrivals(
     }
 }
 
+/// What arrives at a queue of a port, both ways.
+fn arrivals_at(
+    alloc: Global,
+    network: &Network,
+    plan: &Plan,
+    stairs: &[Option<Stair>],
+    port: usize,
+    q: usize,
+) -> Result<Both, AllocError>
+    requires network { IsNetwork network.now }
+    requires plan { IsPlanOf network.now plan.now }
+    requires stairs { length stairs.now ≡ length plan.now.spots.items }
+    requires range { AreAllStairs stairs.now }
+    requires port { port < length network.now.ports.items }
+    ensures lines { IfOk result (λ b. incoming_of b.lines
+        ≡ incoming_at network.now (spots_of network.now) (λ n. line_of (stair_in stairs.now n)) port q) }
+    ensures stairs { IfOk result (λ b. arriving_of (stairs_of b.stairs)
+        ≡ arriving_at network.now (spots_of network.now) (λ n. stair_in stairs.now n) port q) }
+{
+    let numbers = of_queue(alloc, &plan.spots, &plan.at[port], q)?;
+    let groups = groups_of(alloc, &plan.spots, &numbers, stairs)?;
+    let lines = arrivals(alloc, network, &groups)?;
+    let stairs = stair_arrivals(alloc, network, stairs, &numbers, &groups, &lines)?;
+    Ok(Both { lines, stairs })
+}
+
 /// What arrives at each of so many queues of a port.
 pub(crate) fn all_arrivals(
     alloc: Global,
@@ -171,12 +207,9 @@ pub(crate) fn all_arrivals(
     let mut lines = Vec::with_capacity(alloc, count)?;
     let mut all_stairs = Vec::with_capacity(alloc, count)?;
     for q in 0..count {
-        let numbers = of_queue(alloc, &plan.spots, &plan.at[port], q)?;
-        let groups = groups_of(alloc, &plan.spots, &numbers, stairs)?;
-        let by_lines = arrivals(alloc, network, &groups)?;
-        let by_stairs = stair_arrivals(alloc, network, stairs, &numbers, &groups, &by_lines)?;
-        all_stairs.push(by_stairs)?;
-        lines.push(by_lines)?;
+        let both = arrivals_at(alloc, network, plan, stairs, port, q)?;
+        all_stairs.push(both.stairs)?;
+        lines.push(both.lines)?;
     }
     Ok(Coming {
         lines,

@@ -14,7 +14,7 @@ use std::alloc::{AllocError, Global};
 use tree_network::Spot;
 
 /// The links that come to a queue from one source, together.
-#[derive(Debug, Clone, Copy)]
+#[derive(Clone, Copy)]
 pub(crate) struct Group {
     /// 0 where they begin, else one more than the number of the port before.
     pub(crate) source: usize,
