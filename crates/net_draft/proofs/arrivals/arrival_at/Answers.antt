@@ -1,4 +1,3 @@
-use Rattle.std.proofs.Common.{◌≡◌}
 use Rattle.net_draft.specs.Tables.{arrival_at}
 use Rattle.net_draft.proofs.Chain.{handed_on, fails_here, fails_after, gives_after, no_value}
 use Rattle.net_draft.proofs.arrivals.arrival_at.Goals as goal
