@@ -14,3 +14,4 @@ pub mod Causes
 pub mod MayStand
 pub mod LeastKey
 pub mod KindsOfTables
+pub mod ThreeWords
