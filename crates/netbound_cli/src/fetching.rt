@@ -15,7 +15,7 @@ pub(crate) const MOST_BYTES: usize = 16_777_216;
 
 /// The answer that tells why tables were not had.
 pub(crate) fn unread_answer(alloc: Global, unread: Unread<'_>) -> Result<Answer, NoMemory>
-    ensures { IfOk result (λ r. Tells spec.cannot_read spec.too_long unread (reply_of r)) }
+    ensures { IfOk result (λ r. Tells spec.cannot_read spec.too_long unread.entry (reply_of r)) }
 {
     match unread {
         Unread::Failed(file) => cannot_read(alloc, file),

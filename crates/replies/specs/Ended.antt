@@ -1,5 +1,5 @@
 -- How fetching ends where a file is not had, and a reply that tells it.
-use Rattle.std.specs.Prelude.{◌≡◌, ◌+◌, ℕ, List, take, slice_get, Option, Some}
+use Rattle.std.specs.Prelude.{◌≡◌, ◌+◌, ℕ, List, take, slice_get, Some}
 use Rattle.outside.specs.Files.{Told, IsTooLong, FirstIs}
 use Rattle.outside.specs.Fetching.{AsksForAll, FailedAt}
 use Rattle.replies.specs.declared.fetching.Unread.{Unread}

@@ -109,7 +109,8 @@ fn bounds_in<'a>(matches: &ArgMatches<'a>) -> Option<Bounds<'a>>
 
 // What is asked for where `clap` gives no matches.
 fn refused<'a>(kind: ErrorKind) -> Result<Request<'a>, WordFault>
-    ensures { IsRefusal kind result }
+    ensures kind { IsRefusal kind result }
+    ensures range { IfOk result HasOverhead }
 {
     match kind {
         ErrorKind::DisplayHelp => Ok(Request::Help),

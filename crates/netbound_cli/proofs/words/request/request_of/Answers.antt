@@ -20,4 +20,10 @@ returns-clause-request c =
     let app = c.in-Ok.ensures in
     let kinds = c.in-Err.ensures.kinds (ap is_simple_and_free app ∙ is_simple_and_free_app) in
     by_refusal (app_of c.in-Ok.command) (texts c.args.words.now) c.kind.result c.refused.result app
-    (rw (← c.kind.ensures) at kinds) c.refused.ensures
+    (rw (← c.kind.ensures) at kinds) c.refused.ensures.kind
+
+pub returns-in-Some-clause-range : goal.returns-in-Some-clause-range
+returns-in-Some-clause-range c = c.in-Some.ensures.range
+
+pub returns-clause-range : goal.returns-clause-range
+returns-clause-range c = c.refused.ensures.range
