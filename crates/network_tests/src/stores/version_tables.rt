@@ -1,8 +1,8 @@
 //! Versions that are made and given up.
 
-use version_table::Versions;
 use std::alloc::Global;
 use std::rc::Rc;
+use version_table::Versions;
 
 #[test]
 fn a_value_set_in_a_version_goes_with_it(rt: HostRuntime) {
