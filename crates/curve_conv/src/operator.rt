@@ -38,6 +38,21 @@ fn slower_rise(f: &Curve, g: &Curve, period: Frac) -> Frac
     rise_over(f, period)
 }
 
+// From when on the convolution repeats, and by how much it rises in each period from then on.
+fn repetition(f: &Curve, g: &Curve, frame: &Frame) -> (Frac, Frac)
+    requires first { CurveRiseFits f.now frame.now.period }
+    requires second { CurveRiseFits g.now frame.now.period }
+    requires fits { SumFits frame.now.end (neg_ℚ frame.now.period) }
+    ensures from { result.0 ≡ frame.now.end -ℚ frame.now.period }
+    ensures rise { RisesBy (rate g.now <ₑ rate f.now) (rise_over g.now frame.now.period)
+        (rise_over f.now frame.now.period) result.1 }
+{
+    (
+        difference(frame.end, frame.period),
+        slower_rise(f, g, frame.period),
+    )
+}
+
 // The convolution of two curves in a call within both limits, where the number of periods is enough.
 fn convolved_within(alloc: Global, f: &Curve, g: &Curve, frame: &Frame) -> Result<Curve, AllocError>
     requires { IsConvolveFrame f.now g.now frame.now }
@@ -47,14 +62,13 @@ fn convolved_within(alloc: Global, f: &Curve, g: &Curve, frame: &Frame) -> Resul
     let left = unrolled(f, frame.end)?;
     let right = unrolled(g, frame.end)?;
     let pieces = window_convolution(alloc, &left, &right, frame.end)?;
-    let rise = slower_rise(f, g, frame.period);
-    let from = difference(frame.end, frame.period);
+    let repeats = repetition(f, g, frame);
     answer(
         alloc,
         pieces,
-        from,
+        repeats.0,
         frame.period,
-        rise,
+        repeats.1,
         frame.times,
         frame.values,
     )

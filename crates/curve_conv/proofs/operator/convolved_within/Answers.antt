@@ -9,24 +9,24 @@ pub window_convolution-requires : goal.window_convolution-requires
 window_convolution-requires c =
     windows c.args.f.now c.args.g.now c.args.frame.now c.deref.result.now c.deref-2.result.now c.requires (c.deref.ensures.value ∙ c.in_ok-left.ensures) (c.deref-2.ensures.value ∙ c.in_ok-right.ensures)
 
-pub slower_rise-rise-requires-clause-first : goal.slower_rise-rise-requires-clause-first
-slower_rise-rise-requires-clause-first c = let r = c.args.frame.now in let F = c.requires in (left_rise c.args.f.now c.args.g.now r.start r.period r.end (F.number + 1) F.sizes F.call).fits
+pub repetition-repeats-requires-clause-first : goal.repetition-repeats-requires-clause-first
+repetition-repeats-requires-clause-first c = let r = c.args.frame.now in let F = c.requires in (left_rise c.args.f.now c.args.g.now r.start r.period r.end (F.number + 1) F.sizes F.call).fits
 
-pub slower_rise-rise-requires-clause-second : goal.slower_rise-rise-requires-clause-second
-slower_rise-rise-requires-clause-second c = let r = c.args.frame.now in let F = c.requires in (right_rise c.args.f.now c.args.g.now r.start r.period r.end (F.number + 1) F.sizes F.call).fits
+pub repetition-repeats-requires-clause-second : goal.repetition-repeats-requires-clause-second
+repetition-repeats-requires-clause-second c = let r = c.args.frame.now in let F = c.requires in (right_rise c.args.f.now c.args.g.now r.start r.period r.end (F.number + 1) F.sizes F.call).fits
 
-pub difference-from-requires : goal.difference-from-requires
-difference-from-requires c = let r = c.args.frame.now in let F = c.requires in from_fits c.args.f.now c.args.g.now r.start r.period r.end (F.number + 1) F.sizes F.call
+pub repetition-repeats-requires-clause-fits : goal.repetition-repeats-requires-clause-fits
+repetition-repeats-requires-clause-fits c = let r = c.args.frame.now in let F = c.requires in from_fits c.args.f.now c.args.g.now r.start r.period r.end (F.number + 1) F.sizes F.call
 
 pub answer-requires : goal.answer-requires
 answer-requires c =
-    convolved_answer c.args.f.now c.args.g.now c.args.frame.now c.deref.result.now c.deref-2.result.now c.in_ok-pieces.pieces.items c.difference-from.result c.slower_rise-rise.result c.requires
-    (c.deref.ensures.value ∙ c.in_ok-left.ensures) (c.deref-2.ensures.value ∙ c.in_ok-right.ensures) c.in_ok-pieces.ensures c.difference-from.ensures c.slower_rise-rise.ensures
+    convolved_answer c.args.f.now c.args.g.now c.args.frame.now c.deref.result.now c.deref-2.result.now c.in_ok-pieces.pieces.items c.repetition-repeats.result.0 c.repetition-repeats.result.1 c.requires
+    (c.deref.ensures.value ∙ c.in_ok-left.ensures) (c.deref-2.ensures.value ∙ c.in_ok-right.ensures) c.in_ok-pieces.ensures c.repetition-repeats.ensures.from c.repetition-repeats.ensures.rise
 
 pub returns : goal.returns
 returns c =
     ok_map c.answer.result _ _
     (λ a h.
-    convolved_values c.args.f.now c.args.g.now c.args.frame.now c.deref.result.now c.deref-2.result.now c.in_ok-pieces.pieces.items c.difference-from.result c.slower_rise-rise.result a c.requires
-    (c.deref.ensures.value ∙ c.in_ok-left.ensures) (c.deref-2.ensures.value ∙ c.in_ok-right.ensures) c.in_ok-pieces.ensures c.difference-from.ensures c.slower_rise-rise.ensures h)
+    convolved_values c.args.f.now c.args.g.now c.args.frame.now c.deref.result.now c.deref-2.result.now c.in_ok-pieces.pieces.items c.repetition-repeats.result.0 c.repetition-repeats.result.1 a c.requires
+    (c.deref.ensures.value ∙ c.in_ok-left.ensures) (c.deref-2.ensures.value ∙ c.in_ok-right.ensures) c.in_ok-pieces.ensures c.repetition-repeats.ensures.from c.repetition-repeats.ensures.rise h)
     c.answer.ensures
