@@ -11,7 +11,7 @@ use std::cmp::Ordering;
 const SECOND: u64 = 1_000_000_000_000;
 
 /// A time: so many seconds over so many.
-#[derive(Debug, Clone, Copy, PartialEq, Eq)]
+#[derive(Clone, Copy)]
 pub struct Moment {
     /// In seconds.
     pub over: u64,
@@ -55,7 +55,7 @@ pub fn sooner(one: Moment, other: Moment) -> Ordering
 }
 
 /// What parts come to at a time.
-#[derive(Debug, Clone, Copy, PartialEq, Eq)]
+#[derive(Clone, Copy)]
 pub struct Height {
     /// When.
     pub at: Moment,

@@ -13,7 +13,7 @@ use std::alloc::{AllocError, Global};
 const FEW: usize = 8;
 
 /// Heights, and how far they are above each of some rates at most.
-#[derive(Debug, Drop)]
+#[derive(Drop)]
 pub struct Peaks {
     /// By their times where they and the rates are many; else as they were given.
     pub heights: Vec<Height>,

@@ -92,7 +92,7 @@ fn last_bend(parts: &[Part]) -> u128
 }
 
 /// What the bundles' levels at 0 come to: at 0, and up to the time at which the last of them is reached.
-#[derive(Debug, Drop)]
+#[derive(Drop)]
 pub(crate) struct Onset {
     /// In picoseconds.
     pub(crate) until: u64,

@@ -9,7 +9,7 @@ use arrival_heights::jump_time;
 use std::alloc::{AllocError, Global};
 
 /// A jump of a stair.
-#[derive(Debug, Clone, Copy)]
+#[derive(Clone, Copy)]
 pub(crate) struct Jump {
     /// In picoseconds.
     pub(crate) time: u64,

@@ -7,7 +7,7 @@ use arrival_lines::{Line, Part};
 use std::alloc::{AllocError, Global};
 
 /// What a link brings: at most a frame each gap, each up to the jitter early.
-#[derive(Debug, Clone, Copy, PartialEq, Eq)]
+#[derive(Clone, Copy)]
 pub struct Stair {
     /// The longest frame, in grains.
     pub frame: u64,
@@ -18,7 +18,7 @@ pub struct Stair {
 }
 
 /// Links that come to a queue from one port, or begin at its port.
-#[derive(Debug, Drop)]
+#[derive(Drop)]
 pub struct Bundle {
     /// What each of them brings.
     pub stairs: Vec<Stair>,

@@ -23,7 +23,7 @@ const SECOND: u128 = 1_000_000_000_000;
 const ENDLESS: u128 = 1 << 50;
 
 /// A delay in picoseconds and a backlog in bits.
-#[derive(Debug, Clone, Copy)]
+#[derive(Clone, Copy)]
 pub(crate) struct Stay {
     pub(crate) delay: u128,
     pub(crate) backlog: u64,

@@ -15,7 +15,7 @@ use std::alloc::{AllocError, Global};
 const SECOND: u64 = 1_000_000_000_000;
 
 /// When a bundle goes over from one line to another.
-#[derive(Debug, Clone, Copy)]
+#[derive(Clone, Copy)]
 pub(crate) struct Turn {
     pub(crate) at: Moment,
     pub(crate) off: Line,

@@ -15,7 +15,7 @@ use arrival_lines::Line;
 use std::alloc::{AllocError, Global};
 
 /// What the lines of some turns come to together.
-#[derive(Debug, Clone, Copy)]
+#[derive(Clone, Copy)]
 pub(crate) struct Total {
     pub(crate) burst: u128,
     pub(crate) rate: u128,

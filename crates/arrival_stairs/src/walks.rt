@@ -17,7 +17,7 @@ use arrival_lines::{Line, Service};
 use std::alloc::{AllocError, Global};
 
 /// What a queue's bundles come to where they may be furthest above a rate up to a time.
-#[derive(Debug, Drop)]
+#[derive(Drop)]
 pub(crate) struct Walk {
     /// In picoseconds.
     pub(crate) end: u64,

@@ -12,7 +12,7 @@ use std::alloc::{AllocError, Global};
 pub(crate) const GRAINS: u64 = 1024;
 
 /// What arrives at a queue.
-#[derive(Debug, Drop)]
+#[derive(Drop)]
 pub struct Arrivals {
     /// Its parts; none where nothing bounds them.
     pub parts: Option<Vec<Part>>,

@@ -3,7 +3,7 @@
 use arrival_stairs::Bundle;
 
 /// What arrives at a queue.
-#[derive(Debug, Drop)]
+#[derive(Drop)]
 pub struct StairArrivals {
     /// Its bundles; none where nothing bounds them.
     pub bundles: Option<Vec<Bundle>>,
