@@ -11,7 +11,7 @@ use std::cmp::Ordering;
 use upp_curve::affine_segment::{Line, Piece};
 
 /// Until when a function is infinite at some later time.
-#[derive(Debug, Clone, Copy)]
+#[derive(Clone, Copy)]
 pub(crate) struct Last {
     /// Before this time it is infinite at the time or later.
     pub(crate) until: Frac,

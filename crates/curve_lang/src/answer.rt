@@ -5,7 +5,7 @@ use std::rc::Rc;
 use upp_curve::Curve;
 
 /// Which question an answer belongs to.
-#[derive(Debug, Clone, Copy, PartialEq, Eq)]
+#[derive(Clone, Copy)]
 pub enum Word {
     Value,
     Rate,

@@ -1,10 +1,12 @@
 //! Answers of questions about curves.
 
-ghost use Rattle.std.specs.Prelude.{◌≡◌, ℕ, Ok};
+ghost use Rattle.std.specs.Prelude.{◌≡◌, ◌↔◌, ℕ, Ok, IsTrue};
+ghost use Rattle.upp_curve.specs.Curve.{HasSameValues};
+ghost use Rattle.upp_limits.specs.declared.op_kind.OpKind.TheVariants as calls;
 ghost use Rattle.input_texts.specs.declared.curve_script.keyword.TwoAsked.TheVariants as asked;
 ghost use Rattle.curve_lang.specs.Answers.{one_answer};
-ghost use Rattle.curve_lang.specs.Finding.{Guarded};
-ghost use Rattle.curve_lang.specs.Found.{TwoFinds, TimeFinds};
+ghost use Rattle.curve_lang.specs.Finding.{CallFinds, Guarded, MayWait, Once};
+ghost use Rattle.curve_lang.specs.Found.{TwoFinds, TimeFinds, IsDelay};
 ghost use Rattle.curve_lang.specs.Views.{answer_view, told};
 
 use crate::answer::{Answer, Word};
@@ -49,6 +51,20 @@ pub(crate) fn one_told(question: OneAsked, f: Rc<Curve>) -> Answer
     }
 }
 
+// The answer of a question about a delay whose conditions hold.
+fn delay_found<L: Ledger>(f: &Curve, g: &Curve, steps: &mut Steps<L>) -> Result<Answer, LangKind>
+    requires { MayWait f.now g.now }
+    ensures { Once (CallFinds calls.Horizontal f.now g.now (IsDelay f.now g.now)) (told result) steps.old steps.new }
+{
+    match horizontal(f, g, steps) {
+        Ok(value) => Ok(Answer::Number {
+            word: Word::Delay,
+            value,
+        }),
+        Err(fault) => Err(told_call(fault)),
+    }
+}
+
 fn delay_told<L: Ledger>(f: &Curve, g: &Curve, steps: &mut Steps<L>) -> Result<Answer, LangKind>
     ensures { TwoFinds asked.Delay f.now g.now (told result) steps.old steps.new }
 {
@@ -61,13 +77,7 @@ fn delay_told<L: Ledger>(f: &Curve, g: &Curve, steps: &mut Steps<L>) -> Result<A
     if !g.is_rising() {
         return Err(LangKind::C8);
     }
-    match horizontal(f, g, steps) {
-        Ok(value) => Ok(Answer::Number {
-            word: Word::Delay,
-            value,
-        }),
-        Err(fault) => Err(told_call(fault)),
-    }
+    delay_found(f, g, steps)
 }
 
 fn backlog_told<L: Ledger>(f: &Curve, g: &Curve, steps: &mut Steps<L>) -> Result<Answer, LangKind>
@@ -94,6 +104,13 @@ fn equal_told(f: &Curve, g: &Curve) -> Result<Answer, LangKind>
     })
 }
 
+// Whether a curve has the values of the lesser of it and another.
+fn is_lesser(f: &Curve, lesser: &Curve) -> bool
+    ensures { IsTrue result ↔ HasSameValues lesser.now f.now }
+{
+    equal(lesser, f)
+}
+
 // A curve is nowhere above another exactly where it is the lesser of the two everywhere.
 fn below_told<L: Ledger>(
     alloc: Global,
@@ -106,7 +123,7 @@ fn below_told<L: Ledger>(
     match min(alloc, f, g, steps) {
         Ok(lesser) => Ok(Answer::Truth {
             word: Word::Below,
-            holds: equal(&lesser, f),
+            holds: is_lesser(f, &lesser),
         }),
         Err(fault) => Err(told_call(fault)),
     }

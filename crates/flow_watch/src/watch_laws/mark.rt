@@ -1,7 +1,7 @@
 use fraction128::Frac;
 
 /// A time, with a number for pairs that start there and one for pairs that end there.
-#[derive(Debug, Clone, Copy)]
+#[derive(Clone, Copy)]
 pub struct Mark {
     pub time: Frac,
     pub start_key: Frac,
@@ -10,7 +10,7 @@ pub struct Mark {
 
 /// Which pairs of marks are looked for: the later at least `least` and less than `most` after the earlier, with an end
 /// key that is less than the earlier's start key and `gap` together.
-#[derive(Debug, Clone, Copy)]
+#[derive(Clone, Copy)]
 pub struct Rule {
     pub least: Frac,
     pub most: Option<Frac>,

@@ -8,7 +8,7 @@ ghost use Rattle.residuals.specs.calls.DrrCalls.{AreQueues, share_in, owed_in};
 use fraction128::Frac;
 
 /// What a queue gets of each bit of service, and how many bits are taken from that first.
-#[derive(Debug, Clone, Copy)]
+#[derive(Clone, Copy)]
 pub(crate) struct Turn {
     pub share: Frac,
     pub owed: Frac,

@@ -18,7 +18,7 @@ returns-in-Ok g c =
     let both = lesser_is f h k least in (
       (
         subst (λ x. KeepsLimits calls.Min f h x) c.in-Ok.is c.min.ensures.limits,
-        (c.equal.result, (λ e. both.0 (c.equal.ensures.0 e), λ below. c.equal.ensures.1 (both.1 below)), refl),
+        (c.is_lesser.result, (λ e. both.0 (c.is_lesser.ensures.0 e), λ below. c.is_lesser.ensures.1 (both.1 below)), refl),
       ),
       c.min.ensures.count,
     )

@@ -1,12 +1,4 @@
-use Rattle.std.proofs.Common.{refl, sym, subst, inl, inr, true≢false}
-use Rattle.std.specs.Prelude.{IfOk, Err}
-use Rattle.min_plus.specs.Deviations.{IsHorizontalDeviation}
-use Rattle.upp_curve.specs.Curve.{value_at}
-use Rattle.upp_limits.specs.Outcome.{KeepsLimits}
-use Rattle.upp_limits.specs.declared.op_kind.OpKind.TheVariants as calls
-use Rattle.curve_lang.specs.Finding.{CallFinds}
-use Rattle.curve_lang.specs.Found.{IsDelay}
-use Rattle.curve_lang.proofs.Kept.{refused}
+use Rattle.std.proofs.Common.{sym, inl, inr, true≢false, refl}
 use Rattle.curve_lang.proofs.questions.delay_told.Goals as goal
 
 pub returns-then-not-is_finite : goal.returns-then-not-is_finite
@@ -18,36 +10,12 @@ returns-then-not-is_rising g c = inr ((λ h. true≢false (sym (c.if-not-is_risi
 pub returns-then-not-is_rising-2 : goal.returns-then-not-is_rising-2
 returns-then-not-is_rising-2 g c = inr ((λ h. true≢false (sym (c.if-not-is_rising-2.ensures.1 h.second))), (refl, refl))
 
-pub horizontal-requires-clause-finite : goal.horizontal-requires-clause-finite
-horizontal-requires-clause-finite g c = c.is_finite.ensures.0 c.if-not-is_finite.false
+pub delay_found-requires : goal.delay_found-requires
+delay_found-requires g c =
+    record { finite = c.is_finite.ensures.0 c.if-not-is_finite.false; first = c.is_rising.ensures.0 c.if-not-is_rising.false; second = c.is_rising-2.ensures.0 c.if-not-is_rising-2.false }
 
-pub horizontal-requires-clause-rising : goal.horizontal-requires-clause-rising
-horizontal-requires-clause-rising g c = (c.is_rising.ensures.0 c.if-not-is_rising.false, c.is_rising-2.ensures.0 c.if-not-is_rising-2.false)
-
-pub returns-in-Ok : goal.returns-in-Ok
-returns-in-Ok g c =
-    let f = c.args.f.now in
-    let h = c.args.g.now in
-    inl (
+pub returns : goal.returns
+returns g c = inl (
       record { finite = c.is_finite.ensures.0 c.if-not-is_finite.false; first = c.is_rising.ensures.0 c.if-not-is_rising.false; second = c.is_rising-2.ensures.0 c.if-not-is_rising-2.false },
-      (
-        (
-          subst (λ x. KeepsLimits calls.Horizontal f h x) c.in-Ok.is c.horizontal.ensures.limits,
-          (c.in-Ok.value, subst (λ x. IfOk x (IsHorizontalDeviation (value_at f) (value_at h))) c.in-Ok.is c.horizontal.ensures.value, refl),
-        ),
-        c.horizontal.ensures.count,
-      ),
-    )
-
-pub returns-in-Err : goal.returns-in-Err
-returns-in-Err g c =
-    let f = c.args.f.now in
-    let h = c.args.g.now in
-    inl (
-      record { finite = c.is_finite.ensures.0 c.if-not-is_finite.false; first = c.is_rising.ensures.0 c.if-not-is_rising.false; second = c.is_rising-2.ensures.0 c.if-not-is_rising-2.false },
-      (
-        subst (λ k. CallFinds calls.Horizontal f h (IsDelay f h) (Err k)) (sym c.told_call.ensures)
-            (refused calls.Horizontal f h (IsDelay f h) c.in-Err.fault (subst (λ x. KeepsLimits calls.Horizontal f h x) c.in-Err.is c.horizontal.ensures.limits)),
-        c.horizontal.ensures.count,
-      ),
+      c.delay_found.ensures,
     )
