@@ -4,8 +4,8 @@
     tools/paths.py [ROWS]
 
 Before and after it proves a library, `rt` sums up its texts and those of each library that it lists, and so on down,
-once for each path. Prints about how many seconds that takes for all of them, then ROWS (20) names that could go over
-another library that is listed (a `pub use` there), in the order in which they would save most, each after those before
+once for each path (kits before 13f; later ones once in all). Prints about how many seconds that takes for all of them, then ROWS
+(20) names that could go over another library that is listed (a `pub use` of what is needed there, by its name), in the order in which they would save most, each after those before
 it: the crate, the library, the seconds saved, and the seconds left."""
 import functools
 import pathlib
