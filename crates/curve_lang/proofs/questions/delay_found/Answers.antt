@@ -18,8 +18,7 @@ horizontal-requires-clause-rising g c = (c.requires.first, c.requires.second)
 pub returns-in-Ok : goal.returns-in-Ok
 returns-in-Ok g c =
     let f = c.args.f.now in
-    let h = c.args.g.now in
-    (
+    let h = c.args.g.now in (
       (
         subst (λ x. KeepsLimits calls.Horizontal f h x) c.in-Ok.is c.horizontal.ensures.limits,
         (c.in-Ok.value, subst (λ x. IfOk x (IsHorizontalDeviation (value_at f) (value_at h))) c.in-Ok.is c.horizontal.ensures.value, refl),
@@ -30,8 +29,7 @@ returns-in-Ok g c =
 pub returns-in-Err : goal.returns-in-Err
 returns-in-Err g c =
     let f = c.args.f.now in
-    let h = c.args.g.now in
-    (
+    let h = c.args.g.now in (
       subst (λ k. CallFinds calls.Horizontal f h (IsDelay f h) (Err k)) (sym c.told_call.ensures)
           (refused calls.Horizontal f h (IsDelay f h) c.in-Err.fault (subst (λ x. KeepsLimits calls.Horizontal f h x) c.in-Err.is c.horizontal.ensures.limits)),
       c.horizontal.ensures.count,

@@ -16,6 +16,6 @@ delay_found-requires g c =
 
 pub returns : goal.returns
 returns g c = inl (
-      record { finite = c.is_finite.ensures.0 c.if-not-is_finite.false; first = c.is_rising.ensures.0 c.if-not-is_rising.false; second = c.is_rising-2.ensures.0 c.if-not-is_rising-2.false },
-      c.delay_found.ensures,
-    )
+  record { finite = c.is_finite.ensures.0 c.if-not-is_finite.false; first = c.is_rising.ensures.0 c.if-not-is_rising.false; second = c.is_rising-2.ensures.0 c.if-not-is_rising-2.false },
+  c.delay_found.ensures,
+)
