@@ -88,6 +88,11 @@ returns-in_default-clause-answers g c four five =
     let given = c.give.ensures.given four in
     (usage commands, rw c.in_default.ensures.not_taken refl, (given.0, rw c.as_bytes.ensures.value at given.1))
 
+pub returns-in_default-clause-write_fault : goal.returns-in_default-clause-write_fault
+returns-in_default-clause-write_fault g c four =
+    let failed = c.give.ensures.failed four in
+    (usage commands, rw c.in_default.ensures.not_taken refl, rw c.as_bytes.ensures.value at failed)
+
 pub returns-in-Ok-answer_to-clause-answers : goal.returns-in-Ok-answer_to-clause-answers
 returns-in-Ok-answer_to-clause-answers g c four five =
     let given = c.give-in-Ok-answer_to.ensures.given four in (
