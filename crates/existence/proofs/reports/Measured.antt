@@ -11,13 +11,15 @@ use Rattle.net_model.specs.declared.trace.TracePacket.{TracePacket}
 use Rattle.net_model.specs.Traces.{SpecTrace, IsTracePacket}
 use Rattle.measure_curve.specs.Grids.{IsNarrow, width_of}
 use Rattle.measure_curve.specs.Limits.{grid_of}
-use Rattle.measure_curve.specs.Scans.{entry_of, windows, steps_after, no_window}
+use Rattle.packet_windows.specs.Scans.{windows, steps_after, no_window}
+use Rattle.packet_windows.proofs.Loops.{lengthen}
+use Rattle.measure_curve.specs.Scans.{entry_of}
 use Rattle.measure_curve.specs.Staircases.{staircase}
 use Rattle.measure_curve.specs.Windows.{of_flow}
 use Rattle.measure_curve.proofs.Measured.{AreSorted, measured, steps_fit}
 use Rattle.measure_curve.proofs.Rising.{tell_rises}
 use Rattle.measure_curve.proofs.Stairs.{stairs_curve}
-use Rattle.measure_curve.proofs.StepLevels.{are_steps, lengthen}
+use Rattle.measure_curve.proofs.StepLevels.{are_steps}
 use Rattle.measure_curve.proofs.Widths.{stand}
 use Rattle.upp_curve.specs.Curve.{SpecCurve}
 use Rattle.commands.specs.measure.OnMeasures.{IsMeasured}
