@@ -30,7 +30,7 @@ unfolding micros picosecond
 micros_of n = mul_frac (pos (n * 1000000)) 0 (pos 1) 999999 ∙ frac-same _ _ _ _ (omega (arith, ints))
 
 -- ---- in range
-port_in_range : (link : ℕ) → link ≤ 5000000 → PortIsInRange (slow_port link)
+pub port_in_range : (link : ℕ) → link ≤ 5000000 → PortIsInRange (slow_port link)
 unfolding longest_time fastest
 port_in_range link h = record {
   some_rate = omega arith;

@@ -1,4 +1,5 @@
 pub mod ForkNetwork
 pub mod ForkRun
+pub mod OverfullPort
 pub mod WrittenRun
 pub mod WrittenTables

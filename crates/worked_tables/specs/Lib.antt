@@ -1,2 +1,3 @@
 pub mod Fork
+pub mod Overfull
 pub mod WrittenFork

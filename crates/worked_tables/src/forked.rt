@@ -9,7 +9,7 @@ use std::alloc::{AllocError, Global};
 use tree_network::{Discipline, Link, Network, Node, Port};
 
 /// A port of 100 Mbit/s after a latency of 10 microseconds.
-fn slow(link: u64) -> Port
+pub(crate) fn slow(link: u64) -> Port
     ensures { result ≡ slow_port link }
 {
     Port {
@@ -23,7 +23,7 @@ fn slow(link: u64) -> Port
 }
 
 /// A node of queue 0 of a port.
-fn node(port: usize, from: Option<usize>) -> Node
+pub(crate) fn node(port: usize, from: Option<usize>) -> Node
     ensures { result ≡ node_behind port from }
 {
     Node {

@@ -5,5 +5,7 @@
 #![tactic(auto)]
 
 mod forked;
+mod overfull;
 
 pub use forked::{a_run_reaches_its_bound, a_written_run_is_kept, fork};
+pub use overfull::{an_overfull_port_has_none, overfull};
