@@ -1,6 +1,7 @@
 #!/usr/bin/env python3
 """Writes the lists of docs/DEFINITIONS.md anew, below its first two sections: a line for each module of specs/, by the parts of crates.txt, from the
-comment at the head of the module: its first sentence, and each later one that names a source. Run it at the top of the repository."""
+comment at the head of the module: its first sentence, and each later one that names a source. Modules of laws, whose names end in Laws, stand there
+only where they name a source. Run it at the top of the repository."""
 
 import pathlib
 import re
@@ -26,10 +27,20 @@ def head(module):
     return re.sub(r" \(?Own choice\.\)?", "", " ".join(words)).strip()
 
 
+def closed(sentence):
+    """A sentence, with its parenthesis closed where that goes on behind it."""
+    return sentence + ")" * max(0, sentence.count("(") - sentence.count(")"))
+
+
 def line_of(module):
     """The line of a module."""
     first, *others = re.split(r"(?<=\.)\s+(?=[A-Z(`])", head(module))
-    return f"- `{module}`: {' '.join([first, *filter(SOURCE.search, others)])}"
+    return f"- `{module}`: {' '.join(map(closed, [first, *filter(SOURCE.search, others)]))}"
+
+
+def is_listed(module):
+    """Whether a module has a line: laws without a source are told in the README of their crate alone."""
+    return not module.endswith("Laws") or SOURCE.search(head(module)) is not None
 
 
 def parts():
@@ -49,7 +60,7 @@ def main():
     page = PAGE.read_text()
     lists = []
     for title, crates in parts():
-        lines = [line_of(module) for crate in crates for module in there if module.split("/")[0] == crate]
+        lines = [line_of(module) for crate in crates for module in there if module.split("/")[0] == crate and is_listed(module)]
         if lines:
             lists.append("\n".join([f"## {title}", "", *lines, ""]))
     kept = page.split("\n## ")[:2]
