@@ -16,8 +16,8 @@ robin server over the queue's own share. A flow's delay is shared out by the del
 before it), by their curves and the delay bounds on their way so far. The findings of lint.py stand on top. `--html`
 writes the report as one page that needs no other file, `--csv` the flows alone, for a spreadsheet.
 
-NET may also be a report in JSON with `branches` and `ports`, whose bounds are decimals already and which tells its own
-deadlines, and whether they are met; it has no paths, so no delay is shared out.
+NET may also be what `netbound --json` writes (`branches` and `ports`), whose bounds are decimals already and which tells
+its own deadlines, and whether they are met; it has no paths, so no delay is shared out.
 
 The status is 0 where each flow has a bound and no deadline fails, else 1; flows without a deadline are counted. A
 network that the program refuses is refused in its words and those of `./netcalc explain`."""
