@@ -293,6 +293,7 @@ class Report(WithFolder):
                 # Both rounded up, the bound is as great as the deadline; that it is missed is told.
                 {"bound": "1.000", "deadline": "1.000", "link": "d", "met": False, "port": "p"},
                 {"bound": "1.000", "deadline": "0.9997", "link": "e", "met": True, "port": "p"},
+                {"bound": "1.000", "deadline": "0.000", "link": "f", "met": False, "port": "p"},
             ],
             "ports": [
                 {"backlog": "17", "delay": "1.500", "load": "0.250", "name": "p", "queue": 0},
@@ -308,6 +309,7 @@ class Report(WithFolder):
             "c to p none FAIL none",
             "d to p 1.000 1.000 FAIL 0.000 1",
             "e to p 1.000 0.999 PASS 0.000 1",
+            "f to p 1.000 0.000 FAIL -1.000 1",
             "p:0 0.250 1.500 3",
             "q:1 1.200 none none",
         ]:
@@ -319,6 +321,7 @@ class Report(WithFolder):
             '{"branches": [], "ports": [{}]}',
             '{"branches": [{"link": "a", "port": "p", "bound": "x"}], "ports": []}',
             '{"branches": [{"link": "a", "port": "p", "bound": "1", "met": 1}], "ports": []}',
+            '{"branches": [{"link": "a", "port": "p", "bound": "1/0"}], "ports": []}',
             '{"branches": [{"link": "\\ud800", "port": "p", "bound": "1"}], "ports": []}',
             5000 * '{"a":',
         ]:

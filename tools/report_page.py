@@ -126,6 +126,8 @@ def bound_bar(flow, largest):
     if flow.deadline is None:
         return bar(flow.bound / largest if largest else 0, "#a9b3c1")
     colour = GOOD if flow.verdict == "PASS" else BAD
+    if not flow.deadline:  # of nothing there is no share
+        return bar(1, colour)
     share = flow.bound / flow.deadline
     return bar(share * 4 / 5, colour, mark=0.8, told=share)
 
