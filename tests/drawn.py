@@ -5,7 +5,7 @@ docs/port.svg and docs/crates.svg are compared byte for byte. The others are dra
 python3-matplotlib), by the first of this Python and /usr/bin/python3 that has it; where neither has, they are left out,
 and it says so. By the version that a kept picture names they are compared byte for byte; by another, which sets letters
 a little elsewhere, what is compared is the words that they show, in their order. `tests/drawn.py --write` puts the new
-ones in their places."""
+ones in their places; `tests/drawn.py --quick` looks at the two alone that need no matplotlib."""
 
 import importlib.util
 import os
@@ -80,7 +80,8 @@ def with_matplotlib():
 
 
 def main():
-    drawable = with_matplotlib()
+    quick = "--quick" in sys.argv[1:]
+    drawable = not quick and with_matplotlib()
     faults = []
     with tempfile.TemporaryDirectory() as name:
         folder = pathlib.Path(name)
@@ -103,7 +104,7 @@ def main():
     print("\n".join(faults), end="\n" if faults else "", file=sys.stderr)
     print(
         f"pictures: {len(drawn) - len(faults)} as kept, {len(faults)} faults"
-        + ("" if drawable else f", {len(left)} not tried, since matplotlib is missing")
+        + ("" if drawable else f", {len(left)} not tried, " + ("as --quick asks" if quick else "since matplotlib is missing"))
     )
     return 1 if faults else 0
 

@@ -25,14 +25,14 @@ use Rattle.subadd_closure.proofs.FirstElements.{two_elements}
 use Rattle.subadd_closure.proofs.FoldShapes.{sofar_nonneg, star_nonneg, finite_past}
 use Rattle.subadd_closure.proofs.FoldSteps.{first_part, first_stops, next_part, next_stops, last_part, early_refusal, last_refusal}
 use Rattle.existence.specs.closures.Laws.{ClosuresExist}
-use Rattle.existence.specs.tables.Found.{HasAnswerOf}
+use Rattle.existence.specs.curves.Answered.{HasAnswer}
 use Rattle.existence.proofs.curves.Convolutions.{convolution_answered}
 use Rattle.existence.proofs.closures.Stars.{star_found, star_curve}
 use Rattle.existence.proofs.closures.Started.{last_found}
 
 -- ---- the parts of a curve
 abbrev IsStarFound : SpecCurve → Part → Type 0
-IsStarFound f p = HasAnswerOf (PartAnswer f p)
+IsStarFound f p = HasAnswer (PartAnswer f p)
 
 each_star : (f : SpecCurve) (es : List Element) → ((e : Element) → Among e es → IsStarFound f (part_of f.tail e))
     → EachPart (IsStarFound f) (map (part_of f.tail) es)
@@ -46,7 +46,7 @@ part_curve f p c a = star_curve f p.copies _ c a
 module _ (f : SpecCurve) (F : IsCurve f) (fin : IsFinite (value_at f)) (low : IsNonnegative (value_at f)) (start : ℚ)
     (at : value_at f zero_q ≡ Fin start) where
   abbrev IsFound : Type 0
-  IsFound = HasAnswerOf (CloseAnswer f)
+  IsFound = HasAnswer (CloseAnswer f)
 
   from_zero : zero_q ≤ℚ start
   from_zero = subst (λ (v : Ext). Fin zero_q ≤ₑ v) at (low zero_q (le_refl zero_q))
@@ -89,7 +89,7 @@ module _ (f : SpecCurve) (F : IsCurve f) (fin : IsFinite (value_at f)) (low : Is
       → ((w : SpecCurve) → PartsAnswer f (done ++ p ∷ []) (Ok w) → IsCurve w → IsFound) → IsFound
   star done p q rest s (Ok c) all h S a found next =
       let b = convolution_answered s c S (part_curve f p c a) in
-      convolved done p q rest s c b.answer all h a b.applies b.found next
+      convolved done p q rest s c b.answer all h a b.is b.found next
   star done p q rest s (Err fault) all h S a found next = refused done (q ∷ rest) p s fault all h (stops fault a refl) found
 
   -- a part, and those after it
@@ -115,7 +115,7 @@ module _ (f : SpecCurve) (F : IsCurve f) (fin : IsFinite (value_at f)) (low : Is
   whole (p ∷ []) all two each = absurd (omega (arith, two))
   whole (p ∷ q ∷ rest) all two each = first p q rest each.0.answer all each.0.is each.0.found each.1.0 each.1.1
 
-  pub fold_found : HasAnswerOf (CloseAnswer f)
+  pub fold_found : HasAnswer (CloseAnswer f)
   fold_found =
       let es = elements_of f.pieces (pieces_end f.tail) in
       let two = two_elements f es refl F.normal.raw fin in

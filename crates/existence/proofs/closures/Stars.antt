@@ -41,7 +41,7 @@ use Rattle.subadd_closure.proofs.ElementNumbers.{segment_start, segment_room}
 use Rattle.subadd_closure.proofs.HeavyCalls.{heavy_is_refused}
 use Rattle.subadd_closure.proofs.LatticeCurves.{lattice_is_curve, origin_is_curve}
 use Rattle.subadd_closure.proofs.MeetNumbers.{stretches_meet}
-use Rattle.existence.specs.tables.Found.{HasAnswerOf}
+use Rattle.existence.specs.curves.Answered.{HasAnswer}
 use Rattle.existence.proofs.curves.Convolutions.{convolution_answered}
 use Rattle.existence.proofs.curves.Lattices.{lower_answered}
 use Rattle.existence.proofs.closures.Elements.{IsFoundClosure, point_found, segment_found}
@@ -93,10 +93,10 @@ unfolding value_at
 has_lattice f e F fin = lattice_in f.pieces f.tail e fin F.normal.raw.tail F.readable
 
 -- ---- lowered by the point at 0
-lowered : (c : SpecCurve) → IsCurve c → HasAnswerOf (LoweredAnswer c)
-lowered c C = let a = lower_answered c origin_curve C origin_is_curve in record { answer = a.answer; is = a.applies; found = a.found }
+lowered : (c : SpecCurve) → IsCurve c → HasAnswer (LoweredAnswer c)
+lowered c C = let a = lower_answered c origin_curve C origin_is_curve in record { answer = a.answer; is = a.is; found = a.found }
 
-heavy_lowered : (c : SpecCurve) → IsNormal c → IsHeavy c → HasAnswerOf (LoweredAnswer c)
+heavy_lowered : (c : SpecCurve) → IsNormal c → IsHeavy c → HasAnswer (LoweredAnswer c)
 heavy_lowered c N heavy = record {
   answer = Err TooWide;
   is = heavy_is_refused.min c origin_curve N.raw origin_is_curve.normal.raw heavy;
@@ -107,20 +107,20 @@ heavy_lowered c N heavy = record {
 abbrev TurnedAnswer : Option Copies → SpecCurve → Result SpecCurve OpFault → Type 0
 TurnedAnswer o c r = Then (CopiedAnswer o c) LoweredAnswer r
 
-single : (c : SpecCurve) → HasAnswerOf (LoweredAnswer c) → HasAnswerOf (TurnedAnswer None c)
+single : (c : SpecCurve) → HasAnswer (LoweredAnswer c) → HasAnswer (TurnedAnswer None c)
 single c a = record { answer = a.answer; is = goes_on c refl a.is; found = a.found }
 
 copied : (k : Copies) (c : SpecCurve) (r : Result SpecCurve OpFault) → Applies Convolve c (lattice_curve k.period k.rise) r
-    → r ≢ Err NoMemory → HasAnswerOf (TurnedAnswer (Some k) c)
+    → r ≢ Err NoMemory → HasAnswer (TurnedAnswer (Some k) c)
 copied k c (Ok x) a found =
     let l = lowered x a.made.curve in record { answer = l.answer; is = goes_on x a l.is; found = l.found }
 copied k c (Err fault) a found = record { answer = Err fault; is = stops fault a refl; found = kept_refusal fault found }
 
-turned : (o : Option Copies) (c : SpecCurve) → HasLattice o → IsNormal c → IsCurve c ⊎ IsHeavy c → HasAnswerOf (TurnedAnswer o c)
+turned : (o : Option Copies) (c : SpecCurve) → HasLattice o → IsNormal c → IsCurve c ⊎ IsHeavy c → HasAnswer (TurnedAnswer o c)
 turned None c L N (inl C) = single c (lowered c C)
 turned None c L N (inr heavy) = single c (heavy_lowered c N heavy)
 turned (Some k) c L N (inl C) =
-    let a = convolution_answered c (lattice_curve k.period k.rise) C L in copied k c a.answer a.applies a.found
+    let a = convolution_answered c (lattice_curve k.period k.rise) C L in copied k c a.answer a.is a.found
 turned (Some k) c L N (inr heavy) =
     copied k c (Err TooWide) (heavy_is_refused.convolve c (lattice_curve k.period k.rise) N.raw L.normal.raw heavy) wide_found
 
@@ -161,7 +161,7 @@ module _ (f : SpecCurve) (F : IsCurve f) (fin : IsFinite (value_at f)) (low : Is
       segment_found a b l s.many record { stretch = s.stretch; late = segment_late f a b l F.normal fin low among }
       (segment_reads f a b l F among) s.none
 
-  pub star_found : (e : Element) → IsElementOf f e → HasAnswerOf (PartAnswer f (part_of f.tail e))
+  pub star_found : (e : Element) → IsElementOf f e → HasAnswer (PartAnswer f (part_of f.tail e))
   star_found e among = elim (within_or_not f (segment_number e)) [
     | inr over ↦ record { answer = Err over.fault; is = stops over.fault over.cause refl; found = over.found }
     | inl within ↦

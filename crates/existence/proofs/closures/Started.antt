@@ -24,7 +24,7 @@ use Rattle.subadd_closure.proofs.Made.{start_room, started_convolves, open_keeps
 use Rattle.subadd_closure.proofs.StartCurves.{started_values, started_curve}
 use Rattle.subadd_closure.proofs.Started.{started_answer}
 use Rattle.subadd_closure.proofs.Windowed.{IsConvolved}
-use Rattle.existence.specs.tables.Found.{HasAnswerOf}
+use Rattle.existence.specs.curves.Answered.{HasAnswer}
 use Rattle.existence.proofs.curves.Answered.{ok_found}
 use Rattle.existence.proofs.curves.Convolutions.{convolution_answered, convolve_frame, slower_rise}
 use Rattle.existence.proofs.curves.Windows.{answer_curve}
@@ -72,11 +72,11 @@ module _ (f g : SpecCurve) (start : ℚ) (F : IsCurve f) (G : IsCurve g) (low : 
       started r ps (r.end -ℚ r.period) rise record { frame = R; window = W; from_is = refl; rise_is = rises }
 
   by_answer : (r : Result SpecCurve OpFault) → Applies Convolve f g r → r ≢ Err NoMemory
-      → HasAnswerOf (Then (Applies Convolve f g) (StartsAt start))
+      → HasAnswer (Then (Applies Convolve f g) (StartsAt start))
   by_answer (Ok w) A found =
       let (h, H, past) = within_found w A in
       record { answer = Ok h; is = goes_on w A (starts_at f g w h start A H past); found = ok_found (Ok h) h refl }
   by_answer (Err fault) a found = record { answer = Err fault; is = stops fault a refl; found = kept_refusal fault found }
 
-  pub last_found : HasAnswerOf (Then (Applies Convolve f g) (StartsAt start))
-  last_found = let a = convolution_answered f g F G in by_answer a.answer a.applies a.found
+  pub last_found : HasAnswer (Then (Applies Convolve f g) (StartsAt start))
+  last_found = let a = convolution_answered f g F G in by_answer a.answer a.is a.found

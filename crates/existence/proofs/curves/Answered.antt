@@ -16,7 +16,8 @@ use Rattle.curve_call.specs.Answers.{IsMadeBy}
 use Rattle.curve_call.specs.CallWindows.{SecondIsCurve, start_of, period_in}
 use Rattle.curve_call.specs.Frames.{IsFrame, sizes_at}
 use Rattle.curve_call.proofs.Limited.{wide_at_least, many_at_least, within_at_least}
-use Rattle.existence.specs.curves.Answered.{HasAnswer, IsDecided, IsMadeWithin}
+use Rattle.existence.specs.curves.Answered.{HasAnswer, IsDecided, HasCurveWithin}
+use Rattle.curve_call.specs.Calls.{Applies}
 
 -- ---- the three answers
 wide_found : (r : Result SpecCurve OpFault) → r ≡ Err TooWide → r ≢ Err NoMemory
@@ -28,8 +29,8 @@ many_found r e h = cc
 pub ok_found : (r : Result SpecCurve OpFault) (h : SpecCurve) → r ≡ Ok h → r ≢ Err NoMemory
 ok_found r h e k = cc
 
-pub too_wide : (op : OpKind) (f g : SpecCurve) → IsTooWide op f g → HasAnswer op f g
-too_wide op f g w = record { answer = Err TooWide; applies = w; found = wide_found (Err TooWide) refl }
+pub too_wide : (op : OpKind) (f g : SpecCurve) → IsTooWide op f g → HasAnswer (Applies op f g)
+too_wide op f g w = record { answer = Err TooWide; is = w; found = wide_found (Err TooWide) refl }
 
 -- ---- with the least numbers of periods
 frame_of : (op : OpKind) (f g : SpecCurve) (k m : ℕ) → Frame
@@ -59,13 +60,13 @@ limited op f g k m F G looks L = elim (cases_lt (gauge_at op f g k m) (2 ^ 120))
 ]
 
 pub at_least : (op : OpKind) (f g : SpecCurve) (k m : ℕ) → IsCurve f → SecondIsCurve op g → ¬ (IsKnownAtOnce op f g) → IsLeastPeriods op f g k m
-    → ((r : Frame) → IsFrame op f g k m r → (h : SpecCurve) × IsMadeBy op f g h) → HasAnswer op f g
+    → ((r : Frame) → IsFrame op f g k m r → (h : SpecCurve) × IsMadeBy op f g h) → HasAnswer (Applies op f g)
 at_least op f g k m F G looks L makes = elim (limited op f g k m F G looks L) [
   | inl wide ↦ too_wide op f g wide
-  | inr (inl many) ↦ record { answer = Err TooMany; applies = many; found = many_found (Err TooMany) refl }
-  | inr (inr (r, R, within)) ↦ let (h, made) = makes r R in record { answer = Ok h; applies = record { within = within; made = made }; found = ok_found (Ok h) h refl }
+  | inr (inl many) ↦ record { answer = Err TooMany; is = many; found = many_found (Err TooMany) refl }
+  | inr (inr (r, R, within)) ↦ let (h, made) = makes r R in record { answer = Ok h; is = record { within = within; made = made }; found = ok_found (Ok h) h refl }
 ]
 
-pub answered : (op : OpKind) (f g : SpecCurve) → IsCurve f → SecondIsCurve op g → ¬ (IsKnownAtOnce op f g) → IsDecided op f g → IsMadeWithin op f g → HasAnswer op f g
+pub answered : (op : OpKind) (f g : SpecCurve) → IsCurve f → SecondIsCurve op g → ¬ (IsKnownAtOnce op f g) → IsDecided op f g → HasCurveWithin op f g → HasAnswer (Applies op f g)
 answered op f g F G looks (inl none) makes = too_wide op f g record { looks = looks; gauge = λ k m L. absurd (none k m L) }
 answered op f g F G looks (inr (k, m, L)) makes = at_least op f g k m F G looks L (λ r h. makes k m r L h)

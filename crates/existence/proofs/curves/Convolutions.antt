@@ -31,6 +31,7 @@ use Rattle.curve_conv.proofs.ConvolveAnswers.{windows, convolved_answer, convolv
 use Rattle.curve_conv.proofs.ConvolveCalls.{parts_call, none_wide, wide_first, refused_by, within_by, frame_by}
 use Rattle.element_envelope.proofs.FoundEnvelopes.{convolution_of}
 use Rattle.existence.proofs.curves.ConvolutionNumbers.{slower_found}
+use Rattle.curve_call.specs.Calls.{Applies}
 
 -- ---- within both limits
 pub slower_rise : (f g : SpecCurve) (d : ℚ) → (rise : ℚ) × RisesBy (rate g <ₑ rate f) (rise_over g d) (rise_over f d) rise
@@ -66,18 +67,18 @@ unfolding frame_of
 is_frame f g k F G l t = record { first = F; second = G; start = refl; period = refl; end = refl; times = refl; values = refl; gauge = l; tally = t }
 
 with_number : (f g : SpecCurve) (w : CallWindow) (from : ℚ) (k : ℕ) → IsCurve f × IsCurve g → IsFirstWindow Convolve f g w → from ≡ w.end -ℚ w.period → IsSlowerNumber f g from w.period k
-    → HasAnswer Convolve f g
+    → HasAnswer (Applies Convolve f g)
 with_number f g w from k K W e N = elim (cases_lt (gauge_at Convolve f g k 0) (2 ^ 120)) [
   | inr wide ↦ too_wide Convolve f g (refused_by f g w from k TooWide K W e N wide)
   | inl small ↦ elim (cases_lt (2 ^ 20) (tally_at Convolve f g k 0)) [
-    | inl many ↦ record { answer = Err TooMany; applies = refused_by f g w from k TooMany K W e N (small, many); found = λ h. cc }
+    | inl many ↦ record { answer = Err TooMany; is = refused_by f g w from k TooMany K W e N (small, many); found = λ h. cc }
     | inr few ↦
         let r = frame_of f g k in
         let R = is_frame f g k K.0 K.1 small few in
         let (c, curve, same) = convolution_curve f g r (frame_by f g w from k r K W e N R) in
         record {
           answer = Ok c;
-          applies = record { within = within_by f g w from k r K W e N R; made = record { curve = curve; answers = same } };
+          is = record { within = within_by f g w from k r K W e N R; made = record { curve = curve; answers = same } };
           found = ok_found (Ok c) c refl;
         }
   ]
@@ -92,11 +93,11 @@ unfolding first_window
 is_first f g small = record { window = record { start = refl; period = refl; end = refl }; gauge = small }
 
 by_number : (f g : SpecCurve) (w : CallWindow) (from : ℚ) (r : Option ℕ) → IsCurve f × IsCurve g → IsFirstWindow Convolve f g w → from ≡ w.end -ℚ w.period
-    → MatchOption r ((k : ℕ) → ¬ (IsSlowerAfter f g from w.period k)) (IsSlowerNumber f g from w.period) → HasAnswer Convolve f g
+    → MatchOption r ((k : ℕ) → ¬ (IsSlowerAfter f g from w.period k)) (IsSlowerNumber f g from w.period) → HasAnswer (Applies Convolve f g)
 by_number f g w from None K W e h = too_wide Convolve f g (none_wide f g w from K W e h)
 by_number f g w from (Some k) K W e h = with_number f g w from k K W e h
 
-pub convolution_answered : (f g : SpecCurve) → IsCurve f → IsCurve g → HasAnswer Convolve f g
+pub convolution_answered : (f g : SpecCurve) → IsCurve f → IsCurve g → HasAnswer (Applies Convolve f g)
 convolution_answered f g F G = elim (cases_lt (gauge_at Convolve f g 0 0) (2 ^ 120)) [
   | inr wide ↦ too_wide Convolve f g (wide_first f g TooWide (F, G) wide)
   | inl small ↦

@@ -33,6 +33,7 @@ use Rattle.curve_deconv.proofs.Raised.{sum_ready, raised_is}
 use Rattle.curve_deconv.proofs.Moved.{deconvolved_is}
 use Rattle.curve_deconv.proofs.Slower.{faster_deconvolves}
 use Rattle.curve_deconv.proofs.DeconvolveCall.{answer_period, reach_of, deconvolve_call, windows, deconvolve_answer, deconvolve_values, known_within}
+use Rattle.curve_call.specs.Calls.{Applies}
 
 -- ---- the pieces of the window
 window_of : (end reach : ℚ) (f g : List Piece) → OperandWindows end reach f g → (ps : List Piece) × IsDeconvolutionWindow end reach f g ps
@@ -61,10 +62,10 @@ made f g finite slow r F =
     (c, record { curve = curve; answers = λ t low. (deconvolve_values f g r z ls rs ps c D finite slow refl refl W same t low).deconvolves })
 
 -- ---- where it is
-infinite : (f g : SpecCurve) → IsCurve f → IsCurve g → IsFinite (value_at g) → rate g <ₑ rate f → HasAnswer Deconvolve f g
+infinite : (f g : SpecCurve) → IsCurve f → IsCurve g → IsFinite (value_at g) → rate g <ₑ rate f → HasAnswer (Applies Deconvolve f g)
 infinite f g F G finite faster = record {
   answer = Ok nowhere;
-  applies = record {
+  is = record {
     within = known_within f g faster;
     made = record {
       curve = nowhere_curve;
@@ -75,7 +76,7 @@ infinite f g F G finite faster = record {
   found = ok_found (Ok nowhere) nowhere refl;
 }
 
-pub deconvolution_answered : (f g : SpecCurve) → IsCurve f → IsCurve g → IsFinite (value_at g) → HasAnswer Deconvolve f g
+pub deconvolution_answered : (f g : SpecCurve) → IsCurve f → IsCurve g → IsFinite (value_at g) → HasAnswer (Applies Deconvolve f g)
 deconvolution_answered f g F G finite = elim (slower_or_not (rate g) (rate f)) [
   | inl faster ↦ infinite f g F G finite faster
   | inr slow ↦ at_least Deconvolve f g 0 0 F G slow (deconvolve_least f g) (made f g finite slow)

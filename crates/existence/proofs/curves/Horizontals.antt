@@ -19,7 +19,7 @@ use Rattle.upp_limits.specs.Levels.{level_of, IsLevelAbove}
 use Rattle.upp_limits.proofs.LevelCurves.{levels_above}
 use Rattle.curve_call.proofs.TailMoves.{rates_compared, not_both, not_same}
 use Rattle.existence.proofs.curves.Answered.{limited}
-use Rattle.existence.specs.curves.Verticals.{Measures}
+use Rattle.net_cells.specs.Answers.{Deviates}
 use Rattle.curve_deviation.specs.Stages.{AreFinite, AreFound, settled}
 use Rattle.existence.proofs.curves.Verticals.{finite_or_not}
 use Rattle.curve_deviation.proofs.HorizontalCall.{sizes_to, ready, deviation_is}
@@ -65,7 +65,7 @@ known_or f g F G finite up rise = elim (rates_compared (rate g) (rate f)) [
 
 -- ---- the deviation
 abbrev HasHorizontal : SpecCurve → SpecCurve → Type 0
-HasHorizontal f g = (r : Result Ext OpFault) × Measures Horizontal IsHorizontalDeviation f g r
+HasHorizontal f g = (r : Result Ext OpFault) × Deviates Horizontal IsHorizontalDeviation f g r
 
 wide_is : TooWide ≢ NoMemory
 wide_is e = cc

@@ -31,6 +31,7 @@ use Rattle.plain_operators.proofs.running.InfimumLoop.{InfimumLoop, infimum_star
 use Rattle.plain_operators.proofs.running.InfimumRuns.{inf_answer, inf_value}
 use Rattle.plain_operators.proofs.running.RunFacts.{inf_facts, run_window, run_fits}
 use Rattle.plain_operators.proofs.running.SupremumLoop.{window_end}
+use Rattle.curve_call.specs.Calls.{Applies}
 
 -- ---- the scan
 low : (level : ℚ) (ps : List Piece) (end : ℚ) (i : ℕ) (s : _) → IsStretch ps end i s → (b : Bend) × IsLow level s b
@@ -98,5 +99,5 @@ made f finite nonneg r R =
     let (c, curve, same) = answer_curve front r.start r.period rise r.times r.values (inf_answer f r to rise ps qs front R refl refl refl S K) in
     (c, record { curve = curve; answers = inf_value f r to rise ps qs front c finite nonneg R refl refl refl S K same })
 
-pub infimum_answered : (f : SpecCurve) → IsCurve f → IsFinite (value_at f) → IsNonnegative (value_at f) → HasAnswer RunInf f f
+pub infimum_answered : (f : SpecCurve) → IsCurve f → IsFinite (value_at f) → IsNonnegative (value_at f) → HasAnswer (Applies RunInf f f)
 infimum_answered f F finite nonneg = at_least RunInf f f 0 0 F tt (λ h. h) (run_inf_least f f) (made f finite nonneg)

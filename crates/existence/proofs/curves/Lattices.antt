@@ -36,6 +36,7 @@ use Rattle.plain_operators.specs.pointwise.LatticeCall.{IsLatticeFrame}
 use Rattle.plain_operators.proofs.pointwise.LatticeAnswers.{slower_or_not, lattice_answer, lattice_values}
 use Rattle.plain_operators.proofs.pointwise.LatticeCalls.{operands, first_compared}
 use Rattle.plain_operators.proofs.pointwise.LatticeLimits.{looks, wide_first, none_wide, some_least, lattice_frame}
+use Rattle.curve_call.specs.Calls.{Applies}
 
 -- ---- within both limits
 rises_by : (P : Type 0) (a b : ℚ) → P ⊎ ¬ P → (rise : ℚ) × RisesBy P a b rise
@@ -82,12 +83,12 @@ abbrev IsMadeAtLeast : Lattice → SpecCurve → SpecCurve → Type 0
 IsMadeAtLeast of f g =
     (k : ℕ) (r : Frame) → IsLeast (IsEnough f g (start_of (kind_of of) f g) (period_in (kind_of of) f g)) k → IsFrame (kind_of of) f g k 0 r → (h : SpecCurve) × IsMadeBy (kind_of of) f g h
 
-by_number : (of : Lattice) (f g : SpecCurve) → IsCurve f → IsCurve g → IsMadeAtLeast of f g → IsFound (IsEnough f g (start_of (kind_of of) f g) (period_in (kind_of of) f g)) → HasAnswer (kind_of of) f g
+by_number : (of : Lattice) (f g : SpecCurve) → IsCurve f → IsCurve g → IsMadeAtLeast of f g → IsFound (IsEnough f g (start_of (kind_of of) f g) (period_in (kind_of of) f g)) → HasAnswer (Applies (kind_of of) f g)
 by_number of f g F G makes (None, none) = too_wide (kind_of of) f g (none_wide of f g (start_of (kind_of of) f g) (period_in (kind_of of) f g) refl refl none)
 by_number of f g F G makes (Some k, h) =
     at_least (kind_of of) f g k 0 F (second of g G) (looks of f g) (some_least of f g (start_of (kind_of of) f g) (period_in (kind_of of) f g) k refl refl h) (λ r R. makes k r h R)
 
-answered : (of : Lattice) (f g : SpecCurve) → IsCurve f → IsCurve g → IsMadeAtLeast of f g → HasAnswer (kind_of of) f g
+answered : (of : Lattice) (f g : SpecCurve) → IsCurve f → IsCurve g → IsMadeAtLeast of f g → HasAnswer (Applies (kind_of of) f g)
 unfolding first_window
 answered of f g F G makes = elim (cases_lt (gauge_at (kind_of of) f g 0 0) (2 ^ 120)) [
   | inr wide ↦ too_wide (kind_of of) f g (wide_first of f g TooWide F G wide)
@@ -112,11 +113,11 @@ above_made f g finite k r L F =
     let (c, curve, same) = lattice_curve Excess f g r (lattice_frame Excess f g (both_steady f g) (common_period f g) k r refl refl L F) finite in
     (c, record { curve = curve; answers = same })
 
-pub lower_answered : (f g : SpecCurve) → IsCurve f → IsCurve g → HasAnswer Min f g
+pub lower_answered : (f g : SpecCurve) → IsCurve f → IsCurve g → HasAnswer (Applies Min f g)
 lower_answered f g F G = answered Lower f g F G (lower_made f g)
 
-pub upper_answered : (f g : SpecCurve) → IsCurve f → IsCurve g → HasAnswer Max f g
+pub upper_answered : (f g : SpecCurve) → IsCurve f → IsCurve g → HasAnswer (Applies Max f g)
 upper_answered f g F G = answered Upper f g F G (upper_made f g)
 
-pub above_answered : (f g : SpecCurve) → IsCurve f → IsCurve g → IsFinite (value_at f) → HasAnswer PosDiff f g
+pub above_answered : (f g : SpecCurve) → IsCurve f → IsCurve g → IsFinite (value_at f) → HasAnswer (Applies PosDiff f g)
 above_answered f g F G finite = answered Excess f g F G (above_made f g finite)

@@ -46,6 +46,7 @@ use Rattle.plain_operators.proofs.running.LowestCalls.{first_window, first_fits,
 use Rattle.plain_operators.proofs.running.MostBehind.{least_there}
 use Rattle.plain_operators.proofs.running.Nothing.{nothing_curve, nothing_value}
 use Rattle.existence.proofs.curves.Infima.{scan_back, front_of}
+use Rattle.curve_call.specs.Calls.{Applies}
 
 -- ---- the pieces
 window : (f g : SpecCurve) (theta : ℚ) (r : Frame) → IsLeftFrame f g theta r → (ps : List Piece) × IsLeftWindow f g theta r.end ps
@@ -87,7 +88,7 @@ is_gate : (theta : ℚ) (f g : SpecCurve) → gauge_at (FifoLeft (Fin theta)) f 
 unfolding gate
 is_gate theta f g small = record { window = record { start = refl; period = refl; end = refl }; gauge = small }
 
-after : (theta : ℚ) (f g : SpecCurve) → IsCurve f → IsCurve g → IsServed (value_at f) (value_at g) theta → HasAnswer (FifoLeft (Fin theta)) f g
+after : (theta : ℚ) (f g : SpecCurve) → IsCurve f → IsCurve g → IsServed (value_at f) (value_at g) theta → HasAnswer (Applies (FifoLeft (Fin theta)) f g)
 after theta f g F G S = elim (cases_lt (gauge_at (FifoLeft (Fin theta)) f g 0 0) (2 ^ 120)) [
   | inr wide ↦ too_wide (FifoLeft (Fin theta)) f g (left_wide theta f g TooWide S (F, G) wide)
   | inl small ↦
@@ -96,13 +97,13 @@ after theta f g F G S = elim (cases_lt (gauge_at (FifoLeft (Fin theta)) f g 0 0)
 ]
 
 -- ---- after an infinite wait nothing is looked at
-never : (f g : SpecCurve) → HasAnswer (FifoLeft Inf) f g
+never : (f g : SpecCurve) → HasAnswer (Applies (FifoLeft Inf) f g)
 never f g =
     let ps : List Piece = record { x = zero_q; at = Fin zero_q; line = Some record { icept = zero_q; slope = zero_q } } ∷ [] in
     let c : SpecCurve = record { pieces = ps; tail = Affine zero_q } in
     record {
       answer = Ok c;
-      applies = record {
+      is = record {
         within = record { narrow = λ w. w.looks tt; few = λ m. m.looks tt };
         made = record { curve = nothing_curve ps zero_q zero_small (refl, refl); answers = λ t low. nothing_value ps zero_q c t (refl, refl) refl low };
       };
@@ -110,6 +111,6 @@ never f g =
     }
 
 pub left_over_answered : (x : Ext) (f g : SpecCurve) → IsCurve f → IsCurve g → IsFinite (value_at f) → IsRising (value_at f) → IsNonnegative (value_at f) → IsHorizontalDeviation (value_at g) (value_at f) x
-    → HasAnswer (FifoLeft x) f g
+    → HasAnswer (Applies (FifoLeft x) f g)
 left_over_answered Inf f g F G finite rising nonneg deviation = never f g
 left_over_answered (Fin theta) f g F G finite rising nonneg deviation = after theta f g F G record { finite = finite; rising = rising; nonneg = nonneg; deviation = deviation }

@@ -25,6 +25,7 @@ use Rattle.existence.proofs.curves.Least.{IsFound, least_of}
 use Rattle.plain_operators.specs.declared.pointwise.lattice.Lattice.TheVariants.{Excess}
 use Rattle.existence.proofs.curves.Lattices.{lattice_curve}
 use Rattle.plain_operators.proofs.pointwise.LatticeLevels.{minus_compared, minus_wide, minus_none, minus_least, minus_frame, minus_values}
+use Rattle.curve_call.specs.Calls.{Applies}
 
 first_window : ℚ → SpecCurve → CallWindow
 first_window l f = record { start = steady f; period = own_period f; end = window_at (PosMinus l) f f 0 0 }
@@ -39,11 +40,11 @@ made l f w k finite W L r F =
     let (c, curve, same) = lattice_curve Excess f (level_curve l) r (minus_frame l f w k r W L F) finite in
     (c, record { curve = curve; answers = minus_values l f c same })
 
-by_number : (l : ℚ) (f : SpecCurve) (w : CallWindow) → IsCurve f → IsFinite (value_at f) → IsFirstWindow (PosMinus l) f f w → IsFound (IsEnough f (level_curve l) w.start w.period) → HasAnswer (PosMinus l) f f
+by_number : (l : ℚ) (f : SpecCurve) (w : CallWindow) → IsCurve f → IsFinite (value_at f) → IsFirstWindow (PosMinus l) f f w → IsFound (IsEnough f (level_curve l) w.start w.period) → HasAnswer (Applies (PosMinus l) f f)
 by_number l f w F finite W (None, none) = too_wide (PosMinus l) f f (minus_none l f w F W none)
 by_number l f w F finite W (Some k, L) = at_least (PosMinus l) f f k 0 F tt (λ h. h) (minus_least l f w k F W L) (made l f w k finite W L)
 
-pub minus_answered : (l : ℚ) (f : SpecCurve) → IsCurve f → IsFinite (value_at f) → HasAnswer (PosMinus l) f f
+pub minus_answered : (l : ℚ) (f : SpecCurve) → IsCurve f → IsFinite (value_at f) → HasAnswer (Applies (PosMinus l) f f)
 minus_answered l f F finite = elim (cases_lt (gauge_at (PosMinus l) f f 0 0) (2 ^ 120)) [
   | inr wide ↦ too_wide (PosMinus l) f f (minus_wide l f TooWide F wide)
   | inl small ↦

@@ -24,6 +24,7 @@ use Rattle.existence.proofs.curves.Windows.{answer_curve}
 use Rattle.plain_operators.specs.pointwise.Shifting.{moved_left, IsAhead}
 use Rattle.plain_operators.proofs.pointwise.ScaleCall.{IsMade, scale_call, made_raw, made_found, made_values}
 use Rattle.plain_operators.proofs.pointwise.ShiftCall.{shift_call, window_pieces, shift_answer, shift_values}
+use Rattle.curve_call.specs.Calls.{Applies}
 
 -- ---- multiples
 scale_made : (q : ℚ) (f : SpecCurve) (r : Frame) → IsFrame (Scale q) f f 0 0 r → (h : SpecCurve) × IsMadeBy (Scale q) f f h
@@ -37,7 +38,7 @@ scale_made q f r F =
     let (c, curve, same) = curve_with_room record { pieces = ps; tail = tail } r.times r.values (made_raw q f r z ps tail S M) found.grids found.room in
     (c, record { curve = curve; answers = made_values q f ps tail c M same })
 
-pub scale_answered : (q : ℚ) (f : SpecCurve) → IsCurve f → HasAnswer (Scale q) f f
+pub scale_answered : (q : ℚ) (f : SpecCurve) → IsCurve f → HasAnswer (Applies (Scale q) f f)
 scale_answered q f F = at_least (Scale q) f f 0 0 F tt (λ h. h) (scale_least q f f) (scale_made q f)
 
 -- ---- shifts
@@ -57,16 +58,16 @@ shift_made x f low r F =
     (c, record { curve = curve; answers = shift_values x f r z ls ws from rise c S refl (λ p ps e. ap (left_of x) e) refl refl same })
 
 -- by infinity nothing is looked at
-shift_nowhere : (f : SpecCurve) → HasAnswer (Shift Inf) f f
+shift_nowhere : (f : SpecCurve) → HasAnswer (Applies (Shift Inf) f f)
 shift_nowhere f = record {
   answer = Ok nowhere;
-  applies = record {
+  is = record {
     within = record { narrow = λ w. w.looks tt; few = λ m. m.looks tt };
     made = record { curve = nowhere_curve; answers = λ t low. nowhere_values t };
   };
   found = ok_found (Ok nowhere) nowhere refl;
 }
 
-pub shift_answered : (x : Ext) (f : SpecCurve) → IsAhead x → IsCurve f → HasAnswer (Shift x) f f
+pub shift_answered : (x : Ext) (f : SpecCurve) → IsAhead x → IsCurve f → HasAnswer (Applies (Shift x) f f)
 shift_answered Inf f ahead F = shift_nowhere f
 shift_answered (Fin x) f ahead F = at_least (Shift (Fin x)) f f 0 0 F tt (λ h. h) (shift_least (Fin x) f f) (shift_made x f ahead)

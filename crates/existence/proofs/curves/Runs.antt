@@ -29,6 +29,7 @@ use Rattle.existence.proofs.curves.Scans.{scan, between, cover}
 use Rattle.plain_operators.proofs.running.RunFacts.{sup_facts, window_facts, run_window, run_fits, run_call}
 use Rattle.plain_operators.proofs.running.SupremumCalls.{FoundNumber, first_period, found_number, flat_number, early_number}
 use Rattle.plain_operators.proofs.running.SupremumRuns.{sup_answer, sup_value}
+use Rattle.curve_call.specs.Calls.{Applies}
 
 -- ---- the number of periods
 covered : (f : SpecCurve) (start period rise : ℚ) → IsSupremumCall f start period rise → zero_q <ℚ rise → zero_q <ℚ start → (k : ℕ) × FoundNumber f start period rise k
@@ -71,7 +72,7 @@ made f k finite nonneg N r R =
     let (c, curve, same) = answer_curve qs from r.period rise r.times r.values (sup_answer f k r from rise ps qs R refl refl refl S) in
     (c, record { curve = curve; answers = sup_value f k r from rise ps qs c finite nonneg N R refl refl refl S same })
 
-pub supremum_answered : (f : SpecCurve) → IsCurve f → IsFinite (value_at f) → IsNonnegative (value_at f) → HasAnswer RunSup f f
+pub supremum_answered : (f : SpecCurve) → IsCurve f → IsFinite (value_at f) → IsNonnegative (value_at f) → HasAnswer (Applies RunSup f f)
 supremum_answered f F finite nonneg = elim (cases_lt (gauge_at RunSup f f 0 0) (2 ^ 120)) [
   | inr wide ↦ too_wide RunSup f f (first_gate RunSup f f F F tt (λ h. h) wide)
   | inl small ↦

@@ -15,6 +15,7 @@ use Rattle.existence.specs.curves.Answered.{HasAnswer}
 use Rattle.existence.proofs.curves.Answered.{at_least}
 use Rattle.existence.proofs.curves.Windows.{answer_curve}
 use Rattle.plain_operators.proofs.pointwise.SumCall.{sum_call, left_pieces, right_pieces, sum_answer, sum_values}
+use Rattle.curve_call.specs.Calls.{Applies}
 
 made : (f g : SpecCurve) (r : Frame) → IsFrame Sum f g 0 0 r → (h : SpecCurve) × IsMadeBy Sum f g h
 made f g r F =
@@ -27,5 +28,5 @@ made f g r F =
     let (c, curve, same) = answer_curve ps r.start r.period rise r.times r.values (sum_answer f g r z ls rs ps rise S refl refl W refl) in
     (c, record { curve = curve; answers = sum_values f g r z ls rs ps rise c S refl refl W refl same })
 
-pub sum_answered : (f g : SpecCurve) → IsCurve f → IsCurve g → HasAnswer Sum f g
+pub sum_answered : (f g : SpecCurve) → IsCurve f → IsCurve g → HasAnswer (Applies Sum f g)
 sum_answered f g F G = at_least Sum f g 0 0 F G (λ h. h) (sum_least f g) (made f g)

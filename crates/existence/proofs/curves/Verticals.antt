@@ -30,7 +30,7 @@ use Rattle.curve_call.specs.declared.gaps.Gap.TheVariants.{NoTime, Never, Is}
 use Rattle.curve_call.specs.Gaps.{InWindow, IsGap}
 use Rattle.existence.proofs.curves.Answered.{limited}
 use Rattle.curve_call.proofs.GapThere.{gap_there}
-use Rattle.existence.specs.curves.Verticals.{Measures}
+use Rattle.net_cells.specs.Answers.{Deviates}
 use Rattle.curve_deviation.proofs.AtOnce.{not_finite_deviation}
 use Rattle.curve_deviation.proofs.VerticalCall.{frame_compared, known_within, faster_at_once, not_known}
 use Rattle.curve_deviation.proofs.WholeGap.{vertical_is, some_time, never_endless, whole_window}
@@ -79,7 +79,7 @@ finite_or_not c F = by_tail c.tail refl
 
 -- ---- the deviation
 abbrev HasVertical : SpecCurve → SpecCurve → Type 0
-HasVertical f g = (r : Result Ext OpFault) × Measures Vertical IsVerticalDeviation f g r
+HasVertical f g = (r : Result Ext OpFault) × Deviates Vertical IsVerticalDeviation f g r
 
 wide_is : TooWide ≢ NoMemory
 wide_is e = cc

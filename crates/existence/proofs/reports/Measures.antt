@@ -27,7 +27,7 @@ use Rattle.command_replies.specs.Replies.{Reply, over, table_fault_reply}
 use Rattle.outcomes.specs.Stages.{stops, goes_on}
 use Rattle.commands.specs.measure.OnMeasures.{IsMeasured, measure_report, unknown_flow, IsReplyOnPackets, IsReplyOnTrace, IsReplyOnNet, IsMeasureReply}
 use Rattle.commands.proofs.measure.Answering.{reported, steep, past}
-use Rattle.existence.specs.curves.Verticals.{Measures}
+use Rattle.net_cells.specs.Answers.{Deviates}
 use Rattle.existence.specs.reports.Laws.{StopsOrGives, MeasuresHaveReplies}
 use Rattle.existence.proofs.curves.Verticals.{vertical_answered}
 use Rattle.existence.proofs.reports.Measured.{measured_curve}
@@ -40,7 +40,7 @@ abbrev HasReply : List TracePacket → List ℕ → ℚ → Type 0
 HasReply ps name rate = (reply : Reply) × IsReplyOnPackets ps name rate reply
 
 by_burst : (ps : List TracePacket) (name : List ℕ) (rate : ℚ) (c : SpecCurve) → zero_q ≤ℚ rate → IsMeasured ps c
-    → (r : Result Ext OpFault) → Measures Vertical IsVerticalDeviation c (bucket zero_q rate) r → HasReply ps name rate
+    → (r : Result Ext OpFault) → Deviates Vertical IsVerticalDeviation c (bucket zero_q rate) r → HasReply ps name rate
 by_burst ps name rate c low m (Ok (Fin burst)) h =
     let reply = measure_report name (length ps) c burst rate in
     (reply, reported ps name rate c burst reply m h.0 (least_burst (value_at c) rate burst h.1) refl)

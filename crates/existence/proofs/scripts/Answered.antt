@@ -95,7 +95,7 @@ asked_has Backlog f g old c d =
 asked_has Equal f g old c d =
     let (b, same) = truth (same_values_or f g c d) in
     record { result = Ok (TruthIs words.Equal b); new = old; is = ((b, same, refl), refl); told = tt; keeps = tt }
-asked_has Below f g old c d = let a = lower_answered f g c d in below_by f g old a.answer c a.applies a.found
+asked_has Below f g old c d = let a = lower_answered f g c d in below_by f g old a.answer c a.is a.found
 
 -- ---- statements
 abbrev KeepsCurve : Added → Type 0

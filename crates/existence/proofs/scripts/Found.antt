@@ -46,7 +46,7 @@ use Rattle.curve_lang.specs.Found.{Let, curve_named, NameFinds, TestedBy, Tested
 use Rattle.curve_lang.proofs.Below.{tested_nonneg, above_is_negative}
 use Rattle.curve_lang.proofs.Meant.{stair_numbers, gate_numbers}
 use Rattle.existence.specs.curves.Answered.{HasAnswer}
-use Rattle.existence.specs.curves.Verticals.{Measures}
+use Rattle.net_cells.specs.Answers.{Deviates}
 use Rattle.existence.proofs.closures.Folds.{closures_exist}
 use Rattle.existence.proofs.curves.Convolutions.{convolution_answered}
 use Rattle.existence.proofs.curves.Deciding.{both}
@@ -121,13 +121,13 @@ call_by op f g old (Err faults.TooWide) a found =
     record { result = Err TooWide; new = old + 1; is = (a, refl); told = wide_told; keeps = tt }
 call_by op f g old (Err faults.NoMemory) a found = absurd (found refl)
 
-call_has : (op : OpKind) (f g : SpecCurve) (old : ℕ) → HasAnswer op f g → Has IsCurve (Once (CurveFinds op f g)) old
-call_has op f g old h = call_by op f g old h.answer h.applies h.found
+call_has : (op : OpKind) (f g : SpecCurve) (old : ℕ) → HasAnswer (Applies op f g) → Has IsCurve (Once (CurveFinds op f g)) old
+call_has op f g old h = call_by op f g old h.answer h.is h.found
 
 -- a deviation
 pub measure_has : {A : Type 0} (op : OpKind) (D : (ℚ → Ext) → (ℚ → Ext) → Ext → Type 0) (f g : SpecCurve) (Q K : A → Type 0)
     (old : ℕ) → ((x : Ext) → D (value_at f) (value_at g) x → (a : A) × Q a × K a)
-    → (r : Result Ext OpFault) → Measures op D f g r → Has K (Once (CallFinds op f g Q)) old
+    → (r : Result Ext OpFault) → Deviates op D f g r → Has K (Once (CallFinds op f g Q)) old
 measure_has op D f g Q K old tells (Ok x) m =
     let (a, is, keeps) = tells x m.1 in
     record { result = Ok a; new = old + 1; is = ((m.0, is), refl); told = tt; keeps = keeps }

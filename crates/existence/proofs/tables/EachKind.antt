@@ -49,9 +49,9 @@ use Rattle.existence.proofs.curves.Runs.{supremum_answered}
 use Rattle.existence.proofs.curves.LeftOvers.{left_over_answered}
 use Rattle.existence.proofs.curves.Convolutions.{convolution_answered}
 use Rattle.existence.proofs.curves.Deconvolutions.{deconvolution_answered}
-use Rattle.existence.specs.tables.Found.{HasAnswerOf, CallsExist}
+use Rattle.existence.specs.curves.Answered.{HasAnswer}
+use Rattle.existence.specs.tables.Found.{CallsExist}
 use Rattle.existence.specs.tables.Formulas.{GivesCurve, GivesNumber, CallsAreFound}
-use Rattle.existence.proofs.tables.InTurn.{call_found}
 use Rattle.existence.proofs.tables.Services.{by_priority, by_deficit}
 use Rattle.run_watch.specs.simulated_sizes.Laws.{AreCurves}
 use Rattle.existence.proofs.tables.Sound.{IsSound, service_curve}
@@ -166,7 +166,7 @@ module _ (net : Net) (at : CellTable) (P : Cell → Type 0) (M : Meets net at P)
   service_calls s (above before lower) it found =
       let higher = value_found at before IsCurve found in (
         higher.calls,
-        then_found at (value_of before) IsCurve (λ g. HasAnswerOf (MakesPriority (service net s) g lower)) higher
+        then_found at (value_of before) IsCurve (λ g. HasAnswer (MakesPriority (service net s) g lower)) higher
             (λ g k. by_priority calls_exist (service net s) g lower (service_curve net s H) k (service_grows net s it).finite),
       )
   service_calls s (share quanta longest queue) it found =
@@ -184,11 +184,10 @@ module _ (net : Net) (at : CellTable) (P : Cell → Type 0) (M : Meets net at P)
       let g = e.means.gives.operand in
       let x = number_from (IsHorizontalDeviation (value_at f) (value_at g)) e.value e.means.gives.gives in
       let served = curve_holds at queue Serving g (hop_served net at P M a i k h queue_there) e.means.gives.is in
-      let answer = call_found (FifoLeft x.0) g f
-      (left_over_answered x.0 g f (S queue (curve g) queue_there e.means.gives.is) (S cross (curve f) cross_there e.means.is) served.finite served.rising served.nonneg x.2) in
-      let Last : Ext → Type 0 = λ y. HasAnswerOf (Applies (FifoLeft y) g f) in
-      let Next : SpecCurve → Type 0 = λ u. GivesNumber (AnswersFrom at (value_of theta) []) (λ y. HasAnswerOf (Applies (FifoLeft y) g u)) in
-      let All : SpecCurve → Type 0 = λ w. GivesCurve (AnswersFrom at (value_of cross) []) (λ u. GivesNumber (AnswersFrom at (value_of theta) []) (λ y. HasAnswerOf (Applies (FifoLeft y) w u))) in
+      let answer = (left_over_answered x.0 g f (S queue (curve g) queue_there e.means.gives.is) (S cross (curve f) cross_there e.means.is) served.finite served.rising served.nonneg x.2) in
+      let Last : Ext → Type 0 = λ y. HasAnswer (Applies (FifoLeft y) g f) in
+      let Next : SpecCurve → Type 0 = λ u. GivesNumber (AnswersFrom at (value_of theta) []) (λ y. HasAnswer (Applies (FifoLeft y) g u)) in
+      let All : SpecCurve → Type 0 = λ w. GivesCurve (AnswersFrom at (value_of cross) []) (λ u. GivesNumber (AnswersFrom at (value_of theta) []) (λ y. HasAnswer (Applies (FifoLeft y) w u))) in
       let last = number_found at theta Last record { value = x.0; is = e.is ∙ ap Some x.1; holds = answer } in
       let next = value_found at cross Next record { value = f; is = e.means.is; holds = then_number_found at (value_of theta) Last Last last (λ y m. m) } in
       let all = value_found at queue All record { value = g; is = e.means.gives.is; holds = then_found at (value_of cross) Next Next next (λ u m. m) } in
@@ -246,9 +245,9 @@ module _ (net : Net) (at : CellTable) (P : Cell → Type 0) (M : Meets net at P)
       let second = number_found at (cell_of HopDelay i k) IsNonneg (hop_delay_ahead net at P M i k later) in (
         first.calls,
         second.calls,
-        then_found at (value In i k) IsCurve (λ f. GivesNumber (AnswersFrom at (value HopDelay i k) []) (λ x. HasAnswerOf (AppliesTo (Shift x) f))) first
-            (λ f q. then_number_found at (value HopDelay i k) IsNonneg (λ x. HasAnswerOf (AppliesTo (Shift x) f)) second
-            (λ x n. call_found (Shift x) f f (shift_answered x f (ahead x n) q))),
+        then_found at (value In i k) IsCurve (λ f. GivesNumber (AnswersFrom at (value HopDelay i k) []) (λ x. HasAnswer (AppliesTo (Shift x) f))) first
+            (λ f q. then_number_found at (value HopDelay i k) IsNonneg (λ x. HasAnswer (AppliesTo (Shift x) f)) second
+            (λ x n. shift_answered x f (ahead x n) q)),
       )
   calls_of DeconvOut i k e leaf =
       let comes = leaf (cell_of In i k) (inl refl) in

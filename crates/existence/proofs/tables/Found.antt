@@ -26,13 +26,10 @@ use Rattle.net_cells.specs.Means.{Means}
 use Rattle.net_cells.specs.Answers.{AnswersFrom, Deviates}
 use Rattle.net_cells.proofs.AnswersMean.{answers_mean}
 use Rattle.existence.specs.curves.Answered.{HasAnswer}
-use Rattle.existence.specs.curves.Verticals.{Measures}
 use Rattle.existence.proofs.curves.Verticals.{vertical_answered}
 use Rattle.existence.proofs.curves.Levels.{minus_answered}
 use Rattle.existence.proofs.curves.Horizontals.{horizontal_answered}
-use Rattle.existence.specs.tables.Found.{HasAnswerOf}
 use Rattle.existence.specs.tables.Formulas.{GivesCurve, GivesNumber, CallsAreFound}
-use Rattle.existence.proofs.tables.InTurn.{call_found}
 
 -- ---- sorts of curves
 abbrev pub IsArriving : SpecCurve → Type 0
@@ -90,12 +87,12 @@ module _ (at : CellTable) (c : Cell) where
 
 -- ---- calls
 pub made_found : (at : CellTable) (op : OpKind) (F G : Formula) (Q S : SpecCurve → Type 0) → CurveIsFound at F Q → CurveIsFound at G S
-    → ((f g : SpecCurve) → Q f → S g → HasAnswer op f g) → CurveIsFound at (made op F G) IsCurve
+    → ((f g : SpecCurve) → Q f → S g → HasAnswer (Applies op f g)) → CurveIsFound at (made op F G) IsCurve
 made_found at op F G Q S first second k = record {
   calls = (
     first.calls,
     second.calls,
-    then_both_found at F G Q S (λ f g. HasAnswerOf (Applies op f g)) first second (λ f g q s. call_found op f g (k f g q s)),
+    then_both_found at F G Q S (λ f g. HasAnswer (Applies op f g)) first second k,
   );
   means = λ v m. curve_map (IsMadeBy op m.operand m.gives.operand) IsCurve v (λ h b. b.curve) m.gives.gives;
 }
@@ -105,8 +102,8 @@ pub less_found : (at : CellTable) (F : Formula) (bits : ℕ) → CurveIsFound at
 less_found at F bits first = record {
   calls = (
     first.calls,
-    then_found at F IsFiniteCurve (λ f. HasAnswerOf (AppliesTo (PosMinus (whole bits)) f)) first
-        (λ f q. call_found (PosMinus (whole bits)) f f (minus_answered (whole bits) f q.0 q.1)),
+    then_found at F IsFiniteCurve (λ f. HasAnswer (AppliesTo (PosMinus (whole bits)) f)) first
+        (λ f q. minus_answered (whole bits) f q.0 q.1),
   );
   means = λ v m.
       curve_map (IsMadeBy (PosMinus (whole bits)) m.operand m.operand) IsFiniteCurve v
@@ -114,8 +111,8 @@ less_found at F bits first = record {
 }
 
 -- ---- deviations
-measured : (op : OpKind) (D : (ℚ → Ext) → (ℚ → Ext) → Ext → Type 0) (f g : SpecCurve) (r : Result Ext OpFault) → Measures op D f g r
-    → HasAnswerOf (Deviates op D f g)
+measured : (op : OpKind) (D : (ℚ → Ext) → (ℚ → Ext) → Ext → Type 0) (f g : SpecCurve) (r : Result Ext OpFault) → Deviates op D f g r
+    → HasAnswer (Deviates op D f g)
 measured op D f g (Ok x) m = record { answer = Ok x; is = m; found = λ e. absurd (let bad : Ok x ≡ Err NoMemory = e in cc) }
 measured op D f g (Err fault) m = record {
   answer = Err fault;
@@ -129,7 +126,7 @@ horizontal_found at F G first second = record {
   calls = (
     first.calls,
     second.calls,
-    then_both_found at F G IsArriving IsServing (λ f g. HasAnswerOf (Deviates Horizontal IsHorizontalDeviation f g)) first second
+    then_both_found at F G IsArriving IsServing (λ f g. HasAnswer (Deviates Horizontal IsHorizontalDeviation f g)) first second
         (λ f g q s. let r = horizontal_answered f g q.0 s.0.0 s.0.1 q.1 s.1 in measured Horizontal IsHorizontalDeviation f g r.0 r.1),
   );
   means = λ v m. number_map (IsHorizontalDeviation (value_at m.operand) (value_at m.gives.operand)) (λ x. Unit {0}) v (λ x d. tt) m.gives.gives;
@@ -139,6 +136,6 @@ pub vertical_found : (at : CellTable) (F G : Formula) → CurveIsFound at F IsCu
 vertical_found at F G first second = (
   first.calls,
   second.calls,
-  then_both_found at F G IsCurve IsFiniteCurve (λ f g. HasAnswerOf (Deviates Vertical IsVerticalDeviation f g)) first second
+  then_both_found at F G IsCurve IsFiniteCurve (λ f g. HasAnswer (Deviates Vertical IsVerticalDeviation f g)) first second
       (λ f g q s. let r = vertical_answered f g q s.0 s.1 in measured Vertical IsVerticalDeviation f g r.0 r.1),
 )

@@ -8,15 +8,11 @@ use Rattle.upp_limits.specs.declared.op_kind.OpFault.TheVariants.{NoMemory}
 use Rattle.curve_call.specs.Calls.{Applies}
 use Rattle.outcomes.specs.Calls.{Then, goes_on, stops}
 use Rattle.existence.specs.curves.Answered.{HasAnswer}
-use Rattle.existence.specs.tables.Found.{HasAnswerOf}
 
-pub call_found : (op : OpKind) (f g : SpecCurve) → HasAnswer op f g → HasAnswerOf (Applies op f g)
-call_found op f g h = record { answer = h.answer; is = h.applies; found = h.found }
-
-turn_from : {A B : Type 0} (P : Result A OpFault → Type 0) (Q : A → Result B OpFault → Type 0) → ((x : A) → P (Ok x) → HasAnswerOf (Q x)) → (r : Result A OpFault) → P r → r ≢ Err NoMemory
-    → HasAnswerOf (Then P Q)
+turn_from : {A B : Type 0} (P : Result A OpFault → Type 0) (Q : A → Result B OpFault → Type 0) → ((x : A) → P (Ok x) → HasAnswer (Q x)) → (r : Result A OpFault) → P r → r ≢ Err NoMemory
+    → HasAnswer (Then P Q)
 turn_from {A} {B} P Q next (Ok x) h k = let q = next x h in record { answer = q.answer; is = goes_on x h q.is; found = q.found }
 turn_from {A} {B} P Q next (Err fault) h k = record { answer = Err fault; is = stops fault h refl; found = λ e. k cc }
 
-pub in_turn : {A B : Type 0} (P : Result A OpFault → Type 0) (Q : A → Result B OpFault → Type 0) → HasAnswerOf P → ((x : A) → P (Ok x) → HasAnswerOf (Q x)) → HasAnswerOf (Then P Q)
+pub in_turn : {A B : Type 0} (P : Result A OpFault → Type 0) (Q : A → Result B OpFault → Type 0) → HasAnswer P → ((x : A) → P (Ok x) → HasAnswer (Q x)) → HasAnswer (Then P Q)
 in_turn {A} {B} P Q first next = turn_from P Q next first.answer first.is first.found

@@ -34,9 +34,8 @@ use Rattle.net_cells.proofs.Lists.{map_has}
 use Rattle.net_cells.proofs.Stored.{flow_kept}
 use Rattle.existence.proofs.curves.Sums.{sum_answered}
 use Rattle.existence.proofs.curves.Lattices.{lower_answered}
-use Rattle.existence.specs.tables.Found.{HasAnswerOf}
+use Rattle.existence.specs.curves.Answered.{HasAnswer}
 use Rattle.existence.specs.tables.Formulas.{EachIsCurve, CallsAreFound}
-use Rattle.existence.proofs.tables.InTurn.{call_found}
 use Rattle.existence.proofs.tables.OperatorSums.{sums_of}
 use Rattle.existence.proofs.tables.Sound.{zero_is, curves_push}
 use Rattle.existence.proofs.tables.Found.{CurveIsFound, then_found, value_found, made_found}
@@ -84,7 +83,7 @@ module _ (net : Net) (at : CellTable) (s q : ℕ) (a : IsAccepted net) where
       let most = longest_most net vs a in
       let B_is = bucket_curve (whole (longest_of net vs)) (rate net p) (number_small (longest_of net vs) (omega (arith, most))) in
       record {
-        calls = (first.calls, then_found at F IsCurve (λ f. HasAnswerOf (Applies Min f B)) first (λ f h. call_found Min f B (lower_answered f B h B_is)));
+        calls = (first.calls, then_found at F IsCurve (λ f. HasAnswer (Applies Min f B)) first (λ f h. lower_answered f B h B_is));
         means = λ v m. curve_map (IsMadeBy Min m.operand B) IsCurve v (λ h b. b.curve) m.gives;
       }
 

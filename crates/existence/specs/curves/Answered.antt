@@ -10,9 +10,10 @@ use Rattle.curve_call.specs.Answers.{IsMadeBy}
 use Rattle.curve_call.specs.Calls.{Applies}
 use Rattle.curve_call.specs.Frames.{IsFrame}
 
-pub record HasAnswer (op : OpKind) (f g : SpecCurve) : Type 0 where
-  pub answer : Result SpecCurve OpFault
-  pub applies : Applies op f g answer
+-- an answer of which P holds, and no want of memory
+pub record HasAnswer {A : Type 0} (P : Result A OpFault → Type 0) : Type 0 where
+  pub answer : Result A OpFault
+  pub is : P answer
   pub found : answer ≢ Err NoMemory
 
 -- ---- what is asked of a kind of call
@@ -22,6 +23,6 @@ IsDecided op f g =
     ((k m : ℕ) → ¬ (IsLeastPeriods op f g k m)) ⊎ ((k : ℕ) × (m : ℕ) × IsLeastPeriods op f g k m)
 
 -- within both limits there is a curve that is made by it
-abbrev pub IsMadeWithin : OpKind → SpecCurve → SpecCurve → Type 0
-IsMadeWithin op f g =
+abbrev pub HasCurveWithin : OpKind → SpecCurve → SpecCurve → Type 0
+HasCurveWithin op f g =
     (k m : ℕ) (r : Frame) → IsLeastPeriods op f g k m → IsFrame op f g k m r → (h : SpecCurve) × IsMadeBy op f g h

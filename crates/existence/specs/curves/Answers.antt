@@ -10,7 +10,8 @@ use Rattle.upp_limits.specs.Gauges.{IsKnownAtOnce}
 use Rattle.upp_normal.specs.Normalising.{HasValues}
 use Rattle.curve_call.specs.Answering.{IsAnswerWindow}
 use Rattle.curve_call.specs.CallWindows.{SecondIsCurve}
-use Rattle.existence.specs.curves.Answered.{HasAnswer, IsDecided, IsMadeWithin}
+use Rattle.existence.specs.curves.Answered.{HasAnswer, IsDecided, HasCurveWithin}
+use Rattle.curve_call.specs.Calls.{Applies}
 
 abbrev pub AnswerWindowsHaveCurves : Type 0
 AnswerWindowsHaveCurves =
@@ -20,4 +21,4 @@ AnswerWindowsHaveCurves =
 abbrev pub DecidedCallsHaveAnswers : Type 0
 DecidedCallsHaveAnswers =
     (op : OpKind) (f g : SpecCurve) → IsCurve f → SecondIsCurve op g → ¬ (IsKnownAtOnce op f g) → IsDecided op f g
-    → IsMadeWithin op f g → HasAnswer op f g
+    → HasCurveWithin op f g → HasAnswer (Applies op f g)

@@ -4,7 +4,8 @@ use Rattle.upp_curve.specs.Curves.{IsCurve}
 use Rattle.upp_limits.specs.declared.op_kind.OpKind.TheVariants.{Deconvolve}
 use Rattle.min_plus.specs.Functions.{IsFinite}
 use Rattle.existence.specs.curves.Answered.{HasAnswer}
+use Rattle.curve_call.specs.Calls.{Applies}
 
 abbrev pub DeconvolutionsExist : Type 0
 DeconvolutionsExist =
-    (f g : SpecCurve) → IsCurve f → IsCurve g → IsFinite (value_at g) → HasAnswer Deconvolve f g
+    (f g : SpecCurve) → IsCurve f → IsCurve g → IsFinite (value_at g) → HasAnswer (Applies Deconvolve f g)

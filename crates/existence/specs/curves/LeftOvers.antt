@@ -7,8 +7,9 @@ use Rattle.upp_curve.specs.Curve.{SpecCurve, value_at}
 use Rattle.upp_curve.specs.Curves.{IsCurve}
 use Rattle.upp_limits.specs.declared.op_kind.OpKind.TheVariants.{FifoLeft}
 use Rattle.existence.specs.curves.Answered.{HasAnswer}
+use Rattle.curve_call.specs.Calls.{Applies}
 
 abbrev pub LeftOversExist : Type 0
 LeftOversExist =
     (x : Ext) (f g : SpecCurve) → IsCurve f → IsCurve g → IsFinite (value_at f) → IsRising (value_at f)
-    → IsNonnegative (value_at f) → IsHorizontalDeviation (value_at g) (value_at f) x → HasAnswer (FifoLeft x) f g
+    → IsNonnegative (value_at f) → IsHorizontalDeviation (value_at g) (value_at f) x → HasAnswer (Applies (FifoLeft x) f g)

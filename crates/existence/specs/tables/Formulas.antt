@@ -15,7 +15,6 @@ use Rattle.net_cells.specs.Formulas.{Formula, value_of, given, empty_sum, made, 
 use Rattle.net_cells.specs.Meanings.{Meaning, CellTable, IsCurveIn, IsNumberIn}
 use Rattle.net_cells.specs.Means.{HaveNumbers}
 use Rattle.existence.specs.curves.Answered.{HasAnswer}
-use Rattle.existence.specs.tables.Found.{HasAnswerOf}
 
 -- what P answers, if it is a value, is a curve of a sort, or a number of a sort
 abbrev pub GivesCurve : (Answer → Type 0) → (SpecCurve → Type 0) → Type 0
@@ -32,7 +31,7 @@ EachIsCurve (f ∷ fs) = IsCurve f × EachIsCurve fs
 -- where two have a sum, so have several
 abbrev pub CurveSumsExist : Type 0
 CurveSumsExist =
-    ((f g : SpecCurve) → IsCurve f → IsCurve g → HasAnswer Sum f g) → (fs : List SpecCurve) → EachIsCurve fs → HasAnswerOf (SumsOf fs)
+    ((f g : SpecCurve) → IsCurve f → IsCurve g → HasAnswer (Applies Sum f g)) → (fs : List SpecCurve) → EachIsCurve fs → HasAnswer (SumsOf fs)
 
 -- ---- formulas
 -- the cells have values, and each call that is made of what the parts before it answer has an answer
@@ -41,26 +40,26 @@ CallsAreFound at (value_of c) fs = (v : Meaning) × (at c ≡ Some v)
 CallsAreFound at (given f) fs = Unit {0}
 CallsAreFound at empty_sum fs = Unit {0}
 CallsAreFound at (made op F G) fs = CallsAreFound at F [] × CallsAreFound at G []
-    × GivesCurve (AnswersFrom at F []) (λ f. GivesCurve (AnswersFrom at G []) (λ g. HasAnswerOf (Applies op f g)))
-CallsAreFound at (made_of op F) fs = CallsAreFound at F [] × GivesCurve (AnswersFrom at F []) (λ f. HasAnswerOf (AppliesTo op f))
+    × GivesCurve (AnswersFrom at F []) (λ f. GivesCurve (AnswersFrom at G []) (λ g. HasAnswer (Applies op f g)))
+CallsAreFound at (made_of op F) fs = CallsAreFound at F [] × GivesCurve (AnswersFrom at F []) (λ f. HasAnswer (AppliesTo op f))
 CallsAreFound at (moved F T) fs = CallsAreFound at F [] × CallsAreFound at T []
-    × GivesCurve (AnswersFrom at F []) (λ f. GivesNumber (AnswersFrom at T []) (λ x. HasAnswerOf (AppliesTo (Shift x) f)))
+    × GivesCurve (AnswersFrom at F []) (λ f. GivesNumber (AnswersFrom at T []) (λ x. HasAnswer (AppliesTo (Shift x) f)))
 CallsAreFound at (cut F server bits rate) fs = CallsAreFound at F []
-    × GivesCurve (AnswersFrom at F []) (λ f. HasAnswerOf (Applies Min f (bucket (whole bits) rate)))
+    × GivesCurve (AnswersFrom at F []) (λ f. HasAnswer (Applies Min f (bucket (whole bits) rate)))
 CallsAreFound at (part F G) fs = CallsAreFound at F [] × GivesCurve (AnswersFrom at F []) (λ f. CallsAreFound at G (fs ++ f ∷ []))
-CallsAreFound at no_part fs = HasAnswerOf (SumsOf fs)
+CallsAreFound at no_part fs = HasAnswer (SumsOf fs)
 CallsAreFound at (leftover F G T) fs = CallsAreFound at F [] × CallsAreFound at G [] × CallsAreFound at T []
-    × GivesCurve (AnswersFrom at F []) (λ f. GivesCurve (AnswersFrom at G []) (λ g. GivesNumber (AnswersFrom at T []) (λ x. HasAnswerOf (Applies (FifoLeft x) f g))))
-CallsAreFound at (priority f F lower) fs = CallsAreFound at F [] × GivesCurve (AnswersFrom at F []) (λ g. HasAnswerOf (MakesPriority f g lower))
-CallsAreFound at (deficit f quanta longest queue) fs = HasAnswerOf (MakesDrr f quanta longest queue)
+    × GivesCurve (AnswersFrom at F []) (λ f. GivesCurve (AnswersFrom at G []) (λ g. GivesNumber (AnswersFrom at T []) (λ x. HasAnswer (Applies (FifoLeft x) f g))))
+CallsAreFound at (priority f F lower) fs = CallsAreFound at F [] × GivesCurve (AnswersFrom at F []) (λ g. HasAnswer (MakesPriority f g lower))
+CallsAreFound at (deficit f quanta longest queue) fs = HasAnswer (MakesDrr f quanta longest queue)
 CallsAreFound at (horizontal F G) fs = CallsAreFound at F [] × CallsAreFound at G []
-    × GivesCurve (AnswersFrom at F []) (λ f. GivesCurve (AnswersFrom at G []) (λ g. HasAnswerOf (Deviates Horizontal IsHorizontalDeviation f g)))
+    × GivesCurve (AnswersFrom at F []) (λ f. GivesCurve (AnswersFrom at G []) (λ g. HasAnswer (Deviates Horizontal IsHorizontalDeviation f g)))
 CallsAreFound at (vertical F G) fs = CallsAreFound at F [] × CallsAreFound at G []
-    × GivesCurve (AnswersFrom at F []) (λ f. GivesCurve (AnswersFrom at G []) (λ g. HasAnswerOf (Deviates Vertical IsVerticalDeviation f g)))
+    × GivesCurve (AnswersFrom at F []) (λ f. GivesCurve (AnswersFrom at G []) (λ g. HasAnswer (Deviates Vertical IsVerticalDeviation f g)))
 CallsAreFound at (smaller F G) fs = CallsAreFound at F [] × CallsAreFound at G []
     × GivesNumber (AnswersFrom at F []) (λ x. GivesNumber (AnswersFrom at G []) (λ y. Unit {0}))
 CallsAreFound at (along cells links) fs = (xs : List Ext) × HaveNumbers at cells xs
 CallsAreFound at (delayed F links) fs = CallsAreFound at F [] × GivesNumber (AnswersFrom at F []) (λ x. Unit {0})
 
 abbrev pub FormulasHaveAnswers : Type 0
-FormulasHaveAnswers = (at : CellTable) (F : Formula) → CallsAreFound at F [] → HasAnswerOf (Answers at F)
+FormulasHaveAnswers = (at : CellTable) (F : Formula) → CallsAreFound at F [] → HasAnswer (Answers at F)

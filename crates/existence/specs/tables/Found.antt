@@ -12,27 +12,23 @@ use Rattle.residuals.specs.calls.PriorityCalls.{MakesPriority}
 use Rattle.residuals.specs.calls.DrrCalls.{MakesDrr}
 use Rattle.existence.specs.curves.Answered.{HasAnswer}
 use Rattle.net_cells.specs.NumberSums.{Sums}
-
-pub record HasAnswerOf {A : Type 0} (P : Result A OpFault → Type 0) : Type 0 where
-  pub answer : Result A OpFault
-  pub is : P answer
-  pub found : answer ≢ Err NoMemory
+use Rattle.curve_call.specs.Calls.{Applies}
 
 -- ---- services
 -- each call alone has an answer
 pub record CallsExist : Type 0 where
-  pub pos_diff : (f g : SpecCurve) → IsCurve f → IsCurve g → IsFinite (value_at f) → HasAnswer PosDiff f g
-  pub pos_minus : (l : ℚ) (f : SpecCurve) → IsCurve f → IsFinite (value_at f) → HasAnswer (PosMinus l) f f
-  pub scale : (q : ℚ) (f : SpecCurve) → IsCurve f → HasAnswer (Scale q) f f
-  pub run_sup : (f : SpecCurve) → IsCurve f → IsFinite (value_at f) → IsNonnegative (value_at f) → HasAnswer RunSup f f
+  pub pos_diff : (f g : SpecCurve) → IsCurve f → IsCurve g → IsFinite (value_at f) → HasAnswer (Applies PosDiff f g)
+  pub pos_minus : (l : ℚ) (f : SpecCurve) → IsCurve f → IsFinite (value_at f) → HasAnswer (Applies (PosMinus l) f f)
+  pub scale : (q : ℚ) (f : SpecCurve) → IsCurve f → HasAnswer (Applies (Scale q) f f)
+  pub run_sup : (f : SpecCurve) → IsCurve f → IsFinite (value_at f) → IsNonnegative (value_at f) → HasAnswer (Applies RunSup f f)
 
 pub record ServicesAreFound : Type 0 where
-  pub priority : (β higher : SpecCurve) (lower : ℕ) → IsCurve β → IsCurve higher → IsFinite (value_at β) → HasAnswerOf (MakesPriority β higher lower)
-  pub deficit : (β : SpecCurve) (quanta longest : List ℕ) (i : ℕ) → IsCurve β → IsFinite (value_at β) → HasAnswerOf (MakesDrr β quanta longest i)
+  pub priority : (β higher : SpecCurve) (lower : ℕ) → IsCurve β → IsCurve higher → IsFinite (value_at β) → HasAnswer (MakesPriority β higher lower)
+  pub deficit : (β : SpecCurve) (quanta longest : List ℕ) (i : ℕ) → IsCurve β → IsFinite (value_at β) → HasAnswer (MakesDrr β quanta longest i)
 
 abbrev pub ServicesExist : Type 0
 ServicesExist = CallsExist → ServicesAreFound
 
 -- ---- sums of numbers
 abbrev pub NumberSumsExist : Type 0
-NumberSumsExist = (xs : List Ext) → HasAnswerOf (Sums xs)
+NumberSumsExist = (xs : List Ext) → HasAnswer (Sums xs)

@@ -10,7 +10,7 @@ use Rattle.net_cells.specs.CellFormulas.{formula}
 use Rattle.net_cells.specs.Meanings.{CellTable}
 use Rattle.net_cells.specs.Answers.{Answers}
 use Rattle.net_cells.specs.FirstOver.{AnswersAll, FirstOver}
-use Rattle.existence.specs.tables.Found.{HasAnswerOf}
+use Rattle.existence.specs.curves.Answered.{HasAnswer}
 
 abbrev pub TableOrLimit : Net → List ℕ → Type 0
 TableOrLimit net order =
@@ -19,7 +19,7 @@ TableOrLimit net order =
 -- the formula of each cell has an answer, by a table whose cells before it are answered
 abbrev pub FormulasAreFound : Net → List ℕ → Type 0
 FormulasAreFound net order = (before : List Cell) (c : Cell) (after : List Cell) (at : CellTable)
-    → evaluation_order net order ≡ before ++ c ∷ after → AnswersAll net at before → HasAnswerOf (Answers at (formula net c))
+    → evaluation_order net order ≡ before ++ c ∷ after → AnswersAll net at before → HasAnswer (Answers at (formula net c))
 
 abbrev pub TablesExist : Type 0
 TablesExist = (net : Net) (order : List ℕ) → IsAccepted net → IsOrder net order → FormulasAreFound net order → TableOrLimit net order
