@@ -21,7 +21,7 @@ use std::alloc::{AllocError, Global};
 use upp_curve::Curve;
 
 /// A breach, with its time.
-#[derive(Debug, Clone, Copy)]
+#[derive(Clone, Copy)]
 pub struct Found {
     pub time: Frac,
     pub breach: Breach,
