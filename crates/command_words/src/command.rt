@@ -8,7 +8,7 @@ ghost use Rattle.command_words.specs.Apps.{argument_rule, of_arguments, netcalc}
 use clap::{Arg, ArgAction, Command};
 use std::alloc::{AllocError, Global};
 
-/// Each command and the names of its arguments.
+/// Each command and the names of its arguments: its operands in their order, and `json` where it takes the flag `--json`.
 const COMMANDS: [(&str, &[&str]); 7] = [
     ("analyse", &["first", "json"]),
     ("edit", &["first", "second", "json"]),

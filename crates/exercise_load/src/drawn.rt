@@ -11,7 +11,7 @@ use std::alloc::{AllocError, Global};
 const FLOWS: u32 = 24;
 
 /// What is drawn for a flow.
-#[derive(Debug, Clone, Copy)]
+#[derive(Clone, Copy)]
 pub struct DrawnFlow {
     /// Its number, from 0 to 23.
     pub number: u32,

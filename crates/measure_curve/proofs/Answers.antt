@@ -1,5 +1,5 @@
 -- What single calls need: fractions that are made, the last of some steps, and the test of the width.
-use Rattle.std.specs.Prelude.{◌≡◌, ◌≢◌, ◌↔◌, ℕ, suc, ◌+◌, ◌-◌, ◌*◌, ◌<◌, ◌≤◌, ◌^◌, ℤ, pos, max, min, nat_le, List, [], ◌∷◌, length, get_or, drop, take, map, sum_by, nat_abs, Some, slice_get, Result, Ok, Err, IsOk, IsTrue, All, nat_eq}
+use Rattle.std.specs.Prelude.{◌≡◌, ◌≢◌, ◌↔◌, ℕ, suc, ◌+◌, ◌-◌, ◌*◌, ◌<◌, ◌≤◌, ◌^◌, ℤ, pos, max, min, nat_le, List, [], ◌∷◌, length, map, sum_by, nat_abs, Result, Ok, Err, IsOk, IsTrue, All, nat_eq}
 use Rattle.std.proofs.Common.{arith, refl, sym, ap, subst, ◌∙◌, inl, inr}
 use Rattle.std.proofs.lemmas.Bool.{leb-true, le-leb}
 use Rattle.std.proofs.lemmas.List.Elements.{All-filter}

@@ -2,10 +2,12 @@
 use Rattle.std.proofs.Common.{◌≡◌, Option, Some, None, Ok, Err, sym, ◌∙◌}
 use Rattle.upp_curve.specs.Curve.{SpecCurve}
 use Rattle.upp_limits.specs.declared.own_limits.OverLimit.{OverLimit}
+use Rattle.curve_library.specs.declared.fault.CurveFault.{CurveFault}
 use Rattle.curve_library.specs.declared.fault.CurveFault.TheVariants as faults
 use Rattle.curve_library.proofs.Answering.{over_within}
 use Rattle.net_model.specs.declared.fault.CurveRefusal.{CurveRefusal}
-use Rattle.net_draft.specs.Made.{CurveAnswers, IsMade, IsOverNone}
+use Rattle.net_model.specs.declared.fault.CurveRefusal.TheVariants as causes
+use Rattle.net_draft.specs.Made.{CurveAnswers, IsMade, IsOverNone, limit_of}
 use Rattle.net_draft.specs.Refusals.{refusal_of}
 use Rattle.net_draft.specs.Texts.{CurveText, Bucket, Stair, RateLatency, Gate, Listed}
 use Rattle.net_draft.proofs.Told.{answers_tell}
@@ -31,3 +33,13 @@ apart r h = cc
 -- what is refused for another cause is over none
 pub refused_is_over_none : (text : CurveText) (r : CurveRefusal) → refusal_of text ≡ Some r → IsOverNone text
 refused_is_over_none text r told limit h = apart r (sym (answers_tell text (Err (faults.Op limit)) h) ∙ told)
+
+-- so a fault that is no limit
+pub told_is_over_none : (text : CurveText) (f : CurveFault) → limit_of f ≡ None → CurveAnswers text (Err f) → IsOverNone text
+told_is_over_none text faults.Negative n h = refused_is_over_none text causes.Negative (answers_tell text (Err faults.Negative) h)
+told_is_over_none text faults.ZeroPeriod n h = refused_is_over_none text causes.ZeroPeriod (answers_tell text (Err faults.ZeroPeriod) h)
+told_is_over_none text faults.NotRising n h = refused_is_over_none text causes.NotRising (answers_tell text (Err faults.NotRising) h)
+told_is_over_none text faults.NotContinuous n h = refused_is_over_none text causes.NotContinuous (answers_tell text (Err faults.NotContinuous) h)
+told_is_over_none text faults.NotZeroAtStart n h = refused_is_over_none text causes.NotZeroAtStart (answers_tell text (Err faults.NotZeroAtStart) h)
+told_is_over_none text (faults.Op l) n h = let e : Some l ≡ None = n in cc
+told_is_over_none text faults.NoMemory n h = wanting_is_over_none text h

@@ -4,14 +4,14 @@ ghost use Rattle.std.specs.Prelude.{◌≡◌, [], map, codes, IfOk, All, length
 ghost use Rattle.toml.specs.View.{view, table_view};
 ghost use Rattle.net_model.specs.Views.{discipline_of};
 ghost use Rattle.net_model.specs.Accepted.{HasFewQueues, IsLength, IsQueueNumber};
-ghost use Rattle.net_draft.specs.Faults.{Gives};
+ghost use Rattle.net_draft.specs.Faults.{Gives, nth};
 ghost use Rattle.net_draft.specs.Tables.{each, forbidden, quantum_at, quanta_of, discipline_at};
 ghost use Rattle.net_draft.specs.Tables.{fifo_at, priority_at, drr_at};
 
 use crate::fault::DraftFault;
 use crate::keys::{field, required_list, required_whole};
 use crate::limits::{LONGEST, MOST_QUEUES};
-use crate::places::{fault_at, fault_under, nth, under};
+use crate::places::{fault_nth, fault_under, under};
 use crate::values::whole_in;
 use crate::words::{DisciplineWord, discipline_kind};
 use net_model::{Discipline, NetKind};
@@ -28,13 +28,14 @@ fn forbidden(alloc: Global, table: &Table, place: &str, key: &str) -> Result<(),
     }
 }
 
-fn quantum_of(alloc: Global, place: &str, value: &Value) -> Result<u64, DraftFault>
-    ensures value { Gives (λ n. n) result (quantum_at place.now (view value.now)) }
+/// The quantum that an entry of the array at a place is, the one of this number.
+fn quantum_of(alloc: Global, place: &str, number: usize, value: &Value) -> Result<u64, DraftFault>
+    ensures value { Gives (λ n. n) result (quantum_at (nth place.now number) (view value.now)) }
     ensures range { IfOk result IsLength }
 {
     match whole_in(value, 1, LONGEST) {
         Ok(bits) => Ok(bits as u64),
-        Err(kind) => Err(fault_at(alloc, kind, place)),
+        Err(kind) => Err(fault_nth(alloc, kind, place, number)),
     }
 }
 
@@ -45,8 +46,8 @@ fn each_quantum(alloc: Global, place: &str, entries: &[Value]) -> Result<Vec<u64
 {
     let mut quanta = Vec::new(alloc);
     for entry in entries {
-        let here = nth(alloc, place, quanta.len())?;
-        quanta.push(quantum_of(alloc, here.as_str(), entry)?)?;
+        let bits = quantum_of(alloc, place, quanta.len(), entry)?;
+        quanta.push(bits)?;
     }
     Ok(quanta)
 }

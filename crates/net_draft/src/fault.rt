@@ -7,7 +7,7 @@ use net_model::NetFault;
 use std::alloc::{AllocError, AllocFailed};
 
 /// Why a file gives no draft of a network.
-#[derive(Debug, Drop)]
+#[derive(Drop)]
 pub enum DraftFault {
     /// An allocation was refused.
     NoMemory,

@@ -2,7 +2,7 @@
 
 ghost use Rattle.std.specs.Prelude.{◌≡◌, ◌≢◌, ◌++◌, ◌∷◌, [], map, codes, IfOk, All, AllPairs, length};
 ghost use Rattle.toml.specs.View.{view};
-ghost use Rattle.net_draft.specs.Faults.{Gives};
+ghost use Rattle.net_draft.specs.Faults.{Gives, nth};
 ghost use Rattle.net_draft.specs.ListViews.{list_texts};
 ghost use Rattle.net_draft.specs.NameTexts.{texts};
 ghost use Rattle.net_draft.specs.Tables.{each, flow_at, flow_with};
@@ -52,6 +52,24 @@ fn flow_of(
     })
 }
 
+/// The flow of the entry of this number.
+fn flow_in(
+    alloc: Global,
+    servers: &ServerList,
+    names: &mut IndexSet<String>,
+    number: usize,
+    value: &Value,
+) -> Result<FlowDraft, DraftFault>
+    ensures value { Gives flow_text result
+        (flow_with (list_texts servers.now) (texts names.old) (nth (codes "flow") number) (view value.now)) }
+    ensures fresh { IfOk result (λ f. All (λ t. t ≢ (flow_text f).name) (texts names.old)) }
+    ensures grown { IfOk result (λ f. texts names.new ≡ texts names.old ++ (flow_text f).name ∷ []) }
+    ensures kept { IfOk result (IsFlowDraft (list_texts servers.now)) }
+{
+    let place = nth(alloc, "flow", number)?;
+    flow_of(alloc, servers, names, place.as_str(), value)
+}
+
 /// The flows of these entries.
 pub(crate) fn flows_of(
     alloc: Global,
@@ -67,8 +85,7 @@ pub(crate) fn flows_of(
     let mut flows = Vec::new(alloc);
     let mut names = IndexSet::new(alloc);
     for entry in entries {
-        let place = nth(alloc, "flow", flows.len())?;
-        let flow = flow_of(alloc, servers, &mut names, place.as_str(), entry)?;
+        let flow = flow_in(alloc, servers, &mut names, flows.len(), entry)?;
         flows.push(flow)?;
     }
     Ok(flows)

@@ -1,7 +1,7 @@
 //! Hops of a path.
 
 /// The number of a server and of one of its queues.
-#[derive(Debug, Clone, Copy, PartialEq, Eq)]
+#[derive(Clone, Copy)]
 pub struct Hop {
     pub server: u32,
     pub queue: u32,

@@ -4,7 +4,7 @@ ghost use Rattle.std.specs.Prelude.{◌≡◌, ◌≢◌, ◌-◌, ◌^◌, ◌<
 ghost use Rattle.std.specs.Prelude.{IfOk, All, AllPairs, Some, slice_get, nat_eq};
 ghost use Rattle.std.specs.List.{list_any};
 ghost use Rattle.toml.specs.View.{view, table_view};
-ghost use Rattle.net_draft.specs.Faults.{Gives, viewed};
+ghost use Rattle.net_draft.specs.Faults.{Gives, nth, viewed};
 ghost use Rattle.net_draft.specs.Hops.{hop_parts, hop_text, hop_in, named_from};
 ghost use Rattle.net_draft.specs.HopViews.{hop_view};
 ghost use Rattle.net_draft.specs.ListViews.{list_texts};
@@ -16,7 +16,7 @@ use crate::fault::DraftFault;
 use crate::hop::Hop;
 use crate::keys::required_list;
 use crate::limits::MOST_HOPS;
-use crate::places::{fault_at, nth, under};
+use crate::places::{fault_nth, under};
 use crate::server_draft::ServerDraft;
 use crate::server_list::ServerList;
 use crate::values::text_in;
@@ -115,6 +115,7 @@ fn hop_in(servers: &ServerList, before: &[Hop], value: &Value) -> Result<Hop, Ne
     })
 }
 
+/// The hop that an entry of the array at a place is, the one after these.
 fn hop_at(
     alloc: Global,
     servers: &ServerList,
@@ -122,13 +123,14 @@ fn hop_at(
     place: &str,
     value: &Value,
 ) -> Result<Hop, DraftFault>
-    ensures value { Gives (λ h. h) result (hop_at (list_texts servers.now) before.now place.now (view value.now)) }
+    ensures value { Gives (λ h. h) result
+        (hop_at (list_texts servers.now) before.now (nth place.now (length before.now)) (view value.now)) }
     ensures range { IfOk result (IsHopOf (list_texts servers.now)) }
     ensures fresh { IfOk result (λ h. All (λ b. b.server ≢ h.server) before.now) }
 {
     match hop_in(servers, before, value) {
         Ok(hop) => Ok(hop),
-        Err(kind) => Err(fault_at(alloc, kind, place)),
+        Err(kind) => Err(fault_nth(alloc, kind, place, before.len())),
     }
 }
 
@@ -146,8 +148,7 @@ fn each_hop(
 {
     let mut hops = Vec::new(alloc);
     for entry in entries {
-        let here = nth(alloc, place, hops.len())?;
-        let hop = hop_at(alloc, servers, &hops, here.as_str(), entry)?;
+        let hop = hop_at(alloc, servers, &hops, place, entry)?;
         hops.push(hop)?;
     }
     Ok(hops)

@@ -1,9 +1,9 @@
 //! Curves of texts.
 
-ghost use Rattle.std.specs.Prelude.{◌≡◌, Err, IfOk};
+ghost use Rattle.std.specs.Prelude.{◌≡◌, Err, None, IfOk};
 ghost use Rattle.net_draft.specs.Faults.{Gives, IsFault};
 ghost use Rattle.net_draft.specs.CurveTexts.{text_of};
-ghost use Rattle.net_draft.specs.Made.{CurveAnswers, IsOverNone};
+ghost use Rattle.net_draft.specs.Made.{CurveAnswers, IsOverNone, IsToldAs, limit_of};
 ghost use Rattle.net_draft.specs.Kept.{IsMadeDraft};
 ghost use Rattle.net_draft.specs.Tables.{curve_at};
 
@@ -11,7 +11,7 @@ use crate::curve_draft::CurveDraft;
 use crate::curve_text::CurveText;
 use crate::fault::DraftFault;
 use crate::places::fault_at;
-use curve_library::{CurveFault, bucket, gate, listed, rate_latency, stair};
+use curve_library::{CurveFault, OverLimit, bucket, gate, listed, rate_latency, stair};
 use net_model::{CurveRefusal, NetKind};
 use std::alloc::Global;
 use upp_curve::Curve;
@@ -36,10 +36,36 @@ fn made(alloc: Global, text: &CurveText) -> Result<Curve, CurveFault>
     }
 }
 
+/// The limit that a fault is.
+fn limit_of(fault: CurveFault) -> Option<OverLimit>
+    ensures { result ≡ limit_of fault }
+{
+    match fault {
+        CurveFault::Op(limit) => Some(limit),
+        _ => None,
+    }
+}
+
 fn refused(alloc: Global, refusal: CurveRefusal, place: &str) -> DraftFault
     ensures { IsFault (NetKind.M9 refusal) place.now result }
 {
     fault_at(alloc, NetKind::M9(refusal), place)
+}
+
+/// What is told of a fault that is no limit, of the text at a place.
+fn told(alloc: Global, fault: CurveFault, place: &str) -> DraftFault
+    requires { limit_of fault ≡ None }
+    ensures { IsToldAs fault place.now result }
+{
+    match fault {
+        CurveFault::Negative => refused(alloc, CurveRefusal::Negative, place),
+        CurveFault::ZeroPeriod => refused(alloc, CurveRefusal::ZeroPeriod, place),
+        CurveFault::NotRising => refused(alloc, CurveRefusal::NotRising, place),
+        CurveFault::NotContinuous => refused(alloc, CurveRefusal::NotContinuous, place),
+        CurveFault::NotZeroAtStart => refused(alloc, CurveRefusal::NotZeroAtStart, place),
+        CurveFault::NoMemory => DraftFault::NoMemory,
+        CurveFault::Op(_) => unreachable!(),
+    }
 }
 
 /// The curve of a text, or the limit that it is over; a fault at its table's place where it is refused otherwise. Want
@@ -59,15 +85,12 @@ pub(crate) fn curve_of(
             text,
             made: Ok(curve),
         }),
-        Err(CurveFault::Op(limit)) => Ok(CurveDraft {
-            text,
-            made: Err(limit),
-        }),
-        Err(CurveFault::NoMemory) => Err(DraftFault::NoMemory),
-        Err(CurveFault::Negative) => Err(refused(alloc, CurveRefusal::Negative, place)),
-        Err(CurveFault::ZeroPeriod) => Err(refused(alloc, CurveRefusal::ZeroPeriod, place)),
-        Err(CurveFault::NotRising) => Err(refused(alloc, CurveRefusal::NotRising, place)),
-        Err(CurveFault::NotContinuous) => Err(refused(alloc, CurveRefusal::NotContinuous, place)),
-        Err(CurveFault::NotZeroAtStart) => Err(refused(alloc, CurveRefusal::NotZeroAtStart, place)),
+        Err(fault) => match limit_of(fault) {
+            Some(limit) => Ok(CurveDraft {
+                text,
+                made: Err(limit),
+            }),
+            None => Err(told(alloc, fault, place)),
+        },
     }
 }

@@ -2,7 +2,7 @@
 
 ghost use Rattle.std.specs.Prelude.{◌≡◌, [], map, codes};
 ghost use Rattle.toml.specs.View.{view, table_view};
-ghost use Rattle.net_draft.specs.Faults.{Gives};
+ghost use Rattle.net_draft.specs.Faults.{Gives, nth};
 ghost use Rattle.net_draft.specs.Tables.{each, piece_at, pieces_of, tail_at, tail_of};
 
 use crate::fault::DraftFault;
@@ -32,13 +32,26 @@ fn piece_of(alloc: Global, place: &str, value: &Value) -> Result<PieceText, Draf
     })
 }
 
+/// The piece that an entry of the array at a place is, the one of this number.
+fn piece_in(
+    alloc: Global,
+    place: &str,
+    number: usize,
+    value: &Value,
+) -> Result<PieceText, DraftFault>
+    ensures { Gives (λ p. p) result (piece_at (nth place.now number) (view value.now)) }
+{
+    let here = nth(alloc, place, number)?;
+    piece_of(alloc, here.as_str(), value)
+}
+
 fn each_piece(alloc: Global, place: &str, entries: &[Value]) -> Result<Vec<PieceText>, DraftFault>
     ensures { Gives (λ v. v.items) result (each (λ before. piece_at) place.now [] (map view entries.now)) }
 {
     let mut pieces = Vec::new(alloc);
     for entry in entries {
-        let here = nth(alloc, place, pieces.len())?;
-        pieces.push(piece_of(alloc, here.as_str(), entry)?)?;
+        let piece = piece_in(alloc, place, pieces.len(), entry)?;
+        pieces.push(piece)?;
     }
     Ok(pieces)
 }

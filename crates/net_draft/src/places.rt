@@ -38,6 +38,16 @@ pub fn fault_at(alloc: Global, kind: NetKind, place: &str) -> DraftFault
     }
 }
 
+/// A fault at an entry of the array at a place, or want of memory.
+pub fn fault_nth(alloc: Global, kind: NetKind, place: &str, number: usize) -> DraftFault
+    ensures { IsFault kind (nth place.now number) result }
+{
+    match nth(alloc, place, number) {
+        Ok(place) => DraftFault::Fault(NetFault { kind, place }),
+        Err(_) => DraftFault::NoMemory,
+    }
+}
+
 /// A fault at a key of the table at a place, or want of memory.
 pub fn fault_under(alloc: Global, kind: NetKind, place: &str, key: &str) -> DraftFault
     ensures { IsFault kind (under place.now key.now) result }

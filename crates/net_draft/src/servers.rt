@@ -2,7 +2,7 @@
 
 ghost use Rattle.std.specs.Prelude.{◌≡◌, ◌≢◌, ◌≤◌, ◌++◌, ◌∷◌, [], map, codes, IfOk, All, AllPairs, length};
 ghost use Rattle.toml.specs.View.{view};
-ghost use Rattle.net_draft.specs.Faults.{Gives};
+ghost use Rattle.net_draft.specs.Faults.{Gives, nth};
 ghost use Rattle.net_draft.specs.ListViews.{list_texts};
 ghost use Rattle.net_draft.specs.NameTexts.{texts};
 ghost use Rattle.net_draft.specs.Tables.{each, server_text_at, server_with};
@@ -59,6 +59,23 @@ fn server_of(
     })
 }
 
+/// The server of the entry of this number.
+fn server_in(
+    alloc: Global,
+    names: &mut IndexSet<String>,
+    number: usize,
+    value: &Value,
+) -> Result<ServerDraft, DraftFault>
+    ensures value { Gives server_text result
+        (server_with (texts names.old) (nth (codes "server") number) (view value.now)) }
+    ensures kept { IfOk result IsServerDraft }
+    ensures fresh { IfOk result (λ s. All (λ t. t ≢ (server_text s).name) (texts names.old)) }
+    ensures grown { IfOk result (λ s. texts names.new ≡ texts names.old ++ (server_text s).name ∷ []) }
+{
+    let place = nth(alloc, "server", number)?;
+    server_of(alloc, names, place.as_str(), value)
+}
+
 /// The servers of these entries.
 pub(crate) fn servers_of(alloc: Global, entries: &[Value]) -> Result<ServerList, DraftFault>
     requires { length entries.now ≤ 64 }
@@ -69,8 +86,7 @@ pub(crate) fn servers_of(alloc: Global, entries: &[Value]) -> Result<ServerList,
     let mut servers = Vec::new(alloc);
     let mut names = IndexSet::new(alloc);
     for entry in entries {
-        let place = nth(alloc, "server", servers.len())?;
-        let server = server_of(alloc, &mut names, place.as_str(), entry)?;
+        let server = server_in(alloc, &mut names, servers.len(), entry)?;
         servers.push(server)?;
     }
     Ok(ServerList { servers, names })

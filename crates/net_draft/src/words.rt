@@ -16,7 +16,7 @@ use std::alloc::Global;
 use toml::{Table, Value};
 
 /// How a service curve is given.
-#[derive(Debug, Clone, Copy, PartialEq, Eq)]
+#[derive(Clone, Copy)]
 pub enum ServiceWord {
     Latency,
     Gate,
@@ -24,7 +24,7 @@ pub enum ServiceWord {
 }
 
 /// How an arrival curve is given.
-#[derive(Debug, Clone, Copy, PartialEq, Eq)]
+#[derive(Clone, Copy)]
 pub enum ArrivalWord {
     Bucket,
     Stair,
@@ -32,7 +32,7 @@ pub enum ArrivalWord {
 }
 
 /// How a server chooses.
-#[derive(Debug, Clone, Copy, PartialEq, Eq)]
+#[derive(Clone, Copy)]
 pub enum DisciplineWord {
     Fifo,
     Priority,

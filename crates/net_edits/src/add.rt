@@ -32,12 +32,13 @@ fn new_flow(
     requires rate { zero_q ≤ℚ bucket.1 }
     ensures { IfOk result (λ f. flow_of f ≡ spec.new_flow name.now bits bucket.0 bucket.1 path.items lanes.items) }
 {
+    let (burst, rate) = bucket;
     Ok(Flow {
         name: String::from_str(alloc, name)?,
         path,
         queues: lanes,
         packet: bits,
-        arrival: bucket_of(alloc, bucket.0, bucket.1)?,
+        arrival: bucket_of(alloc, burst, rate)?,
     })
 }
 
@@ -52,6 +53,7 @@ pub(crate) fn add_edited(
 ) -> Result<Network, EditFault>
     ensures { IsReply (spec.add_edited net.now name.now bits bucket.0 bucket.1 entries.now) result }
 {
+    let (burst, rate) = bucket;
     let path = server_numbers(alloc, net, entries)?;
     if !is_free(net, name) {
         return Err(EditFault::NameTaken(String::from_str(alloc, name)?));
@@ -59,10 +61,10 @@ pub(crate) fn add_edited(
     if !is_name(name) {
         return Err(EditFault::BadValue);
     }
-    if is_negative(bucket.0) {
+    if is_negative(burst) {
         return Err(EditFault::BadValue);
     }
-    if is_negative(bucket.1) {
+    if is_negative(rate) {
         return Err(EditFault::BadValue);
     }
     let bits = length_of(bits)?;

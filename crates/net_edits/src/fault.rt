@@ -7,7 +7,7 @@ use net_cells::Cell;
 use std::alloc::{AllocError, AllocFailed};
 
 /// Why an edit is refused: the first of these that there is a cause for, in this order. (Own choice.)
-#[derive(Debug, Drop)]
+#[derive(Drop)]
 pub enum EditFault {
     /// A name that stands for a server is of no server, or one that stands for a flow is of no live flow; the first such
     /// name of the edit.

@@ -4,7 +4,7 @@ use fraction128::Frac;
 
 /// Something that a run breaks. Packets are numbered within their flow, from 0, in the order in which they enter; flows
 /// and servers are those of a network, by their numbers. (Own choice.)
-#[derive(Debug, Clone, Copy)]
+#[derive(Clone, Copy)]
 pub enum Breach {
     /// A packet is longer than its flow allows.
     Size { flow: u32, packet: u32 },

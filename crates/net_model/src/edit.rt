@@ -3,7 +3,7 @@
 use fraction128::Frac;
 
 /// One hop of a path: the name of a server, and a queue there, from 0.
-#[derive(Debug, Drop)]
+#[derive(Drop)]
 pub struct PathEntry {
     pub server: String,
     pub queue: u32,
@@ -11,7 +11,7 @@ pub struct PathEntry {
 
 /// One change of a network. Numbers stand as they were asked for, of any sign and size: which of them a network takes
 /// is decided where the edit is made. Names are bytes of any length. (Own choice.)
-#[derive(Debug, Drop)]
+#[derive(Drop)]
 pub enum Edit {
     /// A server's rate, in bits a unit of time. The service curve of a latency or gate server follows.
     Rate(String, Frac),
@@ -38,7 +38,7 @@ pub enum Edit {
 }
 
 /// What a taken edit did: how many cells of the analysis it touched.
-#[derive(Debug, Clone, Copy, PartialEq, Eq)]
+#[derive(Clone, Copy)]
 pub struct Done {
     pub cells: u32,
 }

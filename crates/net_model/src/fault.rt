@@ -1,7 +1,7 @@
 //! Why a file gives no network.
 
 /// Why a curve is refused.
-#[derive(Debug, Clone, Copy, PartialEq, Eq)]
+#[derive(Clone, Copy)]
 pub enum CurveRefusal {
     /// A number is below 0.
     Negative,
@@ -16,7 +16,7 @@ pub enum CurveRefusal {
 }
 
 /// What is wrong with a file of a network.
-#[derive(Debug, Clone, Copy, PartialEq, Eq)]
+#[derive(Clone, Copy)]
 pub enum NetKind {
     /// It is no TOML in UTF-8.
     M1,
@@ -51,7 +51,7 @@ pub enum NetKind {
 }
 
 /// What is wrong with a file, and where: keys and places from 0, as `server[0].service.latency`.
-#[derive(Debug, Drop)]
+#[derive(Drop)]
 pub struct NetFault {
     pub kind: NetKind,
     pub place: String,

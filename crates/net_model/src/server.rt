@@ -5,7 +5,7 @@ use std::alloc::AllocError;
 use upp_curve::Curve;
 
 /// How the service curve of a server is given, besides its rate.
-#[derive(Debug, Clone, Copy)]
+#[derive(Clone, Copy)]
 pub enum ServiceKind {
     /// The rate after a latency.
     Latency(Frac),
@@ -16,7 +16,7 @@ pub enum ServiceKind {
 }
 
 /// How a server with none under way chooses the packet that it works on next.
-#[derive(Debug, Drop)]
+#[derive(Drop)]
 pub enum Discipline {
     /// The one that came first.
     Fifo,

@@ -4,7 +4,7 @@ use fraction128::Frac;
 use std::marker::Model;
 
 /// A packet that enters at the first server of its flow.
-#[derive(Debug, Clone, Copy)]
+#[derive(Clone, Copy)]
 pub struct TracePacket {
     /// When it enters, from 0 on.
     pub time: Frac,
@@ -15,7 +15,7 @@ pub struct TracePacket {
 }
 
 /// A time through which a server does no work: from its start up to its end, and not at its end.
-#[derive(Debug, Clone, Copy)]
+#[derive(Clone, Copy)]
 pub struct Stall {
     /// The number of the server.
     pub server: u32,

@@ -13,8 +13,8 @@ ghost use Rattle.netbound_cli.specs.Files.{IsTooLong, FirstIs};
 ghost use Rattle.netbound_cli.specs.Reply.{FailedAt, AsksUpTo, asks_of, MayReply, MayReplyTo, output, Gives, PutsOnce, Brings};
 ghost use Rattle.netbound_cli.specs.Reply.{GivesOnTold, AnswersWhatItCan, FailsToGive, IsOnBoth, IsStatus};
 
-use crate::fetching::{MOST_BYTES, unread_answer};
 use crate::texts::{HELP, USAGE, VERSION};
+use crate::unread::{MOST_BYTES, unread_answer};
 use crate::words::{Bounds, Request, WordFault, request_of};
 use bounds_command::{Answer, Form, Status, on_tables};
 use outside::{Inputs, NoMemory, Sink};

@@ -6,7 +6,7 @@ ghost use Rattle.netcalc_cli.specs.Answered.{IsAnswered};
 ghost use Rattle.netcalc_cli.specs.Commands as commands;
 ghost use Rattle.netcalc_cli.specs.View.{command_view};
 
-use crate::fetching::{MOST_BYTES, unread_answer};
+use crate::unread::{MOST_BYTES, unread_answer};
 use crate::words::Command;
 use command_replies::Answer;
 use commands::analyse::on_bytes;

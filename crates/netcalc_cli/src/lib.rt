@@ -3,9 +3,9 @@
 #![tactic(auto)]
 
 mod answering;
-mod fetching;
 mod laws;
 mod top_call;
+mod unread;
 mod words;
 
 pub use command_replies::Status;

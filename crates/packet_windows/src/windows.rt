@@ -8,15 +8,16 @@ use std::alloc::{AllocError, Global};
 /// A packet of the flow.
 #[derive(Clone, Copy)]
 pub struct Entry {
-    /// When it enters, on the grid.
+    /// When it enters, in steps of the grid.
     pub time: u128,
+    /// How long it is, in bits.
     pub bits: u32,
 }
 
 /// The time from one packet to another.
 #[derive(Clone, Copy)]
 pub struct Window {
-    /// How long it is, on the grid.
+    /// How long it is, in steps of the grid.
     pub length: u128,
     /// The bits of the two packets and of those between them.
     pub bits: u64,

@@ -76,30 +76,50 @@ fn head_fits(queues: &Links, lengths: &[u32], queue: u32, deficit: u64) -> bool
     }
 }
 
-/// The packets of so many queues, and the queues that wait for a visit: none is there.
-fn fresh_lists(alloc: Global, packets: u32, queues: u32) -> Result<(Links, Links), AllocError>
-    ensures queues { IfOk result (λ r. r.0 ≡ record { nodes = packets; lists = replicate queues [] }) }
-    ensures turns { IfOk result (λ r. r.1 ≡ record { nodes = queues; lists = replicate 1 [] }) }
+/// The lists of a scheduler.
+#[derive(Drop)]
+struct Lists {
+    /// Of each queue its packets.
+    waiting: Links,
+    /// One list, of the queues that wait for a visit.
+    turns: Links,
+}
+
+/// The numbers of a scheduler.
+#[derive(Drop)]
+struct Numbers {
+    /// Of each queue what each visit adds to its deficit, in bits.
+    quanta: Vec<u64>,
+    /// Of each queue the bits that it may still send in its visit.
+    deficits: Vec<u64>,
+    /// Of each packet its bits.
+    lengths: Vec<u32>,
+}
+
+/// The lists of so many queues: no packet is there, and no queue waits for a visit.
+fn fresh_lists(alloc: Global, packets: u32, queues: u32) -> Result<Lists, AllocError>
+    ensures waiting { IfOk result (λ l. l.waiting ≡ record { nodes = packets; lists = replicate queues [] }) }
+    ensures turns { IfOk result (λ l. l.turns ≡ record { nodes = queues; lists = replicate 1 [] }) }
 {
     let waiting = Links::new(alloc, packets, queues)?;
     let turns = Links::new(alloc, queues, 1)?;
-    Ok((waiting, turns))
+    Ok(Lists { waiting, turns })
 }
 
 /// The quanta, no deficit, and no bits of each packet.
-fn fresh_numbers(
-    alloc: Global,
-    packets: u32,
-    quanta: &[u64],
-) -> Result<(Vec<u64>, Vec<u64>, Vec<u32>), AllocError>
-    ensures quanta { IfOk result (λ r. r.0.items ≡ quanta.now) }
-    ensures deficits { IfOk result (λ r. r.1.items ≡ replicate (length quanta.now) 0) }
-    ensures lengths { IfOk result (λ r. r.2.items ≡ replicate packets 0) }
+fn fresh_numbers(alloc: Global, packets: u32, quanta: &[u64]) -> Result<Numbers, AllocError>
+    ensures quanta { IfOk result (λ n. n.quanta.items ≡ quanta.now) }
+    ensures deficits { IfOk result (λ n. n.deficits.items ≡ replicate (length quanta.now) 0) }
+    ensures lengths { IfOk result (λ n. n.lengths.items ≡ replicate packets 0) }
 {
     let kept = Vec::from_slice(alloc, quanta)?;
     let deficits = vec![in alloc; 0; quanta.len()]?;
     let lengths = vec![in alloc; 0; packets as usize]?;
-    Ok((kept, deficits, lengths))
+    Ok(Numbers {
+        quanta: kept,
+        deficits,
+        lengths,
+    })
 }
 
 impl DrrSched {
@@ -122,14 +142,18 @@ impl DrrSched {
         ensures { IfOk result (λ s. s ≡ fresh packets quanta.now) }
     {
         let queues = quanta.len() as u32;
-        let lists = fresh_lists(alloc, packets, queues)?;
-        let numbers = fresh_numbers(alloc, packets, quanta)?;
+        let Lists { waiting, turns } = fresh_lists(alloc, packets, queues)?;
+        let Numbers {
+            quanta: kept,
+            deficits,
+            lengths,
+        } = fresh_numbers(alloc, packets, quanta)?;
         Ok(DrrSched {
-            queues: lists.0,
-            turns: lists.1,
-            quanta: numbers.0,
-            deficits: numbers.1,
-            lengths: numbers.2,
+            queues: waiting,
+            turns,
+            quanta: kept,
+            deficits,
+            lengths,
             visited: None,
         })
     }

@@ -1,4 +1,4 @@
-//! The end of a call.
+//! The end of a call: its answer is given.
 
 ghost use Rattle.std.specs.Prelude.{◌≡◌, ◌≢◌, ◌++◌, ◌∷◌, []};
 ghost use Rattle.outside.specs.Written.{output};
@@ -6,10 +6,10 @@ ghost use Rattle.replies.specs.Given.{write_fault, Gives, FailsToGive};
 
 use outside::Sink;
 
-// The status of a call whose answer was not written.
+// The status of a call whose answer was not written, and of no other.
 const WRITE_FAULT: u8 = 4;
 
-/// Gives an answer: puts its text, and returns its status, or that the sink failed.
+/// Gives an answer, by one put of its text: returns its status where the text was written, and 4 where the sink failed.
 pub fn give<K: Sink>(out: &mut K, status: u8, text: &[u8]) -> u8
     requires { status ≢ write_fault }
     ensures given { result ≢ write_fault

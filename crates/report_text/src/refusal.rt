@@ -13,7 +13,7 @@ use net_model::{CurveRefusal, NetFault, NetKind};
 use std::alloc::{AllocError, Global};
 
 /// Why there is no report.
-#[derive(Debug, Drop)]
+#[derive(Drop)]
 pub enum Refusal {
     /// The words of the command line are not taken: the commands that are.
     Usage { commands: String },

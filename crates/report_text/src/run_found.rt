@@ -4,7 +4,7 @@ use fraction128::Frac;
 use net_model::Breach;
 
 /// What a simulation of a network found.
-#[derive(Debug, Drop)]
+#[derive(Drop)]
 pub struct RunFound {
     /// How many packets entered.
     pub packets: u32,

@@ -108,15 +108,13 @@ reach_takes net w s p t k end q o l e is x at =
     let known : p < length k.state.entered = omega (arith, l, long) in
     let a = allows net end k.before k.state w.places.items h.tracked k.paths (Reach s p t) k.recorded (reach_allowed net w s p t k end o l e) in
     let queue : q ≡ (card_of net k.state.entered p s).queue = is ∙ ap (λ f. queue_at s (route_of net f).hops) (flow_at net k.room k.grid k.most k.before k.state w p h known) in
-    let few = h.few in
-    let more = k.more in
     record {
       some = record { discipline = (server_at net s).discipline; room = k.room; state = state_at k.state s; keeps = h.sites s x at };
       not_there = λ there.
           let c = has_card (state_at k.state s).inside p there in
           let f : OnLink s t ≡ At s = sym e ∙ (ap (place_of w.places.items) (sym c.2) ∙ (h.tracked.cards s c.0 c.1).place) in cc;
       known_queue = subst (λ j. j < queue_count (server_at net s).discipline) (sym queue) a.at_server.1.known_queue;
-      known_packet = omega (arith, known, few, more);
+      known_packet = let few = h.few in let more = k.more in omega (arith, known, few, more);
     }
 
 pub reach_told : (net : Routes) (w after : Walk) (s p : ℕ) (t : ℚ) (k : Stands net (Reach s p t) w) (end : ℚ) (q b : ℕ) → ¬ IsOut (state_at k.state s) end t
@@ -174,8 +172,6 @@ enter_takes net w f p t b k end s q is o queue x at =
     let a = allows net end k.before k.state w.places.items h.tracked k.paths (Enter f p t b) k.recorded (enter_none net end k.before k.state f p t b out) in
     let turn = k.recorded.in_turn in
     let card = enter_card net k.state f p b s0 turn in
-    let few = h.few in
-    let more = k.more in
     record {
       some = record { discipline = (server_at net s).discipline; room = k.room; state = state_at k.state s; keeps = h.sites s x at };
       not_there = λ there.
@@ -185,7 +181,7 @@ enter_takes net w f p t b k end s q is o queue x at =
       known_queue = subst (λ j. j < queue_count (server_at net s).discipline) (sym (queue ∙ ap (λ j. queue_at j (route_of net f).hops) is))
           (subst (λ j. queue_at s0 (route_of net f).hops < queue_count (server_at net j).discipline) (sym is)
           (subst (λ j. j < queue_count (server_at net s0).discipline) card.queue_is a.at_server.1.known_queue));
-      known_packet = omega (arith, turn, few, more);
+      known_packet = let few = h.few in let more = k.more in omega (arith, turn, few, more);
     }
 
 pub enter_told : (net : Routes) (w after : Walk) (f p : ℕ) (t : ℚ) (b : ℕ) (k : Stands net (Enter f p t b) w) (end : ℚ) (s q : ℕ) → s ≡ first_server (route_of net f).hops

@@ -17,7 +17,7 @@ use std::alloc::{AllocError, Global};
 
 /// A law that a recorded run breaks, and the row at which it does. Rows are counted from 1, and the run's end is the
 /// row after those of its steps.
-#[derive(Debug, Clone, Copy)]
+#[derive(Clone, Copy)]
 pub struct Broken {
     pub row: u32,
     pub law: Law,

@@ -4,5 +4,5 @@
 mod place;
 mod underway;
 
-pub use place::{Place, is_due, is_late, some_late};
+pub use place::{Place, is_due, some_late};
 pub use underway::{Underway, is_complete, is_other, may_leave, rest};

@@ -31,8 +31,8 @@ pub fn is_due(place: &Place, server: u32, time: Frac) -> bool
     }
 }
 
-/// Whether a packet in this place is on a link, and due by a time.
-pub fn is_late(place: &Place, end: Frac) -> bool
+/// Whether the packet in this place is on a link, and due by a time.
+fn is_late(place: &Place, end: Frac) -> bool
     ensures { IsTrue result ↔ IsLate end place.now }
 {
     match place {
@@ -42,7 +42,7 @@ pub fn is_late(place: &Place, end: Frac) -> bool
     }
 }
 
-/// Whether a packet that is on a link is due by a time.
+/// Whether any of the packets in these places is on a link, and due by a time.
 pub fn some_late(places: &[Place], end: Frac) -> bool
     ensures late { result ≡ true → Any (IsLate end) places.now }
     ensures none { result ≡ false → All (λ x. ¬ IsLate end x) places.now }

@@ -5,11 +5,14 @@ ghost use Rattle.run_packets.specs.Works.{IsOther, MayGo, is_worked_off, rest_of
 
 use fraction128::Frac;
 
-/// The packet under way at a server: the bits of it that are yet to be worked, and when its last work ends.
+/// The packet under way at a server.
 #[derive(Clone, Copy)]
 pub struct Underway {
+    /// Its number in the run.
     pub packet: u32,
+    /// How many of its bits are yet to be worked, in the unit of data of the run's network.
     pub left: Frac,
+    /// When the last of its works so far ends, in the unit of time of that network.
     pub end: Frac,
 }
 
@@ -43,7 +46,7 @@ pub fn is_complete(under: &Option<Underway>) -> bool
     }
 }
 
-/// What is yet to be worked of a packet: of the one under way, where there is one, and else as it is told.
+/// The bits that are yet to be worked: of the packet under way, where there is one, and else `fresh`.
 pub fn rest(under: &Option<Underway>, fresh: Frac) -> Frac
     ensures { result ≡ rest_of under.now fresh }
 {

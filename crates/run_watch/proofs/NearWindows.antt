@@ -43,7 +43,7 @@ use Rattle.run_watch.proofs.FirstIdle.{stretch_times}
 use Rattle.run_watch.proofs.HeldSizes.{IsHeldSegment, segments_held, segment_map, gap_steps, segment_keys, ramps_read, segments_fit, time_fits, times_sum_fit, times_differ, length_time}
 use Rattle.run_watch.proofs.HeldTimes.{turns_time}
 use Rattle.run_watch.proofs.IdleIn.{has_at, late_after}
-use Rattle.run_watch.proofs.OwnTurns.{holds_same, same_read}
+use Rattle.run_watch.proofs.OwnTurns.{holds_same}
 use Rattle.run_watch.proofs.Reaches.{fit_within, time_within, near_within}
 use Rattle.run_laws.proofs.Times.{each_time_map}
 use Rattle.run_watch.proofs.SortedPoints.{each_point_at, each_time_from, each_time_among, fits_of}
@@ -253,14 +253,12 @@ pub stretches_read : (w : Watched) (ss made : List Stretch) (read kept : List �
 stretches_read w ss made read kept a b c d = a ∙ b ∙ ap (λ (ts : List ℚ). stretches_in w ts w.arrivals.items) (c ∙ d)
 
 -- a part of a stretch, and the turns in it, which are found among the turns in order
-pub looked_at_part : (w : Watched) (until : Option ℚ) (ss : List Stretch) (k : ℕ) (s part : Stretch) (turned told all sorted in_part in_own own : List ℚ)
-    → ss ≡ stretches w → k < length ss → s ≡ slice_index_or ss k s → turned ≡ turns w (stretches w) → told ≡ turned → all ≡ turned
-    → HaveSameTimes told sorted → in_part ≡ sorted → in_own ≡ sorted → ¬ IsPastEnd until s.start → IsPart until in_part s part
-    → HoldsTimes part in_own own → (from : ℚ) × RiseFrom from own → IsLookedAt w part own all
-looked_at_part w until ss k s part turned told all sorted in_part in_own own same l e turned_is told_is all_is times part_is own_is early P holds rise =
-    let laid = same_read turned all told sorted in_part told_is all_is part_is times in
-    let sorts = same_read turned all told sorted in_own told_is all_is own_is times in
-    looked_at w until ss k s part in_part own all same l e (all_is ∙ turned_is) early P (λ t m. laid.back t m) (holds_same part all in_own own sorts holds) rise
+pub looked_at_part : (w : Watched) (until : Option ℚ) (ss : List Stretch) (k : ℕ) (s part : Stretch) (turned sorted own : List ℚ)
+    → ss ≡ stretches w → k < length ss → s ≡ slice_index_or ss k s → turned ≡ turns w (stretches w)
+    → HaveSameTimes turned sorted → ¬ IsPastEnd until s.start → IsPart until sorted s part
+    → HoldsTimes part sorted own → (from : ℚ) × RiseFrom from own → IsLookedAt w part own turned
+looked_at_part w until ss k s part turned sorted own same l e turned_is times early P holds rise =
+    looked_at w until ss k s part sorted own turned same l e turned_is early P (λ t m. times.back t m) (holds_same part turned sorted own times holds) rise
 
 pub in_reach : (s : Stretch) (p : Point) (g : Segment) (u : ℚ) → u ≡ p.time +ℚ g.start → ¬ (s.end <ℚ u) → p.time +ℚ g.start ≤ℚ s.end
 in_reach s p g u e n = subst (λ x. x ≤ℚ s.end) e (le_of_not_lt n)

@@ -101,8 +101,3 @@ holds_same s ps ts own h k = record {
   from = k.from;
   upto = k.upto;
 }
-
--- as the code reads them
-pub same_read : (turns all told sorted read : List ℚ) → told ≡ turns → all ≡ turns → read ≡ sorted → HaveSameTimes told sorted → HaveSameTimes all read
-same_read turns all told sorted read e f g h =
-    subst (λ z. HaveSameTimes z read) (e ∙ sym f) (subst (λ z. HaveSameTimes told z) (sym g) h)

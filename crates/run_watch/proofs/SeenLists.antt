@@ -1,7 +1,5 @@
 -- What a server sees, step by step.
-use Rattle.std.specs.Prelude.{◌≡◌, ℕ, zero, suc, ◌+◌, ◌<◌, ◌==◌, ◌&&◌, true, false, pos, List, [], ◌∷◌, ◌++◌, length, drop, map, Option, slice_index}
-use Rattle.std.specs.List.{slice_index_or}
-use Rattle.std.specs.Option.{option_to_list}
+use Rattle.std.specs.Prelude.{◌≡◌, ℕ, zero, suc, ◌==◌, ◌&&◌, true, false, pos, List, [], ◌∷◌, ◌++◌, map, slice_index}
 use Rattle.std.proofs.Common.{inl, inr, refl, sym, ap, ap₂, ◌∙◌}
 use Rattle.std.proofs.lemmas.Bool.{cases_Bool}
 use Rattle.rational.specs.Rational.{ℚ, int, ◌+ℚ◌, le_q, lt_q}
@@ -20,7 +18,7 @@ use Rattle.flow_watch.specs.watch_laws.Times.{leave_times}
 use Rattle.flow_watch.specs.watch_laws.Paces.{pace_of, pace_before, pace_after}
 use Rattle.run_watch.specs.declared.span.Span.{Span}
 use Rattle.run_watch.specs.Ramps.{amount, rate_before, rate_after, as_span}
-use Rattle.run_watch.specs.Seen.{at_once, arrival_spans, work_spans, works_at, leaves_at, sizes_after, arrival_in, arrivals_at, AreFirsts}
+use Rattle.run_watch.specs.Seen.{at_once, arrival_spans, work_spans, works_at, leaves_at, sizes_after, arrivals_at, AreFirsts}
 
 -- no other step than one that enters adds a size
 pub sizes_kept : (sizes : List ℕ) (x : Step) → ((f p : ℕ) (t : ℚ) (b : ℕ) → x ≡ Enter f p t b → ⊥) → sizes ≡ sizes_after sizes x

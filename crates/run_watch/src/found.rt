@@ -21,7 +21,7 @@ use std::alloc::{AllocError, Global};
 use upp_curve::Curve;
 
 /// A breach, with its time.
-#[derive(Debug, Clone, Copy)]
+#[derive(Clone, Copy)]
 pub struct Found {
     pub time: Frac,
     pub breach: Breach,
@@ -120,13 +120,12 @@ pub fn service_breach(
 {
     match first_idle(alloc, w, curve, until)? {
         None => Ok(None),
-        Some(window) => Ok(Some(Found {
-            time: window.1,
-            breach: Breach::Service {
-                server,
-                start: window.0,
-                end: window.1,
-            },
-        })),
+        Some(window) => {
+            let (start, end) = window;
+            Ok(Some(Found {
+                time: end,
+                breach: Breach::Service { server, start, end },
+            }))
+        }
     }
 }

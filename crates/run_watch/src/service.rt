@@ -1,11 +1,12 @@
 //! The first window in which a server works less than its curve.
 
-ghost use Rattle.std.specs.Prelude.{◌↔◌, List, Some, IfOk, IsTrue};
-ghost use Rattle.rational.specs.Rational.{ℚ};
+ghost use Rattle.std.specs.Prelude.{◌≡◌, ◌↔◌, List, Some, pos, IfOk, IsTrue};
+ghost use Rattle.rational.specs.Rational.{ℚ, int, ◌<ℚ◌};
 ghost use Rattle.run_laws.specs.Cards.{ServerStep};
 ghost use Rattle.run_laws.specs.Servers as servers;
 ghost use Rattle.flow_watch.specs.watch_laws.Laws.{MayServe};
 ghost use Rattle.flow_watch.specs.watch_laws.Shorts.{IsPastEnd};
+ghost use Rattle.run_watch.specs.Watching as watching;
 ghost use Rattle.run_watch.specs.Watching.{RiseFrom};
 ghost use Rattle.run_watch.specs.WatchTimes.{HaveSameTimes};
 ghost use Rattle.run_watch.specs.Held.{IsSightOf, IsHeld, FindsIdle};
@@ -65,6 +66,42 @@ fn in_order(alloc: Global, turns: &[Frac]) -> Result<Vec<Frac>, AllocError>
     Ok(sorted)
 }
 
+/// The first window between two watch points of a stretch in which the server works less than its curve, along all of
+/// its stretches: `turned` are its turns, and `sorted` the same times in order.
+fn first_along(
+    alloc: Global,
+    w: &Watched,
+    curve: &Curve,
+    until: &Option<Frac>,
+    along: &[Stretch],
+    turned: &[Frac],
+    sorted: &[Frac],
+) -> Result<Option<(Frac, Frac)>, AllocError>
+    requires held { IsHeld w.now curve.now }
+    requires some { int (pos 0) <ℚ w.now.end }
+    requires along { along.now ≡ watching.stretches w.now }
+    requires turned { turned.now ≡ watching.turns w.now (watching.stretches w.now) }
+    requires same { HaveSameTimes turned.now sorted.now }
+    requires rise { (from : ℚ) × RiseFrom from sorted.now }
+    ensures { (server : servers.Server) (V : List ServerStep) → IsSightOf server w.now.end V w.now → MayServe curve.now
+        → IfOk result (FindsIdle until.now w.now.end V curve.now) }
+{
+    for s in along {
+        if is_late(until, s.start) {
+            return Ok(None);
+        }
+        let part = part_of(sorted, s, until);
+        let own = turns_in(sorted, &part);
+        if let Some(found) = first_in(alloc, w, curve, &part, own, turned)? {
+            return Ok(Some(found));
+        }
+        if is_late(until, part.end) {
+            return Ok(None);
+        }
+    }
+    Ok(None)
+}
+
 /// The first window between two watch points of a stretch in which the server works less than its curve: with the
 /// least end, and of those with the least start. None, where none ends before `until`: then no stretch is looked at
 /// further than to its first turn at that time or later.
@@ -85,18 +122,5 @@ pub fn first_idle(
     let stretches = stretches_of(alloc, w, &stops)?;
     let turns = turns_of(alloc, w, &stretches)?;
     let sorted = in_order(alloc, &turns)?;
-    for s in &stretches {
-        if is_late(until, s.start) {
-            return Ok(None);
-        }
-        let part = part_of(&sorted, s, until);
-        let own = turns_in(&sorted, &part);
-        if let Some(found) = first_in(alloc, w, curve, &part, own, &turns)? {
-            return Ok(Some(found));
-        }
-        if is_late(until, part.end) {
-            return Ok(None);
-        }
-    }
-    Ok(None)
+    first_along(alloc, w, curve, until, &stretches, &turns, &sorted)
 }

@@ -26,7 +26,7 @@ pub struct Watched {
 }
 
 /// From `start` to `end` the server has work all the time.
-#[derive(Debug, Clone, Copy)]
+#[derive(Clone, Copy)]
 pub struct Stretch {
     pub start: Frac,
     pub end: Frac,

@@ -7,7 +7,7 @@ ghost use Rattle.sim_servers.specs.Firsts.{kind_number, place_of, IsNoLater, IsF
 use fraction128::{Frac, is_less};
 
 /// What is due. At equal times they come in this order.
-#[derive(Debug, Clone, Copy)]
+#[derive(Clone, Copy)]
 pub enum DueKind {
     /// Work goes on.
     Resume,
@@ -22,7 +22,7 @@ pub enum DueKind {
 }
 
 /// A step that is due. For what enters the server is 0, and the packet is 0 but for what reaches a server or enters.
-#[derive(Debug, Clone, Copy)]
+#[derive(Clone, Copy)]
 pub struct Due {
     pub time: Frac,
     pub kind: DueKind,

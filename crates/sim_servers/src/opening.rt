@@ -8,14 +8,14 @@ ghost use Rattle.sim_servers.specs.Openings.{gate_times, gate_for, times_of, ope
 use fraction128::{Frac, is_less, product, quotient, sum};
 
 /// A gate is open for a slot at the beginning of each cycle.
-#[derive(Debug, Clone, Copy)]
+#[derive(Clone, Copy)]
 pub struct Gate {
     pub cycle: Frac,
     pub slot: Frac,
 }
 
 /// A stall, from its start up to its end.
-#[derive(Debug, Clone, Copy)]
+#[derive(Clone, Copy)]
 pub struct Span {
     pub start: Frac,
     pub end: Frac,
@@ -30,7 +30,7 @@ pub struct Opening {
 }
 
 /// A time at which a server opens, and how many of its stalls are over by then.
-#[derive(Debug, Clone, Copy)]
+#[derive(Clone, Copy)]
 struct OpenTime {
     time: Frac,
     passed: usize,

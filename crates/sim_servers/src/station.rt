@@ -19,7 +19,7 @@ use fraction128::{Frac, difference, is_less, product, sum};
 use queue_sched::Scheduler;
 
 /// What is due at a server after its steps so far.
-#[derive(Debug, Clone, Copy)]
+#[derive(Clone, Copy)]
 pub enum Next {
     /// Nothing: no packet is there.
     Nothing,
@@ -32,7 +32,7 @@ pub enum Next {
 }
 
 /// A stretch of work on a packet.
-#[derive(Debug, Clone, Copy)]
+#[derive(Clone, Copy)]
 pub struct Stretch {
     pub packet: u32,
     pub start: Frac,
@@ -41,7 +41,7 @@ pub struct Stretch {
 }
 
 /// Work on a packet that goes on at a time, and how long it takes yet.
-#[derive(Debug, Clone, Copy)]
+#[derive(Clone, Copy)]
 pub struct Rest {
     pub packet: u32,
     pub time: Frac,

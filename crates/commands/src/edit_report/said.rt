@@ -12,7 +12,7 @@ use report_text::{cell_text, server_name};
 use std::alloc::{AllocError, Global};
 
 /// What is said of an edit.
-#[derive(Debug, Drop)]
+#[derive(Drop)]
 pub enum Said {
     /// It is made, and this many cells were touched.
     Made(u32),

@@ -1,5 +1,5 @@
 -- One row of an edit list after another.
-use Rattle.std.proofs.Common.{◌≡◌, ℕ, suc, ◌+◌, ◌<◌, ◌≤◌, List, [], ◌∷◌, ◌++◌, length, take, drop, get_or, map, Ok, refl, sym, ap, ap₂, subst, arith, ◌∙◌, length-take, take_all}
+use Rattle.std.proofs.Common.{◌≡◌, ℕ, suc, ◌+◌, ◌<◌, ◌≤◌, List, [], ◌∷◌, ◌++◌, length, take, drop, get_or, map, Ok, sym, ap, ap₂, subst, arith, ◌∙◌, length-take, take_all}
 use Rattle.std.proofs.lemmas.List.{map_push}
 use Rattle.input_texts.specs.declared.table_text.fault.TableKind.{TableKind}
 use Rattle.input_texts.specs.table_text.Rows.{Row, Read, rows_of}
@@ -7,9 +7,6 @@ use Rattle.input_texts.specs.table_text.EditRows.{EditText, edit_row}
 use Rattle.input_texts.specs.table_text.EditLists.{AreEditsOf, IsEditWrong, IsFirstEditFault}
 use Rattle.input_texts.specs.table_text.EditAnswers.{AddsEdit}
 use Rattle.input_texts.proofs.table_text.RowPlaces.{so_many, one_more, parted}
-
-pub no_edits : (rows : List Row) → AreEditsOf (take 0 rows) []
-no_edits rows = record { each = refl; few = omega arith }
 
 pub edits_more : (rows : List Row) (k : ℕ) (row : Row) (es es2 : List EditText) → k < length rows → get_or rows k row ≡ row → AreEditsOf (take k rows) es → AddsEdit k row es es2 → AreEditsOf (take (k + 1) rows) es2
 edits_more rows k row es es2 within is so adds =

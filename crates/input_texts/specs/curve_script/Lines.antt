@@ -5,7 +5,8 @@ use Rattle.rational.specs.Rational.{ℚ}
 use Rattle.input_texts.specs.plain_text.Plain.{is_plain}
 use Rattle.input_texts.specs.declared.curve_script.fault.LangKind.{LangKind}
 use Rattle.input_texts.specs.declared.curve_script.fault.LangKind.TheVariants.{C1, C2, C3, C4, C5, C6, C7, C8, TooMany, TooWide, NoMemory}
-use Rattle.input_texts.specs.curve_script.Tokens.{Says}
+use Rattle.input_texts.specs.curve_script.Tokens.{Token, Says}
+use Rattle.input_texts.specs.curve_script.Lexing.{lex}
 use Rattle.input_texts.specs.curve_script.Grammar.{Statement, statement_tokens, HasNamesIn, numbers_read_in, depth_in}
 
 -- the deepest nesting of parentheses, and how many statements a script may have
@@ -25,6 +26,11 @@ is_comment (b ∷ bs) = b == 35
 -- a line that is no statement, whatever its other bytes
 abbrev pub is_skipped : List ℕ → Bool
 is_skipped line = is_blank line || is_comment line
+
+-- a line whose bytes are plain, and are those of these tokens
+pub record HasTokens (line : List ℕ) (tokens : List Token) : Type 0 where
+  pub plain : is_plain line ≡ true
+  pub lexed : lex line ≡ Some tokens
 
 -- a line is a statement, as far as any word may stand for a number
 pub record IsDraft (line : List ℕ) (draft : Statement (List ℕ)) : Type 0 where

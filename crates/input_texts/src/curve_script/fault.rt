@@ -6,7 +6,7 @@ ghost use Rattle.std.specs.Prelude.{◌≡◌};
 use std::alloc::AllocError;
 
 /// What is wrong with a script.
-#[derive(Debug, Clone, Copy, PartialEq, Eq)]
+#[derive(Clone, Copy)]
 pub enum LangKind {
     /// A byte that is neither a space nor a visible character of ASCII.
     C1,
@@ -33,7 +33,7 @@ pub enum LangKind {
 }
 
 /// What is wrong, and the line, counted from 1. The line is 0 where memory ran out.
-#[derive(Debug, Clone, Copy, PartialEq, Eq)]
+#[derive(Clone, Copy)]
 pub struct LangFault {
     pub kind: LangKind,
     pub line: u32,

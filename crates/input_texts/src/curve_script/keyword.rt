@@ -5,7 +5,7 @@ ghost use Rattle.std.specs.Str.{bytes_eq};
 ghost use Rattle.input_texts.specs.curve_script.Keywords.{spelling, keyword_of};
 
 /// A question about one curve.
-#[derive(Debug, Clone, Copy, PartialEq, Eq)]
+#[derive(Clone, Copy)]
 pub enum OneAsked {
     /// The long-run rate: `rate E`.
     Rate,
@@ -14,7 +14,7 @@ pub enum OneAsked {
 }
 
 /// A question about two curves.
-#[derive(Debug, Clone, Copy, PartialEq, Eq)]
+#[derive(Clone, Copy)]
 pub enum TwoAsked {
     /// The horizontal deviation of an arrival curve and a service curve: `delay E, E`.
     Delay,
@@ -27,7 +27,7 @@ pub enum TwoAsked {
 }
 
 /// A curve that two numbers give.
-#[derive(Debug, Clone, Copy, PartialEq, Eq)]
+#[derive(Clone, Copy)]
 pub enum NumberPair {
     /// A token bucket, by its burst and its rate: `bucket(12000, 10)`.
     Bucket,
@@ -36,7 +36,7 @@ pub enum NumberPair {
 }
 
 /// A curve that three numbers give.
-#[derive(Debug, Clone, Copy, PartialEq, Eq)]
+#[derive(Clone, Copy)]
 pub enum NumberTriple {
     /// Packets one by one, by a packet's bits, the period and the jitter: `stair(1, 2, 0)`.
     Stair,
@@ -45,7 +45,7 @@ pub enum NumberTriple {
 }
 
 /// An operator on one curve.
-#[derive(Debug, Clone, Copy, PartialEq, Eq)]
+#[derive(Clone, Copy)]
 pub enum CurveOperator {
     /// The subadditive closure: `close(E)`.
     Close,
@@ -56,7 +56,7 @@ pub enum CurveOperator {
 }
 
 /// An operator on a curve and a number.
-#[derive(Debug, Clone, Copy, PartialEq, Eq)]
+#[derive(Clone, Copy)]
 pub enum NumberOperator {
     /// The curve less a number, and 0 where that is below 0: `posminus(E, 12000)`.
     PosMinus,
@@ -67,7 +67,7 @@ pub enum NumberOperator {
 }
 
 /// An operator on two curves.
-#[derive(Debug, Clone, Copy, PartialEq, Eq)]
+#[derive(Clone, Copy)]
 pub enum PairOperator {
     /// The sum of two curves: `sum(E, E)`.
     Sum,

@@ -8,7 +8,7 @@ ghost use Rattle.input_texts.specs.curve_script.Lexing.{class_of, lex, view};
 use std::alloc::{AllocError, Global};
 
 /// A sign of a script.
-#[derive(Debug, Clone, Copy, PartialEq, Eq)]
+#[derive(Clone, Copy)]
 pub enum Sign {
     Open,
     Close,

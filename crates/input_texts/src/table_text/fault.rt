@@ -7,7 +7,7 @@ ghost use Rattle.input_texts.specs.table_text.Traces.{out_of_memory};
 use std::alloc::{AllocError, AllocFailed};
 
 /// What is wrong with a row of a table.
-#[derive(Debug, Clone, Copy, PartialEq, Eq)]
+#[derive(Clone, Copy)]
 pub enum TableKind {
     /// A field has a byte outside of 32 to 126.
     T1,
@@ -29,7 +29,7 @@ pub enum TableKind {
 
 /// What is wrong with a table, and with which row, from 1 on: empty lines are not counted. The row is 0 where memory
 /// ran out.
-#[derive(Debug, Clone, Copy, PartialEq, Eq)]
+#[derive(Clone, Copy)]
 pub struct TableFault {
     pub kind: TableKind,
     pub row: u32,

@@ -10,7 +10,7 @@ use crate::net_graph::waits::{first_idle, servers_before};
 use std::alloc::{AllocError, AllocFailed, Global};
 
 /// Why a network has no order.
-#[derive(Debug, Drop)]
+#[derive(Drop)]
 pub enum GraphFault {
     /// Servers that come back to the first of them, which is the least; each is right after the one before it on the
     /// path of some live flow, and no other is repeated. Of several such rings it is the one to which one comes from

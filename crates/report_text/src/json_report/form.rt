@@ -1,7 +1,7 @@
 //! Forms of reports.
 
 /// How a report is written.
-#[derive(Clone, Copy, Debug, PartialEq, Eq)]
+#[derive(Clone, Copy)]
 pub enum Form {
     /// Line by line, in words.
     Lines,

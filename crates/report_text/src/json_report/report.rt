@@ -12,7 +12,7 @@ use crate::json_report::values::{flow_values, queue_values};
 use crate::{ShownValue, analysis_text};
 use net_cells::cell_table::Table;
 use net_model::Network;
-use serde_json::{Value, json};
+use serde_json::{Map, Value, put};
 use std::alloc::{AllocError, Global};
 
 /// The values as one array.
@@ -41,9 +41,12 @@ fn report_value<V: ShownValue, T: Table<V>>(
 ) -> Result<Value, AllocError>
     ensures { IfOk result (λ v. view v ≡ report_data net.now (T.at table.now)) }
 {
+    let mut members = Map::new(alloc);
     let flows = array_of(flow_values(alloc, net, table)?);
+    put(&mut members, alloc, "flows", flows)?;
     let queues = array_of(queue_values(alloc, net, table)?);
-    json!(in alloc; {"flows": flows, "queues": queues})
+    put(&mut members, alloc, "queues", queues)?;
+    Ok(Value::Object(members))
 }
 
 fn json_text<V: ShownValue, T: Table<V>>(

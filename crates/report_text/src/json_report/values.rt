@@ -1,7 +1,9 @@
 //! The values of flows and of queues.
 
 ghost use Rattle.std.specs.Prelude.{◌≡◌, [], ◌∷◌, ◌++◌, map, IfOk, OnOk};
-ghost use Rattle.serde_json.specs.View.{view};
+ghost use Rattle.serde_json.specs.Data.{string, put as with_member};
+ghost use Rattle.serde_json.specs.View.{view, members_view};
+ghost use Rattle.report_text.specs.Shown.{shown};
 ghost use Rattle.report_text.specs.json_report.ReportData as data_of;
 
 use crate::json_report::shown::shown_string;
@@ -9,8 +11,41 @@ use crate::{ShownValue, server_name};
 use net_cells::cell_table::Table;
 use net_cells::{Kind, live_flow, queues};
 use net_model::Network;
-use serde_json::{Value, json};
+use serde_json::{Map, Value, put};
 use std::alloc::{AllocError, Global};
+
+/// Puts a text among the members of an object.
+fn put_text(
+    alloc: Global,
+    into: &mut Map<String, Value>,
+    key: &str,
+    text: &str,
+) -> Result<(), AllocError>
+    ensures { OnOk result (members_view into.new.entries
+        ≡ with_member key.now (string text.now) (members_view into.old.entries)) }
+{
+    let value = Value::try_from_str(alloc, text)?;
+    put(into, alloc, key, value)?;
+    Ok(())
+}
+
+/// Puts the number of a cell among the members of an object, as a text.
+fn put_shown<V: ShownValue, T: Table<V>>(
+    alloc: Global,
+    into: &mut Map<String, Value>,
+    key: &str,
+    table: &T,
+    kind: Kind,
+    a: u32,
+    b: u32,
+) -> Result<(), AllocError>
+    ensures { OnOk result (members_view into.new.entries
+        ≡ with_member key.now (string (shown (T.at table.now) kind a b)) (members_view into.old.entries)) }
+{
+    let text = shown_string(alloc, table, kind, a, b)?;
+    put(into, alloc, key, Value::String(text))?;
+    Ok(())
+}
 
 #[tactic(auto, unfolding(crate::specs::json_report::ReportData::flow_data))]
 fn flow_value<V: ShownValue, T: Table<V>>(
@@ -21,10 +56,12 @@ fn flow_value<V: ShownValue, T: Table<V>>(
 ) -> Result<Value, AllocError>
     ensures { IfOk result (λ v. view v ≡ data_of.flow_data name.now (T.at table.now) flow) }
 {
-    let bound = shown_string(alloc, table, Kind::Bound, flow, 0)?;
-    let sfa = shown_string(alloc, table, Kind::Sfa, flow, 0)?;
-    let tfa = shown_string(alloc, table, Kind::Tfa, flow, 0)?;
-    json!(in alloc; {"bound": bound, "name": name, "sfa": sfa, "tfa": tfa})
+    let mut members = Map::new(alloc);
+    put_shown(alloc, &mut members, "bound", table, Kind::Bound, flow, 0)?;
+    put_text(alloc, &mut members, "name", name)?;
+    put_shown(alloc, &mut members, "sfa", table, Kind::Sfa, flow, 0)?;
+    put_shown(alloc, &mut members, "tfa", table, Kind::Tfa, flow, 0)?;
+    Ok(Value::Object(members))
 }
 
 #[tactic(auto, unfolding(crate::specs::json_report::ReportData::queue_data))]
@@ -37,10 +74,28 @@ fn queue_value<V: ShownValue, T: Table<V>>(
 ) -> Result<Value, AllocError>
     ensures { IfOk result (λ v. view v ≡ data_of.queue_data name.now (T.at table.now) server queue) }
 {
-    let backlog = shown_string(alloc, table, Kind::QueueBacklog, server, queue)?;
-    let delay = shown_string(alloc, table, Kind::QueueDelay, server, queue)?;
-    let number = u64::from(queue);
-    json!(in alloc; {"backlog": backlog, "delay": delay, "queue": number, "server": name})
+    let mut members = Map::new(alloc);
+    put_shown(
+        alloc,
+        &mut members,
+        "backlog",
+        table,
+        Kind::QueueBacklog,
+        server,
+        queue,
+    )?;
+    put_shown(
+        alloc,
+        &mut members,
+        "delay",
+        table,
+        Kind::QueueDelay,
+        server,
+        queue,
+    )?;
+    put(&mut members, alloc, "queue", Value::from(queue))?;
+    put_text(alloc, &mut members, "server", name)?;
+    Ok(Value::Object(members))
 }
 
 fn push_value(into: &mut Vec<Value>, value: Value) -> Result<(), AllocError>

@@ -2,7 +2,7 @@
 
 /// The laws of a recorded run, in the order in which they are looked at. The first eight are of one step, the last of
 /// the run's end. (Own choice; the disciplines are the textbook's, deficit round robin is Shreedhar and Varghese's.)
-#[derive(Debug, Clone, Copy)]
+#[derive(Clone, Copy)]
 pub enum Law {
     /// A step is not before an earlier step of its server, nor after the run's end, and work ends within the run.
     L1,

@@ -6,7 +6,7 @@ ghost use Rattle.run_check.specs.declared.run_table.fault.RunKind.TheVariants.{N
 use std::alloc::{AllocError, AllocFailed};
 
 /// What is wrong with a row of a recorded run.
-#[derive(Debug, Clone, Copy)]
+#[derive(Clone, Copy)]
 pub enum RunKind {
     /// A field has a byte outside of 32 to 126.
     T1,
@@ -28,7 +28,7 @@ pub enum RunKind {
 
 /// What is wrong with a recorded run, and with which row, from 1 on: empty lines are not counted. The row is 0 where
 /// memory ran out.
-#[derive(Debug, Clone, Copy)]
+#[derive(Clone, Copy)]
 pub struct RunFault {
     pub kind: RunKind,
     pub row: u32,

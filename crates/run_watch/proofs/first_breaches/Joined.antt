@@ -1,8 +1,7 @@
 -- The first of the breaches of more flows or servers, and of more kinds, from the first of each.
-use Rattle.std.specs.Prelude.{◌≡◌, ◌⊎◌, ℕ, suc, ◌<◌, ◌≤◌, List, [], ◌∷◌, length, Option, Some, None}
+use Rattle.std.specs.Prelude.{◌≡◌, ◌⊎◌, ℕ, suc, ◌<◌, List, [], ◌∷◌, length, Option, Some, None}
 use Rattle.std.proofs.Common.{arith, refl, sym, subst, ap, ◌∙◌, inl, inr}
 use Rattle.std.proofs.lemmas.Bool.{cases_lt}
-use Rattle.std.proofs.lemmas.List.{length-map}
 use Rattle.rational.specs.Rational.{ℚ, ◌≤ℚ◌}
 use Rattle.rational.proofs.Laws.{lt_cases, lt_irrefl, lt_le_trans}
 use Rattle.run_laws.specs.Runs.{SpecRun}
@@ -11,7 +10,6 @@ use Rattle.run_laws.proofs.Sizes.{whole_lt}
 use Rattle.net_model.specs.declared.breach.Breach.{Breach}
 use Rattle.net_model.specs.declared.breach.Breach.TheVariants.{Size, Arrival, Service}
 use Rattle.net_model.specs.Networks.{Net}
-use Rattle.net_model.specs.NetRoutes.{server_for}
 use Rattle.net_cells.proofs.Places.{live_inside}
 use Rattle.flow_watch.specs.watch_laws.Breaches.{order_key, NoLater}
 use Rattle.run_watch.specs.declared.found.Found.{Found}
@@ -86,11 +84,6 @@ subject_inside : (net : Net) (run : SpecRun) (y : Breach) → kind_of y < 2 → 
 subject_inside net run (Size flow p) l h = live_inside net flow (sym (live_is net flow) ∙ h.live)
 subject_inside net run (Arrival flow i j) l h = live_inside net flow (sym (live_is net flow) ∙ h.live)
 subject_inside net run (Service s a b) l h = absurd (omega arith)
-
-server_inside : (net : Net) (run : SpecRun) (y : Breach) → kind_of y ≡ 2 → IsNetBreach net run y → subject_of y < length net.servers
-server_inside net run (Size flow p) l h = absurd (omega arith)
-server_inside net run (Arrival flow i j) l h = absurd (omega arith)
-server_inside net run (Service s a b) l h = let k = h.known in subst (λ (n : ℕ). s < n) (length-map net.servers (server_for net.version)) k
 
 pub sizes_first : (net : Net) (run : SpecRun) (o : Option Found) → IsBest (IsBelow net run 0 (length net.flows)) run o → IsBest (IsOfKinds net run 1) run o
 sizes_first net run o h = best_same (IsBelow net run 0 (length net.flows)) (IsOfKinds net run 1) run o

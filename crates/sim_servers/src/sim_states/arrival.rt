@@ -3,7 +3,7 @@
 use fraction128::Frac;
 
 /// Where a packet on a link goes, and when it is there.
-#[derive(Debug, Clone, Copy)]
+#[derive(Clone, Copy)]
 pub struct Arrival {
     /// The number of the server that it reaches.
     pub server: u32,

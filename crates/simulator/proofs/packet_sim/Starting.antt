@@ -110,6 +110,24 @@ some_turn S stations links arrivals n xs d h kind =
     let keeps = h.due.now.running.servers.kept d.server h.turned.old h.turned.moved.was in
     k.will.some (h.turned.turned (state_at (state_after S xs) d.server) keeps.queues k.will.idle).0
 
+-- the station that turns is the one that is due
+record IsStartingFrom (S : Setup) (xs : List Step) (d : Due) (station : Station) : Type 0 where
+  known : d.server < length S.net.servers
+  keeps : IsStation S d.server (state_at (state_after S xs) d.server) station
+  is : station.next ≡ Start d.time
+  part : d.packet ≡ 0
+  will : WillStart S d.server (state_at (state_after S xs) d.server) station.opening d.time
+
+starting_from : (S : Setup) (stations : List Station) (links : Chains) (arrivals : List Arrival) (n : ℕ) (xs : List Step) (d : Due) (turn : Option Turn)
+    → (h : IsTurning S stations links arrivals n xs d turn) → d.kind ≡ kinds.Start → IsStartingFrom S xs d h.turned.old
+starting_from S stations links arrivals n xs d turn h kind =
+    let k = starting_now S h.before links arrivals n xs d h.due kind in
+    let t = h.turned in
+    let f : Some k.station ≡ Some t.old = sym k.at ∙ t.moved.was in
+    let same : k.station ≡ t.old = cc in
+    subst (λ (z : Station). IsStartingFrom S xs d z) same
+    record { known = k.known; keeps = k.keeps; is = k.is; part = k.part; will = k.will }
+
 -- ---- a visit
 visit_next : (S : Setup) (s : ℕ) (d : Discipline) (σ : ServerState) (q : ℕ) (t : ℚ) (o : Opening) → WillStart S s σ o t
     → WillStart S s (next d σ (Visits q t)) o t
@@ -127,14 +145,11 @@ visit_done S stations links arrivals n xs d q h kind =
     let s = d.server in
     let r = state_after S xs in
     let σ = state_at r s in
+    let k = starting_from S stations links arrivals n xs d (Some (turns.Visit q)) h kind in
     let now = h.due.now in
-    let k = starting_now S h.before links arrivals n xs d h.due kind in
     let t = h.turned in
-    let f : Some k.station ≡ Some t.old = sym k.at ∙ t.moved.was in
-    let same : k.station ≡ t.old = cc in
-    let keeps = now.running.servers.kept s t.old t.moved.was in
-    let will : WillStart S s σ t.old.opening d.time = subst (λ (z : Station). WillStart S s σ z.opening d.time) same k.will in
-    let is : t.old.next ≡ Start d.time = subst (λ (z : Station). z.next ≡ Start d.time) same k.is in
+    let keeps = k.keeps in
+    let will = k.will in
     let turn : Starts (server_at S.net s).discipline (StandFor t.new.queues) σ (Some (turns.Visit q)) =
     subst (λ j. Starts j (StandFor t.new.queues) σ (Some (turns.Visit q))) keeps.discipline (t.turned σ keeps.queues will.idle) in
     let x = steps.Visit s q d.time in
@@ -149,7 +164,7 @@ visit_done S stations links arrivals n xs d q h kind =
         opening = subst (IsOpeningOf S s) (sym t.opening) keeps.opening;
         rate = t.rate ∙ keeps.rate;
         inside = t.inside ∙ keeps.inside;
-        next = subst (λ o. IsNextOf S s τ o t.new.next) (sym t.opening) (subst (λ m. IsNextOf S s τ t.old.opening m) (sym (t.next ∙ is))
+        next = subst (λ o. IsNextOf S s τ o t.new.next) (sym t.opening) (subst (λ m. IsNextOf S s τ t.old.opening m) (sym (t.next ∙ k.is))
             (visit_next S s (server_at S.net s).discipline σ q d.time t.old.opening will));
       },
       t.moved.room ∙ now.running.servers.rooms s t.old t.moved.was,
@@ -179,13 +194,11 @@ sending S stations links arrivals n xs d p h kind =
     let s = d.server in
     let r = state_after S xs in
     let σ = state_at r s in
+    let k = starting_from S stations links arrivals n xs d (Some (turns.Send p)) h kind in
     let now = h.due.now in
-    let k = starting_now S h.before links arrivals n xs d h.due kind in
     let t = h.turned in
-    let f : Some k.station ≡ Some t.old = sym k.at ∙ t.moved.was in
-    let same : k.station ≡ t.old = cc in
-    let keeps = now.running.servers.kept s t.old t.moved.was in
-    let will : WillStart S s σ t.old.opening d.time = subst (λ (z : Station). WillStart S s σ z.opening d.time) same k.will in
+    let keeps = k.keeps in
+    let will = k.will in
     let sends : Sends (server_at S.net s).discipline (StandFor t.new.queues) σ p =
     subst (λ j. Sends j (StandFor t.new.queues) σ p) keeps.discipline (t.turned σ keeps.queues will.idle) in
     let sound = sound_at S h.before links arrivals n xs now in

@@ -96,45 +96,60 @@ place_of net run k x rows c τ n e few h =
     }
 
 -- ---- a packet enters
+-- what is known of the step, and of the packet's card
+record IsEntering (net : Routes) (run : SpecRun) (k f p : ℕ) (t : ℚ) (b : ℕ) (c : Card) : Type 0 where
+  next_is : IsNext net run k (Enter f p t b)
+  in_turn : p ≡ length (state_after net run.steps k).entered
+  queue : c.queue ≡ queue_for net f (first_server (route_of net f).hops)
+  bits : c.bits ≡ b
+
+entering : (net : Routes) (run : SpecRun) (k f p : ℕ) (t : ℚ) (b : ℕ) → IsLawful net run → slice_get run.steps k ≡ Some (Enter f p t b)
+    → IsEntering net run k f p t b
+    (card_of net ((state_after net run.steps k).entered ++ record { flow = f; bits = b } ∷ []) p (first_server (route_of net f).hops))
+entering net run k f p t b lawful at =
+    let n = is_next net run k (Enter f p t b) lawful at in
+    let s = first_server (route_of net f).hops in
+    let in_turn = n.stands.allowed.0.known.in_turn in
+    let last = entry_last (state_after net run.steps k).entered record { flow = f; bits = b } p in_turn in
+    record {
+      next_is = n;
+      in_turn = in_turn;
+      queue = ap (λ (y : Entry). queue_at s (route_of net y.flow).hops) last;
+      bits = ap (λ (y : Entry). y.bits) last;
+    }
+
 pub may_enter : (net : Routes) (run : SpecRun) (k : ℕ) (f p : ℕ) (t : ℚ) (b : ℕ) (v : Levels) → IsLawful net run → slice_get run.steps k ≡ Some (Enter f p t b)
     → Tells net run k v → p < 2 ^ 32 → b < 2 ^ 32 → MayGain net v (first_server (route_of net f).hops) f b
 may_enter net run k f p t b v lawful at h low short =
-    let n = is_next net run k (Enter f p t b) lawful at in
+    let m = entering net run k f p t b lawful at in
     let r = state_after net run.steps k in
     let e : Entry = record { flow = f; bits = b } in
     let s = first_server (route_of net f).hops in
     let c = card_of net (r.entered ++ e ∷ []) p s in
-    let in_turn = n.stands.allowed.0.known.in_turn in
-    let last = entry_last r.entered e p in_turn in
-    let queue : c.queue ≡ queue_for net f s = ap (λ (y : Entry). queue_at s (route_of net y.flow).hops) last in
-    let bits : c.bits ≡ b = ap (λ (y : Entry). y.bits) last in
-    let place = place_of net run k (Enter f p t b) (gauges_of v.rows.items) c t n refl (few_push r.entered e p h.entered.are_few in_turn low short) h.gauged in
+    let place = place_of net run k (Enter f p t b) (gauges_of v.rows.items) c t m.next_is refl (few_push r.entered e p h.entered.are_few m.in_turn low short) h.gauged in
     let here : HasPlace (gauges_of v.rows.items) s (queue_for net f s) b =
-    subst (λ i. HasPlace (gauges_of v.rows.items) s (queue_for net f s) i) bits (subst (λ q. HasPlace (gauges_of v.rows.items) s q c.bits) queue place) in
+    subst (λ i. HasPlace (gauges_of v.rows.items) s (queue_for net f s) i) m.bits (subst (λ q. HasPlace (gauges_of v.rows.items) s q c.bits) m.queue place) in
     record { has = here.has; room = here.room }
 
 pub enter_tells : (net : Routes) (run : SpecRun) (k : ℕ) (f p : ℕ) (t : ℚ) (b : ℕ) (v w : Levels) → IsLawful net run → slice_get run.steps k ≡ Some (Enter f p t b)
     → Tells net run k v → p < 2 ^ 32 → b < 2 ^ 32 → Enters net v w f b t → Tells net run (suc k) w
 enter_tells net run k f p t b v w lawful at h low short enters =
-    let n = is_next net run k (Enter f p t b) lawful at in
+    let m = entering net run k f p t b lawful at in
+    let before = gauges_of v.rows.items in
+    let after = gauges_of w.rows.items in
+    let n = m.next_is in
     let r = state_after net run.steps k in
     let e : Entry = record { flow = f; bits = b } in
     let s = first_server (route_of net f).hops in
     let c = card_of net (r.entered ++ e ∷ []) p s in
-    let in_turn = n.stands.allowed.0.known.in_turn in
-    let last = entry_last r.entered e p in_turn in
-    let queue : c.queue ≡ queue_for net f s = ap (λ (y : Entry). queue_at s (route_of net y.flow).hops) last in
-    let bits : c.bits ≡ b = ap (λ (y : Entry). y.bits) last in
-    let before = gauges_of v.rows.items in
-    let after = gauges_of w.rows.items in
     let may = may_enter net run k f p t b v lawful at h low short in
-    let has : HasGauge before s c.queue = subst (HasGauge before s) (sym queue) may.has in
+    let has : HasGauge before s c.queue = subst (HasGauge before s) (sym m.queue) may.has in
     let change : ChangesOne (λ g h. Gains g h c.bits t) before after s c.queue =
-    subst (λ i. ChangesOne (λ g h. Gains g h i t) before after s c.queue) (sym bits) (subst (ChangesOne (λ g h. Gains g h b t) before after s) (sym queue) enters.gains) in
+    subst (λ i. ChangesOne (λ g h. Gains g h i t) before after s c.queue) (sym m.bits) (subst (ChangesOne (λ g h. Gains g h b t) before after s) (sym m.queue) enters.gains) in
     let now : AreEntered (r.entered ++ e ∷ []) w.flows.items w.bits.items = record {
       flows_are = enters.flows ∙ ap (λ xs. xs ++ f ∷ []) h.entered.flows_are ∙ sym (map_push (λ (y : Entry). y.flow) r.entered e);
       bits_are = enters.bits_are ∙ ap (λ xs. xs ++ b ∷ []) h.entered.bits_are ∙ sym (map_push (λ (y : Entry). y.bits) r.entered e);
-      are_few = few_push r.entered e p h.entered.are_few in_turn low short;
+      are_few = few_push r.entered e p h.entered.are_few m.in_turn low short;
     } in
     record {
       entered = subst (λ (r' : RunState). AreEntered r'.entered w.flows.items w.bits.items) (sym n.after) now;

@@ -6,7 +6,7 @@ ghost use Rattle.simulator.specs.declared.net_simulator.fault.SimFault.TheVarian
 use std::alloc::AllocError;
 
 /// Why a simulation gives no run.
-#[derive(Debug, Clone, Copy, PartialEq, Eq)]
+#[derive(Clone, Copy)]
 pub enum SimFault {
     /// The simulation gauge is 2^120 or more: numbers of the run may be too wide.
     TooWide,

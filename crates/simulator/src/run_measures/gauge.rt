@@ -7,7 +7,7 @@ ghost use Rattle.simulator.specs.run_measures.Gauges.{Gains, Loses, counted, emp
 use fraction128::{Frac, is_less};
 
 /// One queue, as it is known after some steps of a run.
-#[derive(Debug, Clone, Copy)]
+#[derive(Clone, Copy)]
 pub(crate) struct Gauge {
     /// The bits of the packets that are there.
     pub(crate) present: u64,

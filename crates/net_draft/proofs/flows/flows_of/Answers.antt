@@ -16,14 +16,14 @@ use Rattle.net_draft.proofs.flows.flows_of.Goals as goal
 
 pub returns-in_err-flow-clause-value : goal.returns-in_err-flow-clause-value
 returns-in_err-flow-clause-value c =
-    let p = err_from_is_err_and c.from_residual-in_err-flow.result c.from_residual-in_err-flow.ensures.1 in
+    let p = err_from_is_err_and c.from_residual.result c.from_residual.ensures.1 in
     let S = list_texts c.args.servers.now in
     let xs = c.loop-entry.flows.items in
-    let at_place : c.as_str.result.now ≡ nth (codes "flow") (length xs) = search rules in
-    let here : c.as_str.result.now ≡ nth (codes "flow") (length (map flow_text xs)) = at_place ∙ ap (nth (codes "flow")) (sym (length-map xs flow_text)) in
+    let at_place : nth (codes "flow") c.len.result ≡ nth (codes "flow") (length xs) = search rules in
+    let here : nth (codes "flow") c.len.result ≡ nth (codes "flow") (length (map flow_text xs)) = at_place ∙ ap (nth (codes "flow")) (sym (length-map xs flow_text)) in
     let e = c.in_err-flow.field-0.0 in
     let d = view c.entry-item.result in
-    let told = subst (λ b. Fails e (flow_with S b c.as_str.result.now d)) c.loop-entry.invariant.named c.in_err-flow.ensures.value in
+    let told = subst (λ b. Fails e (flow_with S b (nth (codes "flow") c.len.result) d)) c.loop-entry.invariant.named c.in_err-flow.ensures.value in
     rw (p.1, p.2) (stops (flow_at S) (codes "flow") (map flow_text xs) c.args.entries.now c.loop-entry.entry-index c.entry-item.result e
     (each (flow_at S) (codes "flow") [] (map view c.args.entries.now)) c.loop-entry-test.true c.entry-item.is
     (subst (λ q. Fails e (flow_at S (map flow_text xs) q d)) here told) c.loop-entry.invariant.value)
@@ -33,11 +33,11 @@ loop-entry-preserved c =
     let S = list_texts c.args.servers.now in
     let xs = c.loop-entry.flows.items in
     let s = c.in_ok-flow.flow in
-    let at_place : c.as_str.result.now ≡ nth (codes "flow") (length xs) = search rules in
-    let here : c.as_str.result.now ≡ nth (codes "flow") (length (map flow_text xs)) = at_place ∙ ap (nth (codes "flow")) (sym (length-map xs flow_text)) in
+    let at_place : nth (codes "flow") c.len.result ≡ nth (codes "flow") (length xs) = search rules in
+    let here : nth (codes "flow") c.len.result ≡ nth (codes "flow") (length (map flow_text xs)) = at_place ∙ ap (nth (codes "flow")) (sym (length-map xs flow_text)) in
     let d = view c.entry-item.result in
     let named = c.loop-entry.invariant.named in
-    let told = subst (λ b. flow_with S b c.as_str.result.now d ≡ Ok (flow_text s)) named c.in_ok-flow.ensures.value in
+    let told = subst (λ b. flow_with S b (nth (codes "flow") c.len.result) d ≡ Ok (flow_text s)) named c.in_ok-flow.ensures.value in
     let fresh : All (λ t. t.name ≢ (flow_text s).name) (map flow_text xs) =
     All-unmap (λ t. t ≢ (flow_text s).name) (λ t. t.name) (map flow_text xs) (subst (All (λ t. t ≢ (flow_text s).name)) named c.in_ok-flow.ensures.fresh) in
     let grown : c.push.new.self.items ≡ xs ++ s ∷ [] = c.in_ok-push.ensures.items in

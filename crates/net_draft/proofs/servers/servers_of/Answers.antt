@@ -15,13 +15,13 @@ use Rattle.net_draft.proofs.servers.servers_of.Goals as goal
 
 pub returns-in_err-server-clause-value : goal.returns-in_err-server-clause-value
 returns-in_err-server-clause-value c =
-    let p = err_from_is_err_and c.from_residual-in_err-server.result c.from_residual-in_err-server.ensures.1 in
+    let p = err_from_is_err_and c.from_residual.result c.from_residual.ensures.1 in
     let xs = c.loop-entry.servers.items in
-    let at_place : c.as_str.result.now ≡ nth (codes "server") (length xs) = search rules in
-    let here : c.as_str.result.now ≡ nth (codes "server") (length (map server_text xs)) = at_place ∙ ap (nth (codes "server")) (sym (length-map xs server_text)) in
+    let at_place : nth (codes "server") c.len.result ≡ nth (codes "server") (length xs) = search rules in
+    let here : nth (codes "server") c.len.result ≡ nth (codes "server") (length (map server_text xs)) = at_place ∙ ap (nth (codes "server")) (sym (length-map xs server_text)) in
     let e = c.in_err-server.field-0.0 in
     let d = view c.entry-item.result in
-    let told = subst (λ b. Fails e (server_with b c.as_str.result.now d)) c.loop-entry.invariant.named c.in_err-server.ensures.value in
+    let told = subst (λ b. Fails e (server_with b (nth (codes "server") c.len.result) d)) c.loop-entry.invariant.named c.in_err-server.ensures.value in
     rw (p.1, p.2) (stops server_text_at (codes "server") (map server_text xs) c.args.entries.now c.loop-entry.entry-index c.entry-item.result e
     (each server_text_at (codes "server") [] (map view c.args.entries.now)) c.loop-entry-test.true c.entry-item.is
     (subst (λ q. Fails e (server_text_at (map server_text xs) q d)) here told) c.loop-entry.invariant.value)
@@ -30,11 +30,11 @@ pub loop-entry-preserved : goal.loop-entry-preserved
 loop-entry-preserved c =
     let xs = c.loop-entry.servers.items in
     let s = c.in_ok-server.server in
-    let at_place : c.as_str.result.now ≡ nth (codes "server") (length xs) = search rules in
-    let here : c.as_str.result.now ≡ nth (codes "server") (length (map server_text xs)) = at_place ∙ ap (nth (codes "server")) (sym (length-map xs server_text)) in
+    let at_place : nth (codes "server") c.len.result ≡ nth (codes "server") (length xs) = search rules in
+    let here : nth (codes "server") c.len.result ≡ nth (codes "server") (length (map server_text xs)) = at_place ∙ ap (nth (codes "server")) (sym (length-map xs server_text)) in
     let d = view c.entry-item.result in
     let named = c.loop-entry.invariant.named in
-    let told = subst (λ b. server_with b c.as_str.result.now d ≡ Ok (server_text s)) named c.in_ok-server.ensures.value in
+    let told = subst (λ b. server_with b (nth (codes "server") c.len.result) d ≡ Ok (server_text s)) named c.in_ok-server.ensures.value in
     let fresh : All (λ t. t.name ≢ (server_text s).name) (map server_text xs) =
     All-unmap (λ t. t ≢ (server_text s).name) (λ t. t.name) (map server_text xs) (subst (All (λ t. t ≢ (server_text s).name)) named c.in_ok-server.ensures.fresh) in
     let grown : c.push.new.self.items ≡ xs ++ s ∷ [] = c.in_ok-push.ensures.items in

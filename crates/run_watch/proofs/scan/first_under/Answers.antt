@@ -1,4 +1,4 @@
-use Rattle.std.proofs.Common.{refl, true≢false, sym, subst, arith, ◌≡◌, ◌<◌, ◌+◌, ℕ, suc, length}
+use Rattle.std.proofs.Common.{refl, true≢false, sym, subst, arith, ◌≡◌, ◌+◌, ℕ, suc, length}
 use Rattle.std.proofs.lemmas.Option.{slice_get_read}
 use Rattle.rational.specs.Ratio.{SumFits}
 use Rattle.flow_watch.specs.watch_laws.Marks.{FitsRule, MostFits}

@@ -1,4 +1,4 @@
-use Rattle.std.proofs.Common.{refl, true≢false, sym, subst, arith, ◌<◌, ◌≤◌, ◌+◌, List, length}
+use Rattle.std.proofs.Common.{refl, true≢false, sym, subst, arith, ◌≤◌, ◌+◌, List, length}
 use Rattle.rational.specs.Rational.{ℚ, ◌+ℚ◌, ◌≤ℚ◌, ◌<ℚ◌}
 use Rattle.rational.proofs.Laws.{le_of_not_lt}
 use Rattle.flow_watch.specs.declared.watch_laws.mark.Mark.{Mark}

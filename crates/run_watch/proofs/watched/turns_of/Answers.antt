@@ -1,5 +1,5 @@
 use Rattle.std.specs.List.{slice_index_or}
-use Rattle.std.proofs.Common.{◌≡◌, List, [], ◌∷◌, ◌+◌, ◌<◌, ◌≤◌, ◌++◌, length, refl, sym, subst, ap, ◌∙◌, append_assoc}
+use Rattle.std.proofs.Common.{◌≡◌, List, [], ◌∷◌, ◌<◌, ◌≤◌, ◌++◌, length, refl, subst, ap, ◌∙◌, append_assoc}
 use Rattle.run_watch.specs.declared.span.Ramp.{Ramp}
 use Rattle.run_watch.specs.Watching.{change_at, changes_in, ends_of, turns}
 use Rattle.run_watch.proofs.Gathered.{taken, all_taken}

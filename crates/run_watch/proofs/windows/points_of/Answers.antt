@@ -1,4 +1,4 @@
-use Rattle.std.proofs.Common.{refl, ap}
+use Rattle.std.proofs.Common.{ap}
 use Rattle.rational.specs.Rational.{ℚ}
 use Rattle.flow_watch.specs.declared.watch_laws.point.Point.{Point}
 use Rattle.run_watch.specs.WatchTimes.{point_at}

@@ -1,35 +1,36 @@
-use Rattle.std.proofs.Common.{ap, sym, ◌∙◌, inr, map, true, Some}
+use Rattle.std.proofs.Common.{◌≡◌, ◌⊎◌, ℕ, List, ap, sym, ◌∙◌, inl, inr, map, Some}
+use Rattle.std.proofs.lemmas.Result.{IfOk-weaker, IfErr-weaker}
+use Rattle.input_texts.specs.declared.curve_script.fault.LangKind.{LangKind}
+use Rattle.input_texts.specs.declared.curve_script.fault.LangKind.TheVariants.{NoMemory}
+use Rattle.input_texts.specs.curve_script.Tokens.{Token}
 use Rattle.input_texts.specs.curve_script.Lexing.{view}
-use Rattle.input_texts.specs.curve_script.Shapes.{run}
-use Rattle.input_texts.specs.curve_script.Building.{statement_from}
-use Rattle.input_texts.specs.curve_script.Views.{statement_view}
+use Rattle.input_texts.specs.curve_script.Lines.{HasTokens, HasFault}
 use Rattle.input_texts.proofs.curve_script.Chains.{opened_none, opened_some}
-use Rattle.input_texts.proofs.curve_script.LineFacts.{not_lexed, not_shaped, bad_number, too_deep, right_line}
+use Rattle.input_texts.proofs.curve_script.LineFacts.{not_lexed}
 use Rattle.input_texts.proofs.curve_script.line.line_statement.Goals as goal
 
 pub returns-in_default-clause-fault : goal.returns-in_default-clause-fault
 returns-in_default-clause-fault c =
     inr (not_lexed c.args.line.now (sym c.is_plain.ensures ∙ c.if-not-is_plain.false) (sym (opened_none _ _ _ c.in_default.is c.in_ok-tokens.ensures)))
 
-pub returns-in_default-2-clause-fault : goal.returns-in_default-2-clause-fault
-returns-in_default-2-clause-fault c =
-    inr (not_shaped c.args.line.now (sym c.is_plain.ensures ∙ c.if-not-is_plain.false) (map view c.in-Some.tokens.items) (sym (opened_some _ _ _ _ c.in-Some.is c.in_ok-tokens.ensures))
-    (ap (λ l. run _ true (map view l)) (sym c.deref.ensures.value) ∙ sym c.in_ok-numbers.ensures ∙ c.in_default-2.is))
-
-pub returns-then-not-numbers-clause-fault : goal.returns-then-not-numbers-clause-fault
-returns-then-not-numbers-clause-fault c =
-    inr (bad_number c.args.line.now (sym c.is_plain.ensures ∙ c.if-not-is_plain.false) (map view c.in-Some.tokens.items) (sym (opened_some _ _ _ _ c.in-Some.is c.in_ok-tokens.ensures))
-    (ap (λ l. run _ true (map view l)) (sym c.deref.ensures.value) ∙ sym c.in_ok-numbers.ensures ∙ c.in-Some-2.is ∙ ap (λ b. Some b) c.if-not-numbers.true))
-
-pub returns-in_default-3-clause-fault : goal.returns-in_default-3-clause-fault
-returns-in_default-3-clause-fault c =
-    inr (too_deep c.args.line.now (sym c.is_plain.ensures ∙ c.if-not-is_plain.false) (map view c.in-Some.tokens.items) (sym (opened_some _ _ _ _ c.in-Some.is c.in_ok-tokens.ensures))
-    (ap (λ l. run _ true (map view l)) (sym c.deref.ensures.value) ∙ sym c.in_ok-numbers.ensures ∙ c.in-Some-2.is ∙ ap (λ b. Some b) c.if-not-numbers.false)
-    (opened_none _ _ _ c.in_default-3.is c.in_ok-stat.ensures ∙ ap (statement_from 64) (c.of-rest.ensures ∙ ap (map view) c.deref-2.ensures.value)))
+-- the fault of its tokens is the line's
+of_tokens : (line : List ℕ) (ts : List Token) (k : LangKind) → HasTokens line ts
+    → (k ≡ NoMemory) ⊎ ((l : List ℕ) → HasTokens l ts → HasFault k l) → (k ≡ NoMemory) ⊎ HasFault k line
+of_tokens line ts k has (inl memory) = inl memory
+of_tokens line ts k has (inr wrong) = inr (wrong line has)
 
 pub returns-clause-ok : goal.returns-clause-ok
 returns-clause-ok c =
-    right_line c.args.line.now (sym c.is_plain.ensures ∙ c.if-not-is_plain.false) (map view c.in-Some.tokens.items) (sym (opened_some _ _ _ _ c.in-Some.is c.in_ok-tokens.ensures))
-    (statement_view c.in-Some-3.stat) _
-    (ap (λ l. run _ true (map view l)) (sym c.deref.ensures.value) ∙ sym c.in_ok-numbers.ensures ∙ c.in-Some-2.is ∙ ap (λ b. Some b) c.if-not-numbers.false)
-    (opened_some _ _ _ _ c.in-Some-3.is c.in_ok-stat.ensures ∙ ap (statement_from 64) (c.of-rest.ensures ∙ ap (map view) c.deref-2.ensures.value))
+    let has : HasTokens c.args.line.now (map view c.deref.result.now) = record {
+      plain = sym c.is_plain.ensures ∙ c.if-not-is_plain.false;
+      lexed = sym (opened_some _ _ _ _ c.in-Some.is c.in_ok-tokens.ensures) ∙ ap (λ l. Some (map view l)) (sym c.deref.ensures.value);
+    } in
+    IfOk-weaker c.statement_of.result _ _ (λ s is. is c.args.line.now has) c.statement_of.ensures.ok
+
+pub returns-clause-fault : goal.returns-clause-fault
+returns-clause-fault c =
+    let has : HasTokens c.args.line.now (map view c.deref.result.now) = record {
+      plain = sym c.is_plain.ensures ∙ c.if-not-is_plain.false;
+      lexed = sym (opened_some _ _ _ _ c.in-Some.is c.in_ok-tokens.ensures) ∙ ap (λ l. Some (map view l)) (sym c.deref.ensures.value);
+    } in
+    IfErr-weaker c.statement_of.result _ _ (λ k h. of_tokens c.args.line.now (map view c.deref.result.now) k has h) c.statement_of.ensures.fault

@@ -1,8 +1,9 @@
-use Rattle.std.proofs.Common.{◌≡◌, ◌≢◌, ◌<◌, ◌≤◌, ◌+◌, ◌⊎◌, ℕ, List, length, get_or, map, inl, inr, ⊎_elim, sym, subst, ap, ◌∙◌, arith}
-use Rattle.std.proofs.lemmas.List.{get_or-map, length-map}
+use Rattle.std.proofs.Common.{◌≡◌, ◌≢◌, ◌≤◌, ◌+◌, ◌⊎◌, ℕ, List, length, map, inl, inr, ⊎_elim, sym, subst, ap, ◌∙◌, arith}
+use Rattle.std.proofs.lemmas.List.{length-map}
 use Rattle.std.proofs.lemmas.Result.{IfErr-weaker, IfOk-weaker}
 use Rattle.csv.specs.Records.{fields_of}
 use Rattle.input_texts.specs.table_text.Rows.{Row, rows_of}
+use Rattle.input_texts.proofs.table_text.RowPlaces.{place_of}
 use Rattle.run_check.specs.run_table.Runs.{IsRunOf, IsFirstFault, out_of_memory}
 use Rattle.run_check.specs.run_table.Rounds.{SaysEnd, IsWrongNext, IsBehindEnd}
 use Rattle.run_check.proofs.run_table.RunSteps.{so_far_more, so_far_run, so_far_fault, so_far_behind, so_far_no_end, memory_or, when_none, when_some}
@@ -14,12 +15,10 @@ loop-before-preserved c =
     let rows : List Row = map fields_of items in
     let k = c.loop-before.before in
     let row = c.row-item.result in
-    let below = c.loop-before-test.true in
-    let within : k < length rows = let n = length-map items fields_of in omega (arith, n, below) in
-    let at : get_or rows k (fields_of row) ≡ fields_of row = get_or-map fields_of items k row (fields_of row) below ∙ ap fields_of (sym c.row-item.is) in
+    let it = place_of fields_of items k row c.loop-before-test.true c.row-item.is in
     record {
       rows = c.loop-before.invariant.rows;
-      so_far = so_far_more c.args.net.now rows k (fields_of row) c.loop-before.packets c.loop-before.steps.items c.add_row.new.packets c.add_row.new.steps.items within at
+      so_far = so_far_more c.args.net.now rows k (fields_of row) c.loop-before.packets c.loop-before.steps.items c.add_row.new.packets c.add_row.new.steps.items it.within it.at
           c.loop-before.invariant.so_far (when_none _ c.in-Ok-None.field-0 c.in-Ok-None.field-0-is c.in-Ok-None.ensures.adds);
     }
 
@@ -31,14 +30,12 @@ returns-in-Err-add_row-clause-fault c =
     let rows : List Row = map fields_of items in
     let k = c.loop-before.before in
     let row = c.row-item.result in
-    let below = c.loop-before-test.true in
-    let within : k < length rows = let n = length-map items fields_of in omega (arith, n, below) in
-    let at : get_or rows k (fields_of row) ≡ fields_of row = get_or-map fields_of items k row (fields_of row) below ∙ ap fields_of (sym c.row-item.is) in
+    let it = place_of fields_of items k row c.loop-before-test.true c.row-item.is in
     ⊎_elim
     (λ memory. inl (f.ensures.memory memory))
     (λ other. ⊎_elim
     (λ memory. inl (f.ensures.memory memory))
-    (λ wrong. inr (so_far_fault net c.args.text.now rows k (fields_of row) c.loop-before.invariant.rows within at c.loop-before.packets c.loop-before.steps.items f.result.kind f.result.row
+    (λ wrong. inr (so_far_fault net c.args.text.now rows k (fields_of row) c.loop-before.invariant.rows it.within it.at c.loop-before.packets c.loop-before.steps.items f.result.kind f.result.row
     c.loop-before.invariant.so_far (subst (λ kind. IsWrongNext net k (fields_of row) kind) (sym (f.ensures.other other).0) wrong) (f.ensures.other other).1))
     c.in-Err-add_row.ensures.wrong)
     (memory_or c.in-Err-add_row.kind)
@@ -46,18 +43,16 @@ returns-in-Err-add_row-clause-fault c =
 pub returns-in-Ok-Some-clause-ok : goal.returns-in-Ok-Some-clause-ok
 returns-in-Ok-Some-clause-ok c =
     let net = c.args.net.now in
+    let steps2 = c.add_row.new.steps.items in
+    let end = c.in-Ok-Some.end in
     let items = c.deref-row-items.result.now in
     let rows : List Row = map fields_of items in
     let k = c.loop-before.before in
     let row = c.row-item.result in
-    let below = c.loop-before-test.true in
-    let within : k < length rows = let n = length-map items fields_of in omega (arith, n, below) in
-    let at : get_or rows k (fields_of row) ≡ fields_of row = get_or-map fields_of items k row (fields_of row) below ∙ ap fields_of (sym c.row-item.is) in
-    let steps2 = c.add_row.new.steps.items in
-    let end = c.in-Ok-Some.end in
+    let it = place_of fields_of items k row c.loop-before-test.true c.row-item.is in
     let size : c.len.result ≡ length rows = let n = length-map items fields_of in let l = c.len.ensures in let d = c.deref-row-items.ensures.len in omega (arith, n, l, d) in
     IfOk-weaker c.ended.result (λ run. (run.steps ≡ steps2) × (run.end ≡ end) × (k + 1 ≡ c.len.result)) (IsRunOf net (rows_of c.args.text.now))
-    (λ run h. so_far_run net c.args.text.now rows k (fields_of row) c.loop-before.packets c.loop-before.steps.items steps2 run c.loop-before.invariant.rows within at c.loop-before.invariant.so_far
+    (λ run h. so_far_run net c.args.text.now rows k (fields_of row) c.loop-before.packets c.loop-before.steps.items steps2 run c.loop-before.invariant.rows it.within it.at c.loop-before.invariant.so_far
     (subst (λ e. SaysEnd k (fields_of row) c.loop-before.steps.items steps2 e) (sym h.1) (when_some _ _ c.in-Ok-Some.field-0 c.in-Ok-Some.end c.in-Ok-Some.field-0-is c.in-Ok-Some.ensures.adds)) h.0 (h.2 ∙ size))
     c.ended.ensures.run
 
@@ -69,13 +64,11 @@ returns-in-Ok-Some-clause-fault c =
     let rows : List Row = map fields_of items in
     let k = c.loop-before.before in
     let row = c.row-item.result in
-    let below = c.loop-before-test.true in
-    let within : k < length rows = let n = length-map items fields_of in omega (arith, n, below) in
-    let at : get_or rows k (fields_of row) ≡ fields_of row = get_or-map fields_of items k row (fields_of row) below ∙ ap fields_of (sym c.row-item.is) in
+    let it = place_of fields_of items k row c.loop-before-test.true c.row-item.is in
     let steps2 = c.add_row.new.steps.items in
     let size : c.len.result ≡ length rows = let n = length-map items fields_of in let l = c.len.ensures in let d = c.deref-row-items.ensures.len in omega (arith, n, l, d) in
     IfErr-weaker c.ended.result (λ e. (e.row ≡ k + 1 + 1) × IsBehindEnd (k + 1) e.kind × (k + 1 ≢ c.len.result)) (λ e. (e ≡ out_of_memory) ⊎ IsFirstFault net text e.kind e.row)
-    (λ e h. inr (so_far_behind net text rows k (fields_of row) c.loop-before.packets c.loop-before.steps.items steps2 c.in-Ok-Some.end e.kind e.row c.loop-before.invariant.rows within at
+    (λ e h. inr (so_far_behind net text rows k (fields_of row) c.loop-before.packets c.loop-before.steps.items steps2 c.in-Ok-Some.end e.kind e.row c.loop-before.invariant.rows it.within it.at
     c.loop-before.invariant.so_far (when_some _ _ c.in-Ok-Some.field-0 c.in-Ok-Some.end c.in-Ok-Some.field-0-is c.in-Ok-Some.ensures.adds) (λ same. h.2 (same ∙ sym size)) h.1 h.0))
     c.ended.ensures.behind
 

@@ -21,29 +21,15 @@ packet_at-packet-requires c =
     let v = c.args.self.now in
     let S = setup_of c.args.net.now c.args.trace.now in
     let l = reach_in_trace S v.stations.items v.links v.arrivals.items v.entered v.steps.items c.args.due c.requires.next c.requires.kind in
-    let e = length-map c.args.trace.now.packets entering in
-    omega (arith, l, e)
+    omega (arith, l, length-map c.args.trace.now.packets entering)
 
-pub arrive_at-requires-clause-known : goal.arrive_at-requires-clause-known
-arrive_at-requires-clause-known c =
+pub arrive_at-requires : goal.arrive_at-requires
+arrive_at-requires c =
     let v = c.args.self.now in
     let S = setup_of c.args.net.now c.args.trace.now in
-    (subst (λ (xs : List Station). MayArriveAt xs c.args.due.server c.args.due.packet c.queue_of-queue.result c.args.due.time) (sym c.deref_mut.ensures.value)
-    (reach_may S v.stations.items v.links v.arrivals.items v.entered v.steps.items c.args.due c.requires.next c.requires.kind c.packet_at-packet.result (c.packet_at-packet.ensures S refl) c.queue_of-queue.result c.queue_of-queue.ensures)).known
-
-pub arrive_at-requires-clause-take : goal.arrive_at-requires-clause-take
-arrive_at-requires-clause-take c =
-    let v = c.args.self.now in
-    let S = setup_of c.args.net.now c.args.trace.now in
-    (subst (λ (xs : List Station). MayArriveAt xs c.args.due.server c.args.due.packet c.queue_of-queue.result c.args.due.time) (sym c.deref_mut.ensures.value)
-    (reach_may S v.stations.items v.links v.arrivals.items v.entered v.steps.items c.args.due c.requires.next c.requires.kind c.packet_at-packet.result (c.packet_at-packet.ensures S refl) c.queue_of-queue.result c.queue_of-queue.ensures)).take
-
-pub arrive_at-requires-clause-room : goal.arrive_at-requires-clause-room
-arrive_at-requires-clause-room c =
-    let v = c.args.self.now in
-    let S = setup_of c.args.net.now c.args.trace.now in
-    (subst (λ (xs : List Station). MayArriveAt xs c.args.due.server c.args.due.packet c.queue_of-queue.result c.args.due.time) (sym c.deref_mut.ensures.value)
-    (reach_may S v.stations.items v.links v.arrivals.items v.entered v.steps.items c.args.due c.requires.next c.requires.kind c.packet_at-packet.result (c.packet_at-packet.ensures S refl) c.queue_of-queue.result c.queue_of-queue.ensures)).room
+    let may = subst (λ (xs : List Station). MayArriveAt xs c.args.due.server c.args.due.packet c.queue_of-queue.result c.args.due.time) (sym c.deref_mut.ensures.value)
+    (reach_may S v.stations.items v.links v.arrivals.items v.entered v.steps.items c.args.due c.requires.next c.requires.kind c.packet_at-packet.result (c.packet_at-packet.ensures S refl) c.queue_of-queue.result c.queue_of-queue.ensures) in
+    record { known = may.known; take = may.take; room = may.room }
 
 pub returns : goal.returns
 returns c =

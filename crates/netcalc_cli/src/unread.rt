@@ -1,4 +1,4 @@
-//! The files of a command that were not had.
+//! The answer where files of a command were not had.
 
 ghost use Rattle.std.specs.Prelude.{IfOk};
 ghost use Rattle.command_replies.specs.Replies as spec;

@@ -1,4 +1,4 @@
-//! The tables of a call that were not had.
+//! The answer where tables of a call were not had.
 
 ghost use Rattle.std.specs.Prelude.{IfOk};
 ghost use Rattle.bounds_command.specs.Replies as spec;
