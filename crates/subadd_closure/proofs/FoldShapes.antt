@@ -78,6 +78,7 @@ module _ (f s c : SpecCurve) (ps : List Part) (p : Part) (normal : IsNormal f) (
   pub last_thinnable : AreThinnable s c
   last_thinnable = record {
     subadditive = stars_subadditive before (value_at s) stars_before;
+    second = stars_subadditive (part_value p) (value_at c) star_last;
     zero = star_low (part_value p) (value_at c) star_last;
   }
 

@@ -23,7 +23,7 @@ use Rattle.subadd_closure.specs.SegmentLimits.{IsElementOf}
 use Rattle.subadd_closure.specs.Thinned.{AreThinnable}
 use Rattle.subadd_closure.proofs.EachParts.{each_part, is_part}
 use Rattle.subadd_closure.proofs.FoldStars.{part_star, parts_star}
-use Rattle.subadd_closure.proofs.LowStars.{stars_subadditive, closures_subadditive, star_low, lattice_low}
+use Rattle.subadd_closure.proofs.LowStars.{stars_subadditive, closures_subadditive, star_low, lattice_low, lattice_subadditive}
 
 -- ---- the parts of some elements
 among_all : (P : Element → Type 0) (es : List Element) (e : Element) → All P es → Among e es → P e
@@ -45,11 +45,13 @@ sofar_subadditive f sofar es i normal h answer =
 
 pub next_thinnable : (f sofar star : SpecCurve) (e : Element) → IsNormal f → IsElementOf f e
     → IsSubadditive (value_at sofar) → PartAnswer f (part_of f.tail e) (Ok star) → AreThinnable sofar star
-next_thinnable f sofar star e normal is sub answer = record {
-  subadditive = sub;
-  zero = star_low (part_value (part_of f.tail e)) (value_at star)
-      (part_star f (part_of f.tail e) star (is_part f e normal is) answer);
-}
+next_thinnable f sofar star e normal is sub answer =
+    let stars = part_star f (part_of f.tail e) star (is_part f e normal is) answer in
+    record {
+      subadditive = sub;
+      second = stars_subadditive (part_value (part_of f.tail e)) (value_at star) stars;
+      zero = star_low (part_value (part_of f.tail e)) (value_at star) stars;
+    }
 
 -- ---- an element's closure, and its copies
 pub element_subadditive : (e : Element) (c : SpecCurve) → IsElementClosure e c → IsSubadditive (value_at c)
@@ -59,5 +61,6 @@ pub copies_thinnable : (c points : SpecCurve) (d r : ℚ) → IsSubadditive (val
     → points ≡ lattice_curve d r → AreThinnable c points
 copies_thinnable c points d r sub some is = record {
   subadditive = sub;
+  second = subst (λ z. IsSubadditive (value_at z)) (sym is) (lattice_subadditive d r some);
   zero = subst (λ z. value_at z zero_q ≤ₑ Fin zero_q) (sym is) (lattice_low d r some);
 }

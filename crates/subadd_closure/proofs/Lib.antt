@@ -30,6 +30,7 @@ pub mod ClosedValues
 pub mod LowStars
 pub mod Thinning
 pub mod ThinnedElements
+pub mod Covering
 pub mod FoldThins
 pub mod PieceReads
 pub mod TurnNumbers

@@ -1,17 +1,19 @@
--- A star, and a closure, is subadditive; a star, and a lattice, is at most 0 at 0.
-use Rattle.std.specs.Prelude.{◌≡◌, List, [], ◌∷◌, ◌++◌}
-use Rattle.std.proofs.Common.{sym, refl, ap, ◌∙◌}
-use Rattle.rational.specs.Rational.{ℚ, ◌+ℚ◌, ◌≤ℚ◌, ◌<ℚ◌}
+-- A star, a closure, and a lattice, is subadditive; a star, and a lattice, is at most 0 at 0.
+use Rattle.std.specs.Prelude.{◌≡◌, ℕ, ◌+◌, pos, List, [], ◌∷◌, ◌++◌}
+use Rattle.std.proofs.Common.{sym, refl, ap, ap₂, ◌∙◌}
+use Rattle.rational.specs.Rational.{ℚ, ◌+ℚ◌, ◌*ℚ◌, ◌≤ℚ◌, ◌<ℚ◌, int}
 use Rattle.rational.specs.Extended.{Ext, ◌≤ₑ◌, ◌+ₑ◌}
-use Rattle.rational.specs.declared.Extended.TheVariants.{Fin}
+use Rattle.rational.specs.declared.Extended.TheVariants.{Fin, Inf}
 use Rattle.rational.specs.Families.{sums}
 use Rattle.rational.proofs.Bounds.{greatest, infimum_sum}
-use Rattle.rational.proofs.ExtendedOrder.{le_ext_trans, same_le_ext}
-use Rattle.rational.proofs.Laws.{le_refl, zero_mul}
+use Rattle.rational.proofs.ExtendedOrder.{fin_same, le_ext_trans, le_inf, same_le_ext}
+use Rattle.rational.proofs.Laws.{add_mul, le_refl, zero_mul}
 use Rattle.min_plus.specs.Functions.{zero_q}
 use Rattle.min_plus.specs.Convolution.{Parts, sum_of, sum_at, IsSubadditive, IsSubadditiveClosure}
 use Rattle.min_plus.proofs.TimeSums.{append_sum, nonneg_sum}
 use Rattle.upp_curve.specs.Curve.{value_at}
+use Rattle.upp_curve.proofs.Rules.{int_add}
+use Rattle.min_plus.specs.closure_laws.ClosureLaws.{IsLattice}
 use Rattle.min_plus.specs.closure_laws.Star.{Times, AreStars}
 use Rattle.min_plus.proofs.closure_laws.TimeLists.{append_at, append_nonneg}
 use Rattle.subadd_closure.specs.Lattices.{lattice_curve}
@@ -60,6 +62,28 @@ closures_subadditive f F closes s u n m =
         } in
         le_ext_trans (F (s +ℚ u)) (sum_at f (xs ++ ys)) (sum_at f xs +ₑ sum_at f ys)
         ((closes (s +ℚ u) (nonneg_sum s u n m)).below r) (same_le_ext (append_at f xs ys))
+
+-- ---- the multiples of a value
+sum_times : (i j : ℕ) (x : ℚ) → int (pos i) *ℚ x +ℚ int (pos j) *ℚ x ≡ int (pos (i + j)) *ℚ x
+sum_times i j x = sym (add_mul (int (pos i)) (int (pos j)) x) ∙ ap (λ z. z *ℚ x) (sym (int_add i j))
+
+lattices_add : (d c : ℚ) (l : ℚ → Ext) → IsLattice d c l → IsSubadditive l
+lattices_add d c l L s u n m = by (l s) (l u) refl refl
+  where
+    by : (x y : Ext) → l s ≡ x → l u ≡ y → l (s +ℚ u) ≤ₑ x +ₑ y
+    by Inf y p q = le_inf (l (s +ℚ u))
+    by (Fin a) Inf p q = le_inf (l (s +ℚ u))
+    by (Fin a) (Fin b) p q =
+        let (i, at_s) = L.only s a n p in
+        let (j, at_u) = L.only u b m q in
+        let left : a ≡ int (pos i) *ℚ c = fin_same (sym p ∙ ap l at_s ∙ L.at i) in
+        let right : b ≡ int (pos j) *ℚ c = fin_same (sym q ∙ ap l at_u ∙ L.at j) in
+        same_le_ext
+        (ap l (ap₂ (λ v w. v +ℚ w) at_s at_u ∙ sum_times i j d) ∙ L.at (i + j)
+        ∙ ap Fin (sym (ap₂ (λ v w. v +ℚ w) left right ∙ sum_times i j c)))
+
+pub lattice_subadditive : (d c : ℚ) → zero_q <ℚ d → IsSubadditive (value_at (lattice_curve d c))
+lattice_subadditive d c some = lattices_add d c (value_at (lattice_curve d c)) (lattice_values.lattice d c some)
 
 -- ---- at 0
 pub star_low : (f F : ℚ → Ext) → AreStars f F → F zero_q ≤ₑ Fin zero_q

@@ -1,30 +1,33 @@
--- Pieces that are nowhere above a line read so; and elements that are left out one after another.
-use Rattle.std.specs.Prelude.{◌≡◌, ◌⊎◌, ◌↔◌, Bool, true, false, not, IsTrue, ℕ, ◌+◌, ◌-◌, ◌<◌, List, [], ◌∷◌, ◌++◌, length, Some}
+-- Pieces that are nowhere above a line, or a value at a time, read so; and elements that are left out one after another.
+use Rattle.std.specs.Prelude.{◌≡◌, ◌⊎◌, ◌↔◌, Bool, true, false, not, IsTrue, ℕ, ◌+◌, ◌-◌, ◌<◌, ◌≤◌, List, [], ◌∷◌, ◌++◌, length, Option, Some}
 use Rattle.std.proofs.Common.{arith, sym, refl, ap, ◌∙◌, subst, inl, inr, take, drop, get_or, true≢false, take-append-drop, length-drop}
 use Rattle.std.proofs.lemmas.List.{take_more, take_all}
-use Rattle.rational.specs.Rational.{ℚ, ◌*ℚ◌, ◌-ℚ◌, ◌≤ℚ◌, ◌<ℚ◌}
-use Rattle.rational.specs.Extended.{Ext, ◌≤ₑ◌, ◌<ₑ◌}
+use Rattle.rational.specs.Rational.{ℚ, ◌+ℚ◌, ◌*ℚ◌, ◌-ℚ◌, ◌≤ℚ◌, ◌<ℚ◌}
+use Rattle.rational.specs.Extended.{Ext, ◌≤ₑ◌, ◌<ₑ◌, ◌+ₑ◌}
 use Rattle.rational.specs.declared.Extended.TheVariants.{Fin}
-use Rattle.rational.proofs.Linear.{with2, with4, with6}
+use Rattle.rational.proofs.Linear.{with2, with3, with4, with6}
 use Rattle.rational.proofs.Laws.{le_or_lt, le_trans, le_of_lt, le_lt_trans, antisym, le_of_not_lt, mul_le_mul, mul_le_mul_right, sub_mul}
 use Rattle.rational.proofs.ExtendedOrder.{le_ext_trans, same_le_ext}
 use Rattle.upp_curve.specs.declared.affine_segment.line.Line.{Line}
 use Rattle.upp_curve.specs.declared.affine_segment.line.Piece.{Piece}
 use Rattle.upp_curve.specs.declared.affine_segment.element.Element.{Element}
-use Rattle.upp_curve.specs.declared.affine_segment.element.Element.TheVariants.{Open}
+use Rattle.upp_curve.specs.declared.affine_segment.element.Element.TheVariants.{Point, Open}
+use Rattle.upp_curve.specs.affine_segment.Elements.{Covers, level, start_of}
 use Rattle.upp_curve.specs.affine_segment.Values.{line_at, line_value}
 use Rattle.upp_curve.specs.affine_segment.Reading.{read, piece_in, piece_value}
 use Rattle.upp_curve.specs.affine_segment.Pieces.{Each, RisesFrom, StartsAtZero}
-use Rattle.upp_curve.proofs.affine_segment.PieceIn.{piece_in_stop, piece_in_go, piece_in_end, read_is, value_past, value_by}
+use Rattle.upp_curve.proofs.affine_segment.PieceIn.{piece_in_stop, piece_in_go, piece_in_end, read_is, read_one, read_stop, value_past, value_by}
 use Rattle.min_plus.specs.Functions.{zero_q}
-use Rattle.upp_curve.proofs.affine_segment.NextPiece.{next_piece}
+use Rattle.min_plus.specs.Convolution.{IsSubadditive}
+use Rattle.upp_curve.proofs.affine_segment.NextPiece.{next_piece, none_left}
 use Rattle.upp_curve.specs.Curve.{SpecCurve, value_at}
 use Rattle.upp_curve.specs.Curves.{IsCurve}
 use Rattle.upp_curve.specs.Unrolled.{unroll, upto}
 use Rattle.upp_curve.proofs.Unique.{upto_none, upto_some, upto_end}
 use Rattle.upp_normal.proofs.Below.{read_upto, read_from_cut, unroll_reads}
 use Rattle.element_envelope.specs.PieceElements.{Among}
-use Rattle.subadd_closure.specs.Thinned.{LiesUnder, IsOver, IsThinned}
+use Rattle.element_envelope.proofs.Members.{among_right}
+use Rattle.subadd_closure.specs.Thinned.{LiesUnder, IsBefore, StartsLate, StartFrom, IsOver, AreKept, IsThinned}
 
 -- ---- numbers
 pub at_most : (b : Bool) (x y : ℚ) → (IsTrue b ↔ (y <ℚ x)) → IsTrue (not b) → x ≤ℚ y
@@ -180,17 +183,74 @@ slice_under line from to t ps k p h is starts low late past early each =
     (sym (take-append-drop k ps) ∙ ap (λ z. take k ps ++ z) here) starts late (le_trans low (le_of_lt past)) past early
     (subst (λ z. Each (LiesUnder line from to) (upto to z)) here each)
 
+-- ---- a value at a time
+pub line_most : (line : Option Line) (own : Line) (x found v : ℚ) → line ≡ Some own → found ≡ line_at own x → found ≤ℚ v
+    → line_value line x ≤ₑ Fin v
+line_most line own x found v is at h =
+    subst (λ l. line_value l x ≤ₑ Fin v) (sym is) (subst (λ z. z ≤ℚ v) at h)
+
+pub past_under : (p : Piece) (x v : ℚ) → p.x <ℚ x → line_value p.line x ≤ₑ Fin v → piece_value p x ≤ₑ Fin v
+past_under p x v past h = subst (λ z. z ≤ₑ Fin v) (sym (value_past p x past)) h
+
+pub start_under : (p : Piece) (x v : ℚ) → x ≤ℚ p.x → p.at ≤ₑ Fin v → piece_value p x ≤ₑ Fin v
+start_under p x v here h = subst (λ z. z ≤ₑ Fin v) (sym (value_by p x here)) h
+
+pub none_before : (t : ℚ) (ps : List Piece) (k : ℕ) → length ps ≤ k → IsBefore t (drop k ps)
+none_before t ps k h = subst (IsBefore t) (sym (none_left ps k h)) tt
+
+pub one_before : (t : ℚ) (ps : List Piece) (k : ℕ) (p : Piece) → k < length ps → p ≡ get_or ps k p → t <ℚ p.x
+    → IsBefore t (drop k ps)
+one_before t ps k p h is early = subst (IsBefore t) (sym (next_piece p ps k h is)) early
+
+last_read : (p : Piece) (rest : List Piece) (t : ℚ) → IsBefore t rest → read (p ∷ rest) t ≡ piece_value p t
+last_read p [] t h = read_one p t
+last_read p (q ∷ qs) t h = read_stop p q qs t h
+
+-- the last piece that starts by t is the one that is read there
+pub point_under : (t v : ℚ) (ps : List Piece) (k : ℕ) (p : Piece) → k < length ps → p ≡ get_or ps k p → StartsAtZero ps
+    → p.x ≤ℚ t → IsBefore t (drop (k + 1) ps) → piece_value p t ≤ₑ Fin v → read ps t ≤ₑ Fin v
+point_under t v ps k p h is starts low before under =
+    let bs = take k ps in
+    let rest = drop (k + 1) ps in
+    let shape : ps ≡ bs ++ p ∷ rest = sym (take-append-drop k ps) ∙ ap (λ z. bs ++ z) (next_piece p ps k h is) in
+    let reads : read ps t ≡ piece_value p t =
+    ap (λ z. read z t) shape
+    ∙ read_from_cut bs p rest t (all_by bs p rest t (subst StartsAtZero shape starts) low) low ∙ last_read p rest t before in
+    subst (λ z. z ≤ₑ Fin v) (sym reads) under
+
 -- ---- elements
-pub segment_is_over : (f : SpecCurve) (end from limit : ℚ) (to : Ext) (line : Line) (ps : List Piece) (e : Element)
-    → e ≡ Open from to line → IsCurve f → ps ≡ unroll f end → zero_q ≤ℚ from
-    → ((t : ℚ) → Fin t <ₑ to → t <ℚ end → t <ℚ limit)
-    → ((t : ℚ) → zero_q ≤ℚ t → from <ℚ t → t <ℚ limit → read ps t ≤ₑ Fin (line_at line t)) → IsOver (value_at f) end e
-segment_is_over f end from limit to line ps e is curve are late within under = subst (IsOver (value_at f) end) (sym is) record {
+pub point_is_over : (F : ℚ → Ext) (end x v : ℚ) (e : Element) → e ≡ Point x v → zero_q <ℚ x → F x ≤ₑ Fin v
+    → IsOver F end e
+point_is_over F end x v e is late under = subst (IsOver F end) (sym is) record {
   late = late;
-  over = λ t c early.
-      let n = le_trans late (le_of_lt c.past) in
-      subst (λ z. z ≤ₑ Fin (line_at line t)) (ap (λ z. read z t) are ∙ unroll_reads f end t curve.normal n early)
-      (under t n c.past (within t c.before early));
+  over = λ t c early. subst (λ z. F z ≤ₑ Fin v) (sym c) under;
+}
+
+pub segment_is_over : (end from limit : ℚ) (to : Ext) (line : Line) (ps : List Piece) (e : Element)
+    → e ≡ Open from to line → zero_q ≤ℚ from → ((t : ℚ) → Fin t <ₑ to → t <ℚ end → t <ℚ limit)
+    → ((t : ℚ) → zero_q ≤ℚ t → from <ℚ t → t <ℚ limit → read ps t ≤ₑ Fin (line_at line t)) → IsOver (read ps) end e
+segment_is_over end from limit to line ps e is late within under = subst (IsOver (read ps) end) (sym is) record {
+  late = late;
+  over = λ t c early. under t (le_trans late (le_of_lt c.past)) c.past (within t c.before early);
+}
+
+-- what is nowhere below a function before the end is so of one with the same values there
+late_time : (e : Element) (t : ℚ) → StartsLate e → Covers e t → zero_q ≤ℚ t
+late_time (Point x v) t late c = le_of_lt (subst (λ z. zero_q <ℚ z) (sym c) late)
+late_time (Open from to line) t late c = le_trans late (le_of_lt c.past)
+
+same_over : (F G : ℚ → Ext) (end : ℚ) (e : Element) → ((t : ℚ) → zero_q ≤ℚ t → t <ℚ end → F t ≡ G t) → IsOver F end e
+    → IsOver G end e
+same_over F G end e same o = record {
+  late = o.late;
+  over = λ t c early. subst (λ z. z ≤ₑ Fin (level e t)) (same t (late_time e t o.late c) early) (o.over t c early);
+}
+
+pub same_thinned : (F G : ℚ → Ext) (end : ℚ) (ys zs : List Element)
+    → ((t : ℚ) → zero_q ≤ℚ t → t <ℚ end → F t ≡ G t) → IsThinned F end ys zs → IsThinned G end ys zs
+same_thinned F G end ys zs same h = record {
+  fewer = h.fewer;
+  others = λ e a. elim (h.others e a) [ inl k ↦ inl k | inr o ↦ inr (same_over F G end e same o) ];
 }
 
 -- ---- elements one after another
@@ -209,9 +269,9 @@ among_last : (d : Element) (es : List Element) → Among d (es ++ d ∷ [])
 among_last d [] = inl refl
 among_last d (x ∷ xs) = inr (among_last d xs)
 
-pub thin_kept : (F : ℚ → Ext) (end : ℚ) (ys zs : List Element) (d : Element) → IsThinned F end ys zs
-    → IsThinned F end (ys ++ d ∷ []) (zs ++ d ∷ [])
-thin_kept F end ys zs d h = record {
+pub one_kept : (P : Element → Type 0) (ys zs : List Element) (d : Element) → AreKept P ys zs
+    → AreKept P (ys ++ d ∷ []) (zs ++ d ∷ [])
+one_kept P ys zs d h = record {
   fewer = λ e k. elim (among_push e d zs k) [
     | inl a ↦ among_first e d ys (h.fewer e a)
     | inr p ↦ subst (λ x. Among x (ys ++ d ∷ [])) (sym p) (among_last d ys)
@@ -222,21 +282,53 @@ thin_kept F end ys zs d h = record {
   ];
 }
 
-pub thin_left : (F : ℚ → Ext) (end : ℚ) (ys zs : List Element) (d : Element) → IsThinned F end ys zs → IsOver F end d
-    → IsThinned F end (ys ++ d ∷ []) zs
-thin_left F end ys zs d h o = record {
+pub one_left : (P : Element → Type 0) (ys zs : List Element) (d : Element) → AreKept P ys zs → P d
+    → AreKept P (ys ++ d ∷ []) zs
+one_left P ys zs d h o = record {
   fewer = λ e k. among_first e d ys (h.fewer e k);
   others = λ e k. elim (among_push e d ys k) [
     | inl a ↦ h.others e a
-    | inr p ↦ inr (subst (IsOver F end) (sym p) o)
+    | inr p ↦ inr (subst P (sym p) o)
   ];
 }
+
+pub none_kept : (P : Element → Type 0) → AreKept P [] []
+none_kept P = record { fewer = λ e h. h; others = λ e h. absurd h }
 
 pub take_push : (es : List Element) (i : ℕ) (e : Element) → i < length es → e ≡ get_or es i e
     → take (i + 1) es ≡ take i es ++ e ∷ []
 take_push es i e h is = take_more es i e h ∙ ap (λ x. take i es ++ x ∷ []) (sym is)
 
+-- ---- few of some elements
+among_at : (es : List Element) (k : ℕ) (e : Element) → k < length es → e ≡ get_or es k e → Among e es
+among_at es k e h is =
+    subst (Among e) (take-append-drop k es)
+    (subst (λ z. Among e (take k es ++ z)) (sym (next_piece e es k h is))
+    (among_right e (take k es) (e ∷ drop (k + 1) es) (inl refl)))
+
+pub from_none : (least : ℚ) (ys : List Element) → StartFrom least ys []
+from_none least ys w h = absurd h
+
+pub from_push : (least : ℚ) (ys ws : List Element) (k : ℕ) (e : Element) → k < length ys → e ≡ get_or ys k e
+    → least ≤ℚ start_of e → StartFrom least ys ws → StartFrom least ys (ws ++ e ∷ [])
+from_push least ys ws k e h is late all w a = elim (among_push w e ws a) [
+  | inl b ↦ all w b
+  | inr same ↦ subst (λ z. Among z ys × (least ≤ℚ start_of z)) (sym same) (among_at ys k e h is, late)
+]
+
 -- ---- the window of a curve
 pub window_reads : (f : SpecCurve) (end : ℚ) (ps : List Piece) → IsCurve f → ps ≡ unroll f end
     → (t : ℚ) → zero_q ≤ℚ t → t <ℚ end → read ps t ≡ value_at f t
 window_reads f end ps curve are t late early = ap (λ z. read z t) are ∙ unroll_reads f end t curve.normal late early
+
+-- a subadditive curve's window is subadditive before its end
+pub window_adds : (g : SpecCurve) (end : ℚ) (ps : List Piece) → IsCurve g → ps ≡ unroll g end → IsSubadditive (value_at g)
+    → (s u : ℚ) → zero_q ≤ℚ s → zero_q ≤ℚ u → s +ℚ u <ℚ end → read ps (s +ℚ u) ≤ₑ read ps s +ₑ read ps u
+window_adds g end ps curve are sub s u n m early =
+    let se : s <ℚ end = with3 s u end (λ c. omega (arith, c.le, c.lt, c.same)) in
+    let ue : u <ℚ end = with3 s u end (λ c. omega (arith, c.le, c.lt, c.same)) in
+    let low : zero_q ≤ℚ s +ℚ u = with2 s u (λ c. omega (arith, c.le, c.lt, c.same)) in
+    let reads = window_reads g end ps curve are in
+    le_ext_trans (read ps (s +ℚ u)) (value_at g (s +ℚ u)) (read ps s +ₑ read ps u) (same_le_ext (reads (s +ℚ u) low early))
+    (le_ext_trans (value_at g (s +ℚ u)) (value_at g s +ₑ value_at g u) (read ps s +ₑ read ps u) (sub s u n m)
+    (same_le_ext (ap (λ z. z +ₑ value_at g u) (sym (reads s n se)) ∙ ap (λ z. read ps s +ₑ z) (sym (reads u m ue)))))

@@ -1,6 +1,8 @@
--- The elements of the second operand of a convolution without those that are nowhere below the first operand. (Where f is
--- subadditive and g is at most 0 at 0, f(s) + g(u) with f(u) at most g(u) is nowhere below f(s + u) + g(0): own choice.)
-use Rattle.std.specs.Prelude.{◌⊎◌, Bool, true, false, List}
+-- The elements of the second operand of a convolution without those that are nowhere below the first operand; and those of
+-- the first without those that are nowhere below what it makes with few of the second. (Where f is subadditive and g is at
+-- most 0 at 0, f(s) + g(u) with f(u) at most g(u) is nowhere below f(s + u) + g(0). Where g is subadditive, f(s) + g(u) with
+-- f(s - w) + g(w) at most f(s) is nowhere below f(s - w) + g(w + u): own choice.)
+use Rattle.std.specs.Prelude.{◌⊎◌, Bool, true, false, List, [], ◌∷◌}
 use Rattle.rational.specs.Rational.{ℚ, ◌≤ℚ◌, ◌<ℚ◌}
 use Rattle.rational.specs.Extended.{Ext, ◌≤ₑ◌}
 use Rattle.rational.specs.declared.Extended.TheVariants.{Fin}
@@ -8,13 +10,14 @@ use Rattle.upp_curve.specs.declared.affine_segment.line.Line.{Line}
 use Rattle.upp_curve.specs.declared.affine_segment.line.Piece.{Piece}
 use Rattle.upp_curve.specs.declared.affine_segment.element.Element.{Element}
 use Rattle.upp_curve.specs.declared.affine_segment.element.Element.TheVariants.{Point, Open}
-use Rattle.upp_curve.specs.affine_segment.Elements.{Covers, level}
-use Rattle.upp_curve.specs.affine_segment.Reading.{piece_value}
+use Rattle.upp_curve.specs.affine_segment.Elements.{Covers, level, start_of}
+use Rattle.upp_curve.specs.affine_segment.Reading.{piece_value, read}
 use Rattle.upp_curve.specs.affine_segment.Values.{line_at}
 use Rattle.min_plus.specs.Convolution.{IsSubadditive}
 use Rattle.min_plus.specs.Functions.{zero_q}
 use Rattle.upp_curve.specs.Curve.{SpecCurve, value_at}
 use Rattle.element_envelope.specs.PieceElements.{Among}
+use Rattle.element_envelope.specs.EnvelopeWindows.{IsEnvelopeWindow}
 
 -- ---- what is left out
 -- the piece, from its start on, is nowhere above the line between two times
@@ -31,15 +34,40 @@ pub record IsOver (f : ℚ → Ext) (end : ℚ) (e : Element) : Type 0 where
   pub late : StartsLate e
   pub over : (t : ℚ) → Covers e t → t <ℚ end → f t ≤ₑ Fin (level e t)
 
--- zs are some of the elements ys, and the others are over f
-pub record IsThinned (f : ℚ → Ext) (end : ℚ) (ys zs : List Element) : Type 0 where
+-- zs are some of the elements ys, and P holds of the others
+pub record AreKept (P : Element → Type 0) (ys zs : List Element) : Type 0 where
   pub fewer : (e : Element) → Among e zs → Among e ys
-  pub others : (e : Element) → Among e ys → Among e zs ⊎ IsOver f end e
+  pub others : (e : Element) → Among e ys → Among e zs ⊎ P e
+
+-- the others are over f
+abbrev pub IsThinned : (ℚ → Ext) → ℚ → List Element → List Element → Type 0
+IsThinned f end ys zs = AreKept (IsOver f end) ys zs
+
+-- t is before the first of some pieces
+abbrev pub IsBefore : ℚ → List Piece → Type 0
+IsBefore t [] = Unit {0}
+IsBefore t (p ∷ ps) = t <ℚ p.x
+
+-- ws are some of the elements ys, and start at `least` or later
+abbrev pub StartFrom : ℚ → List Element → List Element → Type 0
+StartFrom least ys ws = (w : Element) → Among w ws → Among w ys × (least ≤ℚ start_of w)
+
+-- zs are some of the elements xs, and the others are nowhere below what xs make with some of ys, each of which starts after
+-- 0
+pub record IsCovered (end : ℚ) (xs ys zs : List Element) : Type 0 where
+  pub least : ℚ
+  pub late : zero_q <ℚ least
+  pub few : List Element
+  pub among : StartFrom least ys few
+  pub low : List Piece
+  pub makes : IsEnvelopeWindow end xs few low
+  pub thin : IsThinned (read low) end xs zs
 
 -- ---- where that does not count
--- the first of two curves is subadditive, and the second is at most 0 at 0
+-- both of two curves are subadditive, and the second is at most 0 at 0
 pub record AreThinnable (f g : SpecCurve) : Type 0 where
   pub subadditive : IsSubadditive (value_at f)
+  pub second : IsSubadditive (value_at g)
   pub zero : value_at g zero_q ≤ₑ Fin zero_q
 
 -- asked only where elements are left out

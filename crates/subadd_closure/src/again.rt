@@ -1,20 +1,19 @@
 //! The call of a convolution once more: its pieces below the end of its window, and by how much it rises over a period.
 
 ghost use Rattle.std.specs.Prelude.{◌≡◌, IfOk};
-ghost use Rattle.rational.specs.Extended.{◌<ₑ◌, ◌≤ₑ◌};
-ghost use Rattle.rational.specs.declared.Extended.TheVariants.{Fin};
+ghost use Rattle.rational.specs.Extended.{◌<ₑ◌};
 ghost use Rattle.upp_curve.specs.affine_segment.Reading.{read};
-ghost use Rattle.min_plus.specs.Convolution.{IsSubadditive};
-ghost use Rattle.min_plus.specs.Functions.{zero_q};
 ghost use Rattle.upp_curve.specs.Curve.{value_at};
 ghost use Rattle.upp_curve.specs.Curves.{IsCurve};
 ghost use Rattle.upp_curve.specs.Steady.{rate, rise_over};
 ghost use Rattle.upp_curve.specs.Unrolled.{unroll};
 ghost use Rattle.element_envelope.specs.ConvolutionWindows.{OperandWindows, IsConvolutionWindow};
+ghost use Rattle.element_envelope.specs.PieceElements.{elements_of};
 ghost use Rattle.curve_conv.specs.ConvolveCall.{IsConvolveFrame};
 ghost use Rattle.plain_operators.specs.pointwise.Lattice.{RisesBy};
-ghost use Rattle.subadd_closure.specs.Thinned.{MayThin};
+ghost use Rattle.subadd_closure.specs.Thinned.{AreThinnable, IsThinned, MayThin};
 
+use crate::covered::covered;
 use crate::thinned::thinned;
 use curve_call::{Frame, rise_over};
 use curve_conv::is_slower_curve;
@@ -23,32 +22,92 @@ use fraction128::Frac;
 use rational::Extended;
 use std::alloc::{AllocError, Global};
 use upp_curve::Curve;
-use upp_curve::affine_segment::Piece;
+use upp_curve::affine_segment::{Element, Piece};
 use upp_normal::unrolled;
 
+// The pieces of the convolution, of which `left` and `right` are the operands' pieces, `xs` and `ys` their elements, and
+// `late` those of `ys` that are not nowhere below the first operand: by these, where they are at most half.
+fn late_window(
+    alloc: Global,
+    f: &Curve,
+    g: &Curve,
+    left: &[Piece],
+    right: &[Piece],
+    xs: &[Element],
+    ys: &[Element],
+    late: &[Element],
+    end: Frac,
+) -> Result<Vec<Piece>, AllocError>
+    requires curves { IsCurve f.now × IsCurve g.now }
+    requires windows { OperandWindows end left.now right.now }
+    requires first { left.now ≡ unroll f.now end }
+    requires second { right.now ≡ unroll g.now end }
+    requires thin { AreThinnable f.now g.now }
+    requires elements { (xs.now ≡ elements_of left.now Extended.Inf) × (ys.now ≡ elements_of right.now Extended.Inf) }
+    requires late { IsThinned (read left.now) end ys.now late.now }
+    ensures { IfOk result (λ ps. IsConvolutionWindow left.now right.now end ps.items) }
+{
+    if late.len() > ys.len() / 2 {
+        return window_convolution(alloc, left, right, end);
+    }
+    envelope(alloc, xs, late, end)
+}
+
+// The same by the elements of the first operand that are not nowhere below what it makes with few of the second, where
+// there are fewer pairs of them.
+fn covered_window(
+    alloc: Global,
+    f: &Curve,
+    g: &Curve,
+    left: &[Piece],
+    right: &[Piece],
+    xs: &[Element],
+    ys: &[Element],
+    late: &[Element],
+    end: Frac,
+) -> Result<Vec<Piece>, AllocError>
+    requires curves { IsCurve f.now × IsCurve g.now }
+    requires windows { OperandWindows end left.now right.now }
+    requires first { left.now ≡ unroll f.now end }
+    requires second { right.now ≡ unroll g.now end }
+    requires thin { AreThinnable f.now g.now }
+    requires elements { (xs.now ≡ elements_of left.now Extended.Inf) × (ys.now ≡ elements_of right.now Extended.Inf) }
+    requires late { IsThinned (read left.now) end ys.now late.now }
+    ensures { IfOk result (λ ps. IsConvolutionWindow left.now right.now end ps.items) }
+{
+    let early = covered(alloc, xs, ys, end)?;
+    if early.len().saturating_mul(ys.len()) < xs.len().saturating_mul(late.len()) {
+        return envelope(alloc, &early, ys, end);
+    }
+    late_window(alloc, f, g, left, right, xs, ys, late, end)
+}
+
 // The pieces of the convolution, of which `left` and `right` are the operands' pieces: with the elements of the second
-// left out that are nowhere below the first, where these are at least half.
+// left out that are nowhere below the first, or those of the first that are nowhere below what it makes with few of the
+// second, where that leaves fewer pairs.
 fn thinned_window(
     alloc: Global,
     f: &Curve,
+    g: &Curve,
     left: &[Piece],
     right: &[Piece],
     end: Frac,
 ) -> Result<Vec<Piece>, AllocError>
-    requires curve { IsCurve f.now }
+    requires curves { IsCurve f.now × IsCurve g.now }
     requires windows { OperandWindows end left.now right.now }
     requires first { left.now ≡ unroll f.now end }
-    requires subadditive { IsSubadditive (value_at f.now) }
-    requires low { read right.now zero_q ≤ₑ Fin zero_q }
+    requires second { right.now ≡ unroll g.now end }
+    requires thin { AreThinnable f.now g.now }
     ensures { IfOk result (λ ps. IsConvolutionWindow left.now right.now end ps.items) }
 {
     let ys = cut(alloc, right, Extended::Inf)?;
-    let kept = thinned(alloc, f, left, &ys, end)?;
-    if kept.len() > ys.len() / 2 {
-        return window_convolution(alloc, left, right, end);
-    }
+    let late = thinned(alloc, left, &ys, end)?;
     let xs = cut(alloc, left, Extended::Inf)?;
-    envelope(alloc, &xs, &kept, end)
+    // What is made with few elements costs as much as few pairs of each.
+    if late.len() > 8 {
+        return covered_window(alloc, f, g, left, right, &xs, &ys, &late, end);
+    }
+    late_window(alloc, f, g, left, right, &xs, &ys, &late, end)
 }
 
 // The pieces of the convolution, of which `left` and `right` are the operands' pieces; `thin` as of `window_of`.
@@ -69,7 +128,7 @@ fn window_between(
     ensures { IfOk result (λ ps. IsConvolutionWindow left.now right.now end ps.items) }
 {
     if thin {
-        return thinned_window(alloc, f, left, right, end);
+        return thinned_window(alloc, f, g, left, right, end);
     }
     window_convolution(alloc, left, right, end)
 }

@@ -4,6 +4,7 @@
 
 mod again;
 mod closing;
+mod covered;
 mod element_laws;
 mod from_start;
 mod lattices;

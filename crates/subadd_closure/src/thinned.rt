@@ -1,22 +1,19 @@
-//! The elements of the second operand of a convolution without those that are nowhere below the first operand.
+//! Some elements without those that are nowhere below a window.
 
-ghost use Rattle.std.specs.Prelude.{◌≡◌, IfOk, IsTrue, Some};
+ghost use Rattle.std.specs.Prelude.{◌≡◌, ◌+◌, drop, IfOk, IsTrue, Some};
 ghost use Rattle.rational.specs.Rational.{ℚ, ◌≤ℚ◌, ◌<ℚ◌};
 ghost use Rattle.rational.specs.Extended.{◌≤ₑ◌, ◌<ₑ◌};
 ghost use Rattle.rational.specs.declared.Extended.TheVariants.{Fin};
-ghost use Rattle.upp_curve.specs.affine_segment.Values.{line_at};
-ghost use Rattle.upp_curve.specs.affine_segment.Reading.{read};
+ghost use Rattle.upp_curve.specs.affine_segment.Values.{line_at, line_value};
+ghost use Rattle.upp_curve.specs.affine_segment.Reading.{piece_value, read};
 ghost use Rattle.upp_curve.specs.affine_segment.Pieces.{Each, StartsAtZero};
 ghost use Rattle.min_plus.specs.Functions.{zero_q};
-ghost use Rattle.upp_curve.specs.Curve.{value_at};
-ghost use Rattle.upp_curve.specs.Curves.{IsCurve};
-ghost use Rattle.upp_curve.specs.Unrolled.{unroll, upto};
-ghost use Rattle.subadd_closure.specs.Thinned.{LiesUnder, IsOver, IsThinned};
+ghost use Rattle.upp_curve.specs.Unrolled.{upto};
+ghost use Rattle.subadd_closure.specs.Thinned.{LiesUnder, IsBefore, IsOver, IsThinned};
 
 use fraction128::{Ext, Frac, is_less};
 use rational::Extended;
 use std::alloc::{AllocError, Global};
-use upp_curve::Curve;
 use upp_curve::affine_segment::{Element, Line, Piece, start_of, value};
 
 // Whether a is at most b.
@@ -145,28 +142,66 @@ fn is_number_by(value: Ext, top: Frac) -> bool
     }
 }
 
-// Whether a curve is known to be not above a value at a time.
-fn value_under(f: &Curve, x: Frac, v: Frac) -> bool
-    requires { zero_q ≤ℚ x }
-    ensures { IsTrue result → value_at f.now x ≤ₑ Fin v }
+// Whether the value of a line at a time is known to be at most a number; no line is infinity.
+fn line_under(line: Option<Line>, x: Frac, v: Frac) -> bool
+    ensures { IsTrue result → line_value line x ≤ₑ Fin v }
 {
-    match f.value_at(x) {
-        Ok(found) => is_number_by(found, v),
+    let Some(own) = line else {
+        return false;
+    };
+    match value(&own, x) {
+        Ok(found) => is_at_most(found, v),
         Err(_) => false,
     }
 }
 
-// Whether an element is known to be nowhere below a curve before the window's end.
-fn is_over(f: &Curve, pieces: &[Piece], k: usize, e: &Element, end: Frac) -> bool
-    requires curve { IsCurve f.now }
+// Whether the value of a piece at a time, at its start or later, is known to be at most a number.
+fn piece_under(p: &Piece, x: Frac, v: Frac) -> bool
+    ensures { IsTrue result → piece_value p.now x ≤ₑ Fin v }
+{
+    if is_less(p.x, x) {
+        return line_under(p.line, x, v);
+    }
+    is_number_by(p.at, v)
+}
+
+// Whether none of some pieces, in the order of their starts, starts at a time or before from the k-th on.
+fn starts_later(pieces: &[Piece], k: usize, x: Frac) -> bool
+    ensures { IsTrue result → IsBefore x (drop k pieces.now) }
+{
+    if k >= pieces.len() {
+        return true;
+    }
+    is_less(x, pieces[k].x)
+}
+
+// Whether some pieces are known to be at most a number at a time, where the k-th of them is the last that starts by then.
+fn point_over(pieces: &[Piece], k: usize, x: Frac, v: Frac) -> bool
     requires starts { StartsAtZero pieces.now }
-    requires window { pieces.now ≡ unroll f.now end }
-    ensures { IsTrue result → IsOver (value_at f.now) end e.now }
+    ensures { IsTrue result → read pieces.now x ≤ₑ Fin v }
+{
+    if k >= pieces.len() {
+        return false;
+    }
+    let p = &pieces[k];
+    if is_less(x, p.x) {
+        return false;
+    }
+    if !starts_later(pieces, k + 1, x) {
+        return false;
+    }
+    piece_under(p, x, v)
+}
+
+// Whether an element is known to be nowhere below some pieces before the window's end.
+fn is_over(pieces: &[Piece], k: usize, e: &Element, end: Frac) -> bool
+    requires starts { StartsAtZero pieces.now }
+    ensures { IsTrue result → IsOver (read pieces.now) end e.now }
 {
     match *e {
         Element::Point { x, v } => {
             if is_less(Frac::zero(), x) {
-                return value_under(f, x, v);
+                return point_over(pieces, k, x, v);
             }
             false
         }
@@ -191,26 +226,22 @@ fn last_by(pieces: &[Piece], k: usize, t: Frac) -> usize {
     last
 }
 
-/// Those of some elements, in the order of their starts, that are not known to be nowhere below a curve before the end
-/// of a window; `pieces` is the curve unrolled up to there. The point at 0 is always one of them. Refused only for want
-/// of memory.
+/// Those of some elements, in the order of their starts, that are not known to be nowhere below some pieces before the
+/// end of a window. The point at 0 is always one of them. Refused only for want of memory.
 pub(crate) fn thinned(
     alloc: Global,
-    f: &Curve,
     pieces: &[Piece],
     elements: &[Element],
     end: Frac,
 ) -> Result<Vec<Element>, AllocError>
-    requires curve { IsCurve f.now }
     requires starts { StartsAtZero pieces.now }
-    requires window { pieces.now ≡ unroll f.now end }
-    ensures { IfOk result (λ v. IsThinned (value_at f.now) end elements.now v.items) }
+    ensures { IfOk result (λ v. IsThinned (read pieces.now) end elements.now v.items) }
 {
     let mut kept = Vec::new(alloc);
     let mut k = 0;
     for e in elements {
         k = last_by(pieces, k, start_of(e));
-        if !is_over(f, pieces, k, e, end) {
+        if !is_over(pieces, k, e, end) {
             kept.push(*e)?;
         }
     }

@@ -1,13 +1,13 @@
 use Rattle.std.proofs.Common.{◌∙◌, ◌++◌, [], ◌∷◌, sym, ap, refl, subst, take}
-use Rattle.upp_curve.specs.Curve.{value_at}
-use Rattle.subadd_closure.specs.Thinned.{IsThinned}
-use Rattle.subadd_closure.proofs.ThinnedElements.{take_push, thin_kept, thin_left}
+use Rattle.upp_curve.specs.affine_segment.Reading.{read}
+use Rattle.subadd_closure.specs.Thinned.{IsOver, IsThinned}
+use Rattle.subadd_closure.proofs.ThinnedElements.{take_push, one_kept, one_left}
 use Rattle.subadd_closure.proofs.thinned.thinned.Goals as goal
 use Rattle.subadd_closure.proofs.thinned.thinned.Goals.{then-not-is_over+in_ok-push, else-not-is_over}
 
 pub loop-e-preserved : goal.loop-e-preserved
 loop-e-preserved c =
-    let F = value_at c.args.f.now in
+    let F = read c.args.pieces.now in
     let end = c.args.end in
     let es = c.args.elements.now in
     let i = c.loop-e.e-index in
@@ -18,8 +18,8 @@ loop-e-preserved c =
       | then-not-is_over+in_ok-push w ↦
           subst (λ zs. IsThinned F end (take i es ++ e ∷ []) zs)
           (sym (ap (λ v. v.items) w.kept-is ∙ w.in_ok-push.ensures.items))
-          (thin_kept F end (take i es) c.loop-e.kept.items e c.loop-e.invariant)
+          (one_kept (IsOver F end) (take i es) c.loop-e.kept.items e c.loop-e.invariant)
       | else-not-is_over w ↦
           subst (λ zs. IsThinned F end (take i es ++ e ∷ []) zs) (sym (ap (λ v. v.items) w.kept-is))
-          (thin_left F end (take i es) c.loop-e.kept.items e c.loop-e.invariant (w.if-not-is_over.ensures refl))
+          (one_left (IsOver F end) (take i es) c.loop-e.kept.items e c.loop-e.invariant (w.if-not-is_over.ensures refl))
     ])

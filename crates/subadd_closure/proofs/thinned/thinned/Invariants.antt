@@ -1,7 +1,7 @@
 use Rattle.std.proofs.Common.{take}
-use Rattle.upp_curve.specs.Curve.{value_at}
+use Rattle.upp_curve.specs.affine_segment.Reading.{read}
 use Rattle.subadd_closure.specs.Thinned.{IsThinned}
 use Rattle.subadd_closure.proofs.thinned.thinned.Given as goal
 
 abbrev pub invariant-loop-e : goal.invariant-loop-e
-invariant-loop-e l = IsThinned (value_at l.f) l.end (take l.e-index l.elements) l.kept.items
+invariant-loop-e l = IsThinned (read l.pieces) l.end (take l.e-index l.elements) l.kept.items
