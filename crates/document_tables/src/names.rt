@@ -1,10 +1,10 @@
 //! Names by their numbers.
 
-ghost use Rattle.std.specs.Prelude.{◌≡◌, ◌++◌, ◌∷◌, ◌<◌, [], not, map, option_map, slice_get, IfSome, IfOk, OnOk, None, true, length};
+ghost use Rattle.std.specs.Prelude.{◌≡◌, ◌++◌, ◌∷◌, ◌<◌, [], not, map, option_map, slice_get, IfSome, IfOk, OnOk, None, Some, true, length};
 ghost use Rattle.std.specs.List.{list_any, position};
 ghost use Rattle.std.specs.Str.{bytes_eq};
 ghost use Rattle.std.specs.String.{string_bytes};
-ghost use Rattle.document_tables.specs.Names.{AreNumbersOf};
+ghost use Rattle.document_tables.specs.Names.{AreNumbersOf, AreOwn};
 
 use std::alloc::{AllocError, Global};
 use std::collections::BTreeMap;
@@ -57,14 +57,43 @@ impl Names {
             None => None,
         }
     }
+
+    // No two names are one, as the numbers show.
+    fn are_own(&self)
+        ensures { AreOwn self.now }
+    {
+        let _count = self.texts.len();
+    }
 }
 
-/// The number of a name.
-pub(crate) fn number_of(names: &Names, name: &str) -> Option<usize>
+// The number of a name.
+fn number_of(names: &Names, name: &str) -> Option<usize>
     ensures value { result ≡ position (bytes_eq name.now) names.now }
     ensures within { IfSome result (λ n. n < length names.now) }
 {
     names.numbers.get(name).copied()
+}
+
+// Whether a name has this number.
+fn is_named(names: &Names, number: usize, name: &str) -> bool
+    ensures { result ≡ true → slice_get names.now number ≡ Some name.now }
+{
+    match names.get(number) {
+        Some(text) => text == name,
+        None => false,
+    }
+}
+
+/// The number of a name. It is found at once where it is this one.
+pub(crate) fn number_near(names: &Names, name: &str, near: usize) -> Option<usize>
+    ensures value { result ≡ position (bytes_eq name.now) names.now }
+    ensures within { IfSome result (λ n. n < length names.now) }
+{
+    names.are_own();
+    if is_named(names, near, name) {
+        return Some(near);
+    }
+    number_of(names, name)
 }
 
 // Puts a text that is new behind others, under the next number.
