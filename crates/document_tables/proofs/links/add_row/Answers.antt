@@ -1,4 +1,4 @@
-use Rattle.std.proofs.Common.{◌≡◌, nat_le, true, length, Ok, Err, sym, ap, subst, ◌∙◌, arith}
+use Rattle.std.proofs.Common.{◌≡◌, nat_le, true, length, Err, sym, ap, subst, ◌∙◌, arith}
 use Rattle.std.proofs.lemmas.List.{length-map}
 use Rattle.csv.specs.Records.{fields_of}
 use Rattle.document_rows.specs.LinkRows.{link_view}
