@@ -12,7 +12,7 @@ use table_cells::Amount;
 
 // Puts so many thousandths behind a text, with three digits behind the point.
 #[tactic(auto, unfolding(crate::specs::Numbers::thousandths))]
-fn add_thousandths(into: &mut String, number: u128) -> Result<(), AllocError>
+fn add_long(into: &mut String, number: u128) -> Result<(), AllocError>
     ensures { OnOk result (string_bytes into.new ≡ string_bytes into.old ++ spec.thousandths number) }
 {
     let whole = number / 1000;
@@ -20,6 +20,28 @@ fn add_thousandths(into: &mut String, number: u128) -> Result<(), AllocError>
     let second = number / 10 % 10;
     let third = number % 10;
     write!(into, "{whole}.{first}{second}{third}")
+}
+
+// The same of a number of 64 bits, which is divided faster.
+#[tactic(auto, unfolding(crate::specs::Numbers::thousandths))]
+fn add_short(into: &mut String, number: u64) -> Result<(), AllocError>
+    ensures { OnOk result (string_bytes into.new ≡ string_bytes into.old ++ spec.thousandths number) }
+{
+    let whole = number / 1000;
+    let first = number / 100 % 10;
+    let second = number / 10 % 10;
+    let third = number % 10;
+    write!(into, "{whole}.{first}{second}{third}")
+}
+
+// Puts so many thousandths behind a text.
+fn add_thousandths(into: &mut String, number: u128) -> Result<(), AllocError>
+    ensures { OnOk result (string_bytes into.new ≡ string_bytes into.old ++ spec.thousandths number) }
+{
+    if number > u64::MAX as u128 {
+        return add_long(into, number);
+    }
+    add_short(into, number as u64)
 }
 
 /// Puts a time in picoseconds behind a text, as microseconds.
