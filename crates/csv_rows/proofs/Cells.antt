@@ -1,6 +1,7 @@
 -- Cells of rows, and rows of which some cell is not empty.
 use Rattle.std.proofs.Common.{◌≡◌, ℕ, zero, suc, ◌+◌, ◌-◌, ◌<◌, true, false, List, [], ◌∷◌, ◌++◌, map, length, drop, take, get_or, refl, sym, ap, ◌∙◌, append_assoc, append-nil, length-append, arith}
 use Rattle.std.specs.Char.{is_ascii_whitespace}
+use Rattle.std.proofs.lemmas.Bool.{eqb-true}
 use Rattle.std.proofs.lemmas.List.{drop_more, map-append, take_all, take_more}
 use Rattle.csv.specs.Records.{field_at, trim_end, trim_start, trimmed}
 use Rattle.csv.proofs.RecordFacts.{end-plain, start-plain}
@@ -27,31 +28,31 @@ used_push [] row = append-nil (used_of row)
 used_push (r ∷ rows) row = ap (λ (rs : List LinedRow). used_of r ++ rs) (used_push rows row) ∙ sym (append_assoc (used_of r) (used rows) (used_of row))
 
 -- ---- cells without white space at an end
-pub no_bytes : (cell : List ℕ) → is_empty cell ≡ true → trimmed cell ≡ cell
+pub no_bytes : (bytes : List ℕ) → is_empty bytes ≡ true → trimmed bytes ≡ bytes
 unfolding trim_start trim_end
 no_bytes [] e = refl
-no_bytes (byte ∷ cell) e = cc
+no_bytes (byte ∷ bytes) e = absurd (let none = eqb-true (length (byte ∷ bytes)) 0 e in omega (arith, none))
 
-all_bytes : (cell : List ℕ) (last : ℕ) → last + 1 ≡ length cell → is_ascii_whitespace (get_or cell last 0) ≡ false → trim_end cell ≡ length cell
-all_bytes cell last next back =
-    let whole = take_all (last + 1) cell (omega (arith, next)) in
-    let split : cell ≡ take last cell ++ get_or cell last 0 ∷ [] = sym whole ∙ take_more cell last 0 (omega (arith, next)) in
+all_bytes : (bytes : List ℕ) (last : ℕ) → last + 1 ≡ length bytes → is_ascii_whitespace (get_or bytes last 0) ≡ false → trim_end bytes ≡ length bytes
+all_bytes bytes last next back =
+    let whole = take_all (last + 1) bytes (omega (arith, next)) in
+    let split : bytes ≡ take last bytes ++ get_or bytes last 0 ∷ [] = sym whole ∙ take_more bytes last 0 (omega (arith, next)) in
     let size = ap length split in
-    let parts = length-append (take last cell) (get_or cell last 0 ∷ []) in
-    let before : length (take last cell) + 1 ≡ length cell = omega (arith, size, parts) in
-    ap trim_end split ∙ (end-plain (take last cell) (get_or cell last 0) back ∙ before)
+    let parts = length-append (take last bytes) (get_or bytes last 0 ∷ []) in
+    let before : length (take last bytes) + 1 ≡ length bytes = omega (arith, size, parts) in
+    ap trim_end split ∙ (end-plain (take last bytes) (get_or bytes last 0) back ∙ before)
 
-some_bytes : (cell : List ℕ) → is_empty cell ≡ false → 0 < length cell
+some_bytes : (bytes : List ℕ) → is_empty bytes ≡ false → 0 < length bytes
 some_bytes [] e = cc
-some_bytes (byte ∷ cell) e = omega arith
+some_bytes (byte ∷ bytes) e = omega arith
 
-pub tight : (cell : List ℕ) (size : ℕ) → is_empty cell ≡ false → size ≡ length cell → is_ascii_whitespace (get_or cell 0 0) ≡ false
-    → is_ascii_whitespace (get_or cell (size - 1) 0) ≡ false → trimmed cell ≡ cell
-tight cell size some is front back =
-    let more = some_bytes cell some in
-    let start : trim_start cell ≡ cell = start-plain cell 0 more front in
-    let end = all_bytes cell (size - 1) (omega (arith, more, is)) back in
-    ap (λ (bytes : List ℕ). take (trim_end bytes) bytes) start ∙ (ap (λ (n : ℕ). take n cell) end ∙ take_all (length cell) cell (omega arith))
+pub tight : (bytes : List ℕ) (size : ℕ) → is_empty bytes ≡ false → size ≡ length bytes → is_ascii_whitespace (get_or bytes 0 0) ≡ false
+    → is_ascii_whitespace (get_or bytes (size - 1) 0) ≡ false → trimmed bytes ≡ bytes
+tight bytes size some is front back =
+    let more = some_bytes bytes some in
+    let start : trim_start bytes ≡ bytes = start-plain bytes 0 more front in
+    let end = all_bytes bytes (size - 1) (omega (arith, more, is)) back in
+    ap (λ (xs : List ℕ). take (trim_end xs) xs) start ∙ (ap (λ (n : ℕ). take n bytes) end ∙ take_all (length bytes) bytes (omega arith))
 
 pub tight_more : (row : Row) (k : ℕ) → k < length row → map trimmed (take k row) ≡ take k row → trimmed (cell row k) ≡ cell row k
     → map trimmed (take (k + 1) row) ≡ take (k + 1) row
