@@ -1,4 +1,4 @@
--- The lines of links: above a stair, of two together, and as they are behind a queue. (Le Boudec and Thiran, chapter 1.)
+-- The lines of links: above a stair, and of two together. (Le Boudec and Thiran, chapter 1.)
 use Rattle.std.specs.Prelude.{◌≡◌, ℕ}
 use Rattle.rational.specs.Rational.{ℚ, ◌+ℚ◌, ◌*ℚ◌, ◌≤ℚ◌, ◌<ℚ◌}
 use Rattle.rational.specs.Extended.{◌≤ₑ◌}
@@ -20,8 +20,3 @@ pub record IsAboveStair (packet period jitter : ℕ) (line : Line) : Type 0 wher
 -- a line that is everywhere the sum of two
 pub record IsTotal (one other both : Line) : Type 0 where
   pub is : (t : ℚ) → line_value both t ≡ line_value one t +ℚ line_value other t
-
--- a line of the same rate that is nowhere below the other as it is so many picoseconds later
-pub record IsLater (line : Line) (d : ℕ) (later : Line) : Type 0 where
-  pub above : (t : ℚ) → zero_q ≤ℚ t → line_value line (t +ℚ micros d) ≤ℚ line_value later t
-  pub rate : later.rate ≡ line.rate

@@ -1,8 +1,8 @@
-//! The lines of links: at their first port, together, and behind a queue.
+//! The lines of links.
 
 ghost use Rattle.std.specs.Prelude.{◌≡◌, ◌+◌, ◌*◌, ◌^◌, ◌<◌, ◌≤◌, ◌⊎◌, MatchOption, IfSome};
 ghost use Rattle.std.specs.Int.{div_ceil};
-ghost use Rattle.arrival_lines.specs.Links.{IsAboveStair, IsTotal, IsLater};
+ghost use Rattle.arrival_lines.specs.Links.{IsAboveStair};
 
 use crate::grid::{Line, SECOND, short, times};
 
@@ -42,29 +42,6 @@ pub fn link_line(packet: u64, period: u64, jitter: u64) -> Option<Line>
     let rate = short(link_rate(packet, period))?;
     let early = times(rate, jitter).div_ceil(SECOND);
     line_of(packet as u128 + early, rate as u128)
-}
-
-/// The line of two together; none where its rate does not fit 64 bits or its burst is 2^58 grains or more.
-pub fn add(one: Line, other: Line) -> Option<Line>
-    ensures least { MatchOption result ((2 ^ 64 ≤ one.rate + other.rate) ⊎ (2 ^ 58 ≤ one.burst + other.burst))
-        (λ both. (both.rate ≡ one.rate + other.rate) × (both.burst ≡ one.burst + other.burst)) }
-    ensures total { IfSome result (λ both. IsTotal one other both) }
-{
-    line_of(
-        one.burst as u128 + other.burst as u128,
-        one.rate as u128 + other.rate as u128,
-    )
-}
-
-/// The line of what leaves a queue in which nothing stays longer than the delay, in picoseconds; none where its burst is 2^58 grains or
-/// more.
-pub fn onward(line: Line, delay: u64) -> Option<Line>
-    ensures least { MatchOption result (2 ^ 58 ≤ line.burst + div_ceil (line.rate * delay) (10 ^ 12))
-        (λ later. (later.rate ≡ line.rate) × (later.burst ≡ line.burst + div_ceil (line.rate * delay) (10 ^ 12))) }
-    ensures above { IfSome result (λ later. IsLater line delay later) }
-{
-    let late = times(line.rate, delay).div_ceil(SECOND);
-    line_of(line.burst as u128 + late, line.rate as u128)
 }
 
 /// The load of rates together at a service of a rate: in thousandths, rounded up; none where nothing is served.

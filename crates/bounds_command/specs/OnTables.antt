@@ -113,7 +113,7 @@ pub record IsReported (d : DocumentText) (net : Network) (form : Form) (reply : 
   pub roots : (s q : ℕ) → s < length net.ports.items → q < queues_of (port_at net s).discipline
       → row_in table s q ≡ None
       → IsRootedIn net table s q
-  -- in the links' own rates: the load of the links that pass a queue, there or at a port before it, is above its rate, or a number passes its limit
+  -- in the links' own rates, on the grid: the load of the links that pass a queue, there or at a port before it, is above its rate, or a number passes its limit
   pub loads : (s q : ℕ) → s < length net.ports.items → q < queues_of (port_at net s).discipline
       → row_in table s q ≡ None
       → HasLoadOrLimitIn net table s q

@@ -42,13 +42,13 @@ fn on_rows(
     ports_file: &str,
     ports: &[TableRow],
     links_file: &str,
-    links: &[TableRow],
+    links: Vec<TableRow>,
     overhead: u64,
     form: Form,
 ) -> Result<Answer, AllocError>
     requires { overhead ≤ 1048576 }
     ensures { (port_bytes link_bytes : List ℕ) → AreLinedRowsOf port_bytes (map lined_of ports.now)
-        → AreLinedRowsOf link_bytes (map lined_of links.now)
+        → AreLinedRowsOf link_bytes (map lined_of links.items)
         → IfOk result (λ r.
         IsReplyOn (tables ports_file.now port_bytes links_file.now link_bytes) overhead form (reply_of r)) }
 {
@@ -79,7 +79,5 @@ pub fn on_tables(
 {
     let ports = read_table(alloc, ports_bytes)?;
     let links = read_table(alloc, links_bytes)?;
-    on_rows(
-        alloc, ports_file, &ports, links_file, &links, overhead, form,
-    )
+    on_rows(alloc, ports_file, &ports, links_file, links, overhead, form)
 }

@@ -1,6 +1,7 @@
 -- The line on which the next row of a text begins, and what a reader leaves of the text behind a row.
 use Rattle.std.proofs.Common.{◌≡◌, ◌≢◌, ◌≤◌, ◌<◌, ◌+◌, ℕ, suc, Bool, true, false, List, [], ◌∷◌, ◌++◌, length, drop, get_or, Some, refl, sym, ap, ap₂, subst, cond, ◌∙◌, arith, inl, inr}
 use Rattle.std.specs.Prelude.{◌==◌, ◌||◌, IfSome}
+use Rattle.std.proofs.lemmas.Bool.{ne_eqb}
 use Rattle.std.proofs.lemmas.List.{drop_more, drop_all}
 use Rattle.std.proofs.lemmas.List.Sums.{count_by-le-length, sum_by-cons}
 use Rattle.csv.specs.Machine.{Read, step, is_end, next_record, fields_after, field_after}
@@ -9,7 +10,7 @@ use Rattle.csv.specs.declared.parser.State.{State}
 use Rattle.csv.specs.declared.parser.State.TheVariants as st
 use Rattle.csv_rows.specs.declared.lines.Place.{Place}
 use Rattle.csv_rows.specs.declared.lines.Place.TheVariants as places
-use Rattle.csv_rows.specs.Places.{Goes, IsBetween, LeavesBehind, state_of}
+use Rattle.csv_rows.specs.Places.{Goes, IsBetween, LeavesBehind, beyond, state_of}
 use Rattle.csv_rows.specs.Rows.{AreNextOf, LinedRow, Row, from_row, is_line_feed, is_row_end, line_ends, line_of}
 
 -- ---- a mark of the byte order
@@ -98,6 +99,21 @@ from_row_twice (byte ∷ text) = by (is_row_end byte) refl (from_row_twice text)
         → from_row (cond (is_row_end byte) (from_row text) (byte ∷ text)) ≡ cond (is_row_end byte) (from_row text) (byte ∷ text)
     by true k h = rw k h
     by false k h = rw k (rw k refl)
+
+-- ---- a byte above the comma
+apart : (byte other : ℕ) → other < byte → (byte == other) ≡ false
+apart byte other h = ne_eqb byte other (λ e. absurd (omega (arith, e, h)))
+
+pub beyond_goes : (place : Place) (byte : ℕ) → 44 < byte → Goes (state_of place) byte (beyond place)
+beyond_goes place byte h =
+    by place (apart byte 34 (omega (arith, h))) (apart byte 44 (omega (arith, h))) (apart byte 13 (omega (arith, h))) (apart byte 10 (omega (arith, h)))
+  where
+    by : (place : Place) → (byte == 34) ≡ false → (byte == 44) ≡ false → (byte == 13) ≡ false → (byte == 10) ≡ false → Goes (state_of place) byte (beyond place)
+    by places.Between quote comma cr lf = rw (quote, comma, cr, lf) (refl, refl)
+    by places.CellStart quote comma cr lf = rw (quote, comma, cr, lf) (refl, refl)
+    by places.Plain quote comma cr lf = rw (comma, cr, lf) (refl, refl)
+    by places.Quoted quote comma cr lf = rw quote (refl, refl)
+    by places.AfterQuote quote comma cr lf = rw (quote, comma, cr, lf) (refl, refl)
 
 -- ---- a row
 -- the next record is that from this state on, with some fields and a field at hand

@@ -19,6 +19,14 @@ state_of places.Plain = st.InField
 state_of places.Quoted = st.InQuoted
 state_of places.AfterQuote = st.AfterQuote
 
+-- the place behind a byte that ends no cell and is no quote
+abbrev pub beyond : Place → Place
+beyond places.Between = places.Plain
+beyond places.CellStart = places.Plain
+beyond places.Plain = places.Plain
+beyond places.Quoted = places.Quoted
+beyond places.AfterQuote = places.Plain
+
 -- the reader goes from this state by this byte to this place, and to none between rows but by an end of the row
 abbrev pub Goes : State → ℕ → Place → Type 0
 Goes s byte places.Between = (is_row_end byte ≡ true) × (is_end (step default_config s byte).1 ≡ true)

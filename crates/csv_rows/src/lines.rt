@@ -2,7 +2,7 @@
 
 ghost use Rattle.std.specs.Prelude.{◌≡◌, ◌≤◌, ◌<◌, ◌+◌, ◌^◌, false};
 ghost use Rattle.csv.specs.Reading.{is_bom, strip_bom};
-ghost use Rattle.csv_rows.specs.Places.{Goes, LeavesBehind, state_of};
+ghost use Rattle.csv_rows.specs.Places.{Goes, LeavesBehind, beyond, state_of};
 ghost use Rattle.csv_rows.specs.Rows.{from_row, is_row_end, line_ends};
 ghost use Rattle.csv_rows.specs.declared.lines.Place.TheVariants as places;
 ghost use Rattle.csv.specs.declared.parser.State.TheVariants as st;
@@ -35,8 +35,18 @@ fn place_in_cell(byte: u8) -> Place
     }
 }
 
-// The place behind a byte, which ends no row between rows.
-fn place_after(place: Place, byte: u8) -> Place
+// The place behind a byte above the comma, which is neither that nor a quote nor ends a row.
+fn place_beyond(place: Place) -> Place
+    ensures { result ≡ beyond place }
+{
+    match place {
+        Place::Quoted => Place::Quoted,
+        _ => Place::Plain,
+    }
+}
+
+// The place behind a byte up to the comma, which ends no row between rows.
+fn place_among(place: Place, byte: u8) -> Place
     requires { place ≡ places.Between → is_row_end byte ≡ false }
     ensures { Goes (state_of place) byte result }
 {
@@ -46,6 +56,17 @@ fn place_after(place: Place, byte: u8) -> Place
         (Place::AfterQuote | Place::Between | Place::CellStart, b'"') => Place::Quoted,
         _ => place_in_cell(byte),
     }
+}
+
+// The place behind a byte, which ends no row between rows.
+fn place_after(place: Place, byte: u8) -> Place
+    requires { place ≡ places.Between → is_row_end byte ≡ false }
+    ensures { Goes (state_of place) byte result }
+{
+    if byte > b',' {
+        return place_beyond(place);
+    }
+    place_among(place, byte)
 }
 
 fn is_mark(first: u8, second: u8, third: u8) -> bool

@@ -1,7 +1,8 @@
 //! The rows of a table.
 
-ghost use Rattle.std.specs.Prelude.{◌≡◌, ◌++◌, map, IfOk, OnOk};
-ghost use Rattle.csv.specs.Records.{fields_of};
+ghost use Rattle.std.specs.Prelude.{◌≡◌, ◌<◌, ◌++◌, false, length, map, get_or, IfOk, OnOk};
+ghost use Rattle.std.specs.Char.{is_ascii_whitespace};
+ghost use Rattle.csv.specs.Records.{fields_of, trimmed};
 ghost use Rattle.csv_rows.specs.Rows as spec;
 
 use crate::lines::lines_of;
@@ -37,12 +38,55 @@ fn is_blank(row: &ByteRecord) -> bool
     true
 }
 
+// Whether a byte of a cell is white space.
+fn is_white(cell: &[u8], at: usize) -> bool
+    requires { at < length cell.now }
+    ensures { result ≡ is_ascii_whitespace (get_or cell.now at 0) }
+{
+    cell[at].is_ascii_whitespace()
+}
+
+// Whether a cell has white space at an end.
+fn is_loose(cell: &[u8]) -> bool
+    ensures { result ≡ false → trimmed cell.now ≡ cell.now }
+{
+    if cell.is_empty() {
+        return false;
+    }
+    if is_white(cell, 0) {
+        return true;
+    }
+    is_white(cell, cell.len() - 1)
+}
+
+// Whether some cell of a row has white space at an end.
+fn some_loose(row: &ByteRecord) -> bool
+    ensures { result ≡ false → map trimmed (fields_of row.now) ≡ fields_of row.now }
+{
+    for place in 0..row.len() {
+        if is_loose(cell(row, place)) {
+            return true;
+        }
+    }
+    false
+}
+
+// Takes the white space off both ends of each cell.
+fn tighten(row: &mut ByteRecord) -> Result<(), AllocError>
+    ensures { OnOk result (fields_of row.new ≡ map trimmed (fields_of row.old)) }
+{
+    if !some_loose(row) {
+        return Ok(());
+    }
+    row.trim()
+}
+
 // Puts a row behind others, unless all its cells are empty.
 fn push_row(rows: &mut Vec<TableRow>, line: usize, mut cells: ByteRecord) -> Result<(), AllocError>
     ensures { OnOk result (map spec.lined_of rows.new.items
         ≡ map spec.lined_of rows.old.items ++ spec.used_of (line, fields_of cells)) }
 {
-    cells.trim()?;
+    tighten(&mut cells)?;
     if !is_blank(&cells) {
         rows.push(TableRow { line, cells })?;
     }

@@ -4,18 +4,18 @@ use Rattle.std.specs.BTreeMap.{BTreeMap}
 use Rattle.std.specs.Cmp.Lexicographic.{slice_cmp}
 use Rattle.std.specs.List.{list_any, position, position_from}
 use Rattle.std.specs.Ordering.{nat_cmp}
-use Rattle.std.specs.Prelude.{String, is_some}
+use Rattle.std.specs.Prelude.{◌⊎◌, String, is_some, slice_get}
 use Rattle.std.specs.Str.{bytes_eq}
 use Rattle.std.specs.String.{string_bytes, string_cmp}
 use Rattle.std.specs.declared.alloc.Global.{Global}
-use Rattle.std.proofs.Common.{◌≡◌, ℕ, suc, ◌+◌, ◌<◌, ◌||◌, Bool, true, false, cond, List, [], ◌∷◌, ◌++◌, map, length, Option, Some, None, IfSome, refl, sym, ap, ap₂, subst, ◌∙◌, arith}
+use Rattle.std.proofs.Common.{◌≡◌, ℕ, zero, suc, ◌+◌, ◌<◌, ◌||◌, Bool, true, false, cond, List, [], ◌∷◌, ◌++◌, map, length, Option, Some, None, IfSome, refl, sym, ap, ap₂, subst, ◌∙◌, inl, inr, arith}
 use Rattle.std.proofs.lemmas.Bool.{false_from_ne_true}
 use Rattle.std.proofs.lemmas.Iterator.Adapters.{position_from-zero}
 use Rattle.std.proofs.lemmas.List.{map-append}
 use Rattle.std.proofs.lemmas.List.Quantifiers.{position-Some}
 use Rattle.std.proofs.lemmas.Map.Text.{btree_map_updates_text}
 use Rattle.std.proofs.lemmas.Slice.Eq.{bytes_eq-Decides}
-use Rattle.document_tables.specs.Names.{AreNumbersOf}
+use Rattle.document_tables.specs.Names.{AreNumbersOf, AreOwn}
 use Rattle.document_tables.proofs.LinkSteps.{nowhere_any}
 
 -- ---- one of them
@@ -89,15 +89,47 @@ module _ {X : Type 0} (eq : X → X → Bool) (same : (a b : X) → eq a b ≡ t
           ∙ (sym (miss (eq y) 0 xs x (apart x y is)) ∙ sym (position_from-zero (eq y) (xs ++ x ∷ [])))
 
 -- ---- texts
+with_name : (names : List (List ℕ)) (name text : List ℕ) → position (bytes_eq name) names ≡ None
+    → cond (bytes_eq name text) (Some (length names)) (position (bytes_eq text) names) ≡ position (bytes_eq text) (names ++ name ∷ [])
+with_name names name text none = added bytes_eq (λ a b. (bytes_eq-Decides a b).0) (λ a b. (bytes_eq-Decides a b).1) names name text none
+
+at_push : {X : Type 0} (xs : List X) (x y : X) (k : ℕ) → slice_get (xs ++ x ∷ []) k ≡ Some y → (slice_get xs k ≡ Some y) ⊎ ((k ≡ length xs) × (x ≡ y))
+at_push [] x y zero h = inr (refl, cc)
+at_push [] x y (suc k) h = cc
+at_push (z ∷ xs) x y zero h = inl h
+at_push (z ∷ xs) x y (suc k) h = elim (at_push xs x y k h) [
+  | inl here ↦ inl here
+  | inr last ↦ inr (omega (arith, last.0), last.1)
+]
+
+keeps_place : (names : List (List ℕ)) (name other : List ℕ) (number : ℕ) (b : Bool) → bytes_eq name other ≡ b → position (bytes_eq name) names ≡ None
+    → position (bytes_eq other) names ≡ Some number → cond b (Some (length names)) (position (bytes_eq other) names) ≡ Some number
+keeps_place names name other number true is none here =
+    let nowhere = subst (λ (z : List ℕ). position (bytes_eq z) names ≡ None) ((bytes_eq-Decides name other).0 is) none in
+    cc (nowhere, here)
+keeps_place names name other number false is none here = here
+
+-- one more that is new has its own place, and the others keep theirs
+own_more : (names : List (List ℕ)) (name : List ℕ) → AreOwn names → position (bytes_eq name) names ≡ None → AreOwn (names ++ name ∷ [])
+own_more names name own none number other h =
+    let both = with_name names name other none in
+    elim (at_push names name other number h) [
+      | inl here ↦ sym both ∙ keeps_place names name other number (bytes_eq name other) refl none (own number other here)
+      | inr last ↦ sym both
+          ∙ (ap (λ (b : Bool). cond b (Some (length names)) (position (bytes_eq other) names)) ((bytes_eq-Decides name other).1 last.1) ∙ ap Some (sym last.0))
+    ]
+
 pub numbered : (numbers more : BTreeMap (String Global) ℕ) (key : String Global) (number : ℕ) (names : List (List ℕ)) (name : List ℕ)
     → AreNumbersOf numbers names → position (bytes_eq name) names ≡ None → string_bytes key ≡ name → number ≡ length names
     → tree.UpdatesBy string_cmp (λ k. slice_cmp nat_cmp (string_bytes key) (string_bytes k)) numbers more (Some number)
     → AreNumbersOf more (names ++ name ∷ [])
-numbered numbers more key number names name are none bytes next updates = λ text.
-    btree_map_updates_text (string_bytes key) numbers more (Some number) updates text
-    ∙ (ap (λ (o : Option ℕ). cond (bytes_eq (string_bytes key) text) (Some number) o) (are text)
-    ∙ (ap₂ (λ (bs : List ℕ) (n : ℕ). cond (bytes_eq bs text) (Some n) (position (bytes_eq text) names)) bytes next
-    ∙ added bytes_eq (λ a b. (bytes_eq-Decides a b).0) (λ a b. (bytes_eq-Decides a b).1) names name text none))
+numbered numbers more key number names name are none bytes next updates = record {
+  found = λ text. btree_map_updates_text (string_bytes key) numbers more (Some number) updates text
+      ∙ (ap (λ (o : Option ℕ). cond (bytes_eq (string_bytes key) text) (Some number) o) (are.found text)
+      ∙ (ap₂ (λ (bs : List ℕ) (n : ℕ). cond (bytes_eq bs text) (Some n) (position (bytes_eq text) names)) bytes next
+      ∙ with_name names name text none));
+  own = own_more names name are.own none;
+}
 
 -- their texts with one more
 pub pushed : (texts room more : List (String Global)) (text : String Global) (names : List (List ℕ)) (name : List ℕ)

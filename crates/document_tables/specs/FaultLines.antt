@@ -88,5 +88,5 @@ place_text file fault =
 
 abbrev pub fault_line : List ℕ → LineFault → List ℕ
 fault_line file fault =
-    codes "netbound: " ++ (file ++ (codes " line " ++ (decimal fault.line ++ (codes " column " ++ (word_of fault.column ++ (codes ": "
-    ++ (port_text (port_of fault.wrong) ++ (what_of fault.wrong ++ (codes ": " ++ (mend_of fault.column fault.wrong ++ codes "\n"))))))))))
+    place_text file fault ++ (port_text (port_of fault.wrong)
+    ++ (what_of fault.wrong ++ (codes ": " ++ (mend_of fault.column fault.wrong ++ codes "\n"))))

@@ -72,7 +72,7 @@ fn branch_ends(alloc: Global, table: &LinkTable) -> Result<Vec<BranchEnd>, Alloc
         ≡ map (grids.branch_on_grid (map branch_view table.now.branches.items))
         (map branch_view table.now.branches.items)) }
 {
-    let mut ends = Vec::new(alloc);
+    let mut ends = Vec::with_capacity(alloc, table.branches.len())?;
     for place in 0..table.branches.len() {
         ends.push(branch_end(table, &table.branches[place]))?;
     }
@@ -126,21 +126,22 @@ fn document_with(
 }
 
 /// The document of the rows of two tables, or its first fault: by rows, those of ports before those of links, and in a
-/// row by columns. A frame has `overhead` bytes on the wire beside its own, at most 2^20.
+/// row by columns. A frame has `overhead` bytes on the wire beside its own, at most 2^20. Each row of links is let go once
+/// it is read.
 #[tactic(auto, unfolding(crate::specs::Documents::document_of))]
 pub fn read_document(
     alloc: Global,
     port_rows: &[TableRow],
-    link_rows: &[TableRow],
+    link_rows: Vec<TableRow>,
     overhead: u64,
 ) -> Result<Document, DocumentError>
     requires { overhead ≤ 1048576 }
     ensures value { spec.TellsDocument result
-        (spec.document_of overhead (map row_view port_rows.now) (map row_view link_rows.now)) }
+        (spec.document_of overhead (map row_view port_rows.now) (map row_view link_rows.items)) }
     ensures network { IfOk result (λ d. IsNetwork d.network) }
     ensures branches { IfOk result (λ d. All (spec.IsBranchOf d.network) d.branches.items) }
     ensures names { IfOk result spec.HasNames }
-    ensures ways { IfOk result (λ d. AreBranchesOf overhead (map row_view link_rows.now) (spec.document_view d)) }
+    ensures ways { IfOk result (λ d. AreBranchesOf overhead (map row_view link_rows.items) (spec.document_view d)) }
 {
     let ports = match read_ports(alloc, port_rows) {
         Ok(ports) => ports,

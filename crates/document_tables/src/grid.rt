@@ -70,7 +70,7 @@ pub(crate) fn ports_on_grid(alloc: Global, rows: &[PortRow]) -> Result<Vec<Port>
     requires { All IsPortText (map port_view rows.now) }
     ensures { IfOk result (λ ports. map spec.grid_port ports.items ≡ map spec.port_on_grid (map port_view rows.now)) }
 {
-    let mut ports = Vec::new(alloc);
+    let mut ports = Vec::with_capacity(alloc, rows.len())?;
     for place in 0..rows.len() {
         ports.push(port_of(&rows[place])?)?;
     }
@@ -108,7 +108,7 @@ fn nodes_of(
     ensures { IfOk result (λ nodes. nodes.items
         ≡ spec.nodes_of (ports_view ports.now).ports priority tree.now.stops) }
 {
-    let mut nodes = Vec::new(alloc);
+    let mut nodes = Vec::with_capacity(alloc, tree.len())?;
     for place in 0..tree.len() {
         let (port, after) = tree.stop(place);
         nodes.push(node_of(ports, priority, tree, port, after))?;
@@ -151,7 +151,7 @@ pub(crate) fn links_on_grid(
         ≡ spec.links_from (ports_view ports.now).ports overhead (map branch_view table.now.branches.items) 0
         table.now.keys.items) }
 {
-    let mut links = Vec::new(alloc);
+    let mut links = Vec::with_capacity(alloc, table.keys.len())?;
     for number in 0..table.keys.len() {
         links.push(link_of(
             alloc,

@@ -1,22 +1,25 @@
 //! The table of links.
 
-ghost use Rattle.std.specs.Prelude.{◌≡◌, ◌+◌, ◌<◌, ◌≤◌, None, Ok, Err, map, position, length, slice_get, OnOk, IfOk};
+ghost use Rattle.std.specs.Prelude.{◌≡◌, ◌+◌, ◌<◌, ◌≤◌, ◌∷◌, [], None, Ok, Err, map, position, length, slice_get, MatchOption, OnOk, IfOk};
 ghost use Rattle.std.specs.Option.{ForSome};
 ghost use Rattle.std.specs.Str.{bytes_eq};
+ghost use Rattle.std.specs.Vec.Iter.{into_iter_items};
 ghost use Rattle.csv.specs.Records.{fields_of};
 ghost use Rattle.document_rows.specs.LinkRows.{link_view};
+ghost use Rattle.document_rows.specs.Reads.{Tells, at};
 ghost use Rattle.document_rows.specs.declared.fault.Column.TheVariants as column;
 ghost use Rattle.document_rows.specs.declared.fault.RowError.TheVariants as errors;
 ghost use Rattle.document_rows.specs.declared.fault.Wrong.TheVariants as wrongs;
 ghost use Rattle.document_tables.specs.Growing.{HasOwnPorts};
 ghost use Rattle.document_tables.specs.Links as spec;
 ghost use Rattle.document_tables.specs.LinkTrees.{AreTrees, AreAlike, MakesLink};
+ghost use Rattle.document_tables.specs.Paths as on_paths;
 ghost use Rattle.document_tables.specs.Ports.{ports_view};
 ghost use Rattle.document_tables.specs.Ranges.{IsLinkText};
 ghost use Rattle.document_tables.specs.Tables.{Makes, TellsTable, after_rows, row_view};
 
 use crate::fault::{LineError, line_error, no_head};
-use crate::names::{Names, add_name, number_of};
+use crate::names::{Names, add_name, number_near};
 use crate::paths::path_ports;
 use crate::ports::PortTable;
 use crate::trees::Tree;
@@ -27,6 +30,7 @@ use document_rows::{
     row_name,
 };
 use std::alloc::{AllocError, Global};
+use std::vec::IntoIter;
 use table_cells::Amount;
 
 const MOST_LINKS: usize = 16_384;
@@ -206,6 +210,39 @@ fn hang(
     Ok(())
 }
 
+// The path of the newest branch.
+fn newest_path(table: &LinkTable) -> &[usize] {
+    match table.branches.last() {
+        Some(branch) => branch.path.as_slice(),
+        None => &[],
+    }
+}
+
+// The link of the newest branch.
+fn newest_link(table: &LinkTable) -> usize {
+    match table.branches.last() {
+        Some(branch) => branch.link,
+        None => 0,
+    }
+}
+
+// The numbers of the ports of the path of a row, which is often alike to that of the row before.
+fn path_in(
+    alloc: Global,
+    ports: &PortTable,
+    priority: usize,
+    frame: u64,
+    words: &[&[u8]],
+    table: &LinkTable,
+) -> Result<Vec<usize>, RowError>
+    ensures value { Tells (λ path. path.items) result
+        (at column.Path (on_paths.path_ports (ports_view ports.now) priority frame (map (λ word. word.now) words.now))) }
+    ensures own { IfOk result (λ path. HasOwnPorts path.items) }
+    ensures all { IfOk result (λ path. length path.items ≡ length words.now) }
+{
+    path_ports(alloc, ports, priority, frame, words, newest_path(table))
+}
+
 // Puts the branch of a row behind the others.
 fn add_branch(
     alloc: Global,
@@ -225,7 +262,7 @@ fn add_branch(
     ensures kept { OnOk result (AreTrees table.new) }
 {
     let frame = frame_on_wire(row.largest_frame, overhead);
-    let path = path_ports(alloc, ports, row.priority as usize, frame, &row.path)?;
+    let path = path_in(alloc, ports, row.priority as usize, frame, &row.path, table)?;
     hang(table, link, path, row.deadline)
 }
 
@@ -273,7 +310,7 @@ fn add_row(
         return Err(wrong_name(Wrong::TooManyRows));
     }
     let name = row_name(head.width, head.name, row)?;
-    let number = has_room(table, number_of(&table.names, name))?;
+    let number = has_room(table, number_near(&table.names, name, newest_link(table)))?;
     let row = link_row(alloc, head, row)?;
     put_row(alloc, ports, overhead, table, name, number, &row)
 }
@@ -297,11 +334,11 @@ fn links_under(
     ports: &PortTable,
     overhead: u64,
     head: &LinkHead,
-    rows: &[TableRow],
+    rows: IntoIter<TableRow, Global>,
 ) -> Result<LinkTable, LineError>
     requires { overhead ≤ 1048576 }
     ensures value { TellsTable spec.links_view result
-        (after_rows (spec.with_row (ports_view ports.now) overhead head.now) spec.no_links (map row_view rows.now)) }
+        (after_rows (spec.with_row (ports_view ports.now) overhead head.now) spec.no_links (map row_view (into_iter_items rows))) }
     ensures kept { IfOk result AreTrees }
 {
     let mut table = no_links(alloc);
@@ -314,21 +351,32 @@ fn links_under(
     Ok(table)
 }
 
+// The first of some rows, and those behind it.
+fn first_and_rest(rows: Vec<TableRow>) -> Option<(TableRow, IntoIter<TableRow, Global>)>
+    ensures { MatchOption result (rows.items ≡ []) (λ both. rows.items ≡ both.0 ∷ into_iter_items both.1) }
+{
+    let mut rest = rows.into_iter();
+    match rest.next() {
+        None => None,
+        Some(first) => Some((first, rest)),
+    }
+}
+
 /// The links of the rows of a table over ports, or its first fault. A frame has `overhead` bytes on the wire beside its
-/// own, at most 2^20.
+/// own, at most 2^20. Each row is let go once it is read.
 #[tactic(auto, unfolding(crate::specs::Tables::table_of))]
 pub fn read_links(
     alloc: Global,
     ports: &PortTable,
     overhead: u64,
-    rows: &[TableRow],
+    rows: Vec<TableRow>,
 ) -> Result<LinkTable, LineError>
     requires { overhead ≤ 1048576 }
     ensures value { TellsTable spec.links_view result
-        (spec.links_of (ports_view ports.now) overhead (map row_view rows.now)) }
+        (spec.links_of (ports_view ports.now) overhead (map row_view rows.items)) }
     ensures kept { IfOk result AreTrees }
 {
-    let [first, rest @ ..] = rows else {
+    let Some((first, rest)) = first_and_rest(rows) else {
         return Err(no_head());
     };
     match link_head(&first.cells) {

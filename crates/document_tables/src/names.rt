@@ -1,21 +1,26 @@
 //! Names by their numbers.
 
-ghost use Rattle.std.specs.Prelude.{◌≡◌, ◌++◌, ◌∷◌, ◌<◌, [], not, map, option_map, slice_get, IfSome, IfOk, OnOk, None, true, length};
+ghost use Rattle.std.specs.Prelude.{◌≡◌, ◌++◌, ◌∷◌, ◌<◌, [], not, map, option_map, slice_get, IfSome, IfOk, OnOk, None, Some, true, length};
 ghost use Rattle.std.specs.List.{list_any, position};
 ghost use Rattle.std.specs.Str.{bytes_eq};
 ghost use Rattle.std.specs.String.{string_bytes};
-ghost use Rattle.document_tables.specs.Names.{AreNumbersOf};
+ghost use Rattle.document_tables.specs.Names.{AreNumbersOf, AreOwn};
 
 use std::alloc::{AllocError, Global};
 use std::collections::BTreeMap;
 use std::marker::Model;
 
+// How many slots there are.
+const SLOTS: u64 = 8_192;
+
 /// Names by their numbers, in the order in which they came: contracts see the list of their texts. Each is found among
-/// the others in their order, so that no choice of names makes it slow.
+/// the others in their order, so that no choice of names makes it slow; most are found before at the number that their
+/// slot has.
 #[derive(Drop)]
 pub struct Names {
     texts: Vec<String>,
     numbers: BTreeMap<String, usize>,
+    slots: Vec<usize>,
 }
 
 impl Model for Names {
@@ -38,6 +43,7 @@ impl Names {
         Names {
             texts: Vec::new(alloc),
             numbers: BTreeMap::new(alloc),
+            slots: Vec::new(alloc),
         }
     }
 
@@ -57,14 +63,90 @@ impl Names {
             None => None,
         }
     }
+
+    // No two names are one, as the numbers show.
+    fn are_own(&self)
+        ensures { AreOwn self.now }
+    {
+        let _count = self.texts.len();
+    }
 }
 
-/// The number of a name.
-pub(crate) fn number_of(names: &Names, name: &str) -> Option<usize>
+// The number of a name.
+fn number_of(names: &Names, name: &str) -> Option<usize>
     ensures value { result ≡ position (bytes_eq name.now) names.now }
     ensures within { IfSome result (λ n. n < length names.now) }
 {
     names.numbers.get(name).copied()
+}
+
+// Whether a name has this number.
+fn is_named(names: &Names, number: usize, name: &str) -> bool
+    ensures { result ≡ true → slice_get names.now number ≡ Some name.now }
+{
+    match names.get(number) {
+        Some(text) => text == name,
+        None => false,
+    }
+}
+
+// The slot of a name.
+fn slot_of(name: &str) -> usize {
+    let mut sum: u64 = 0;
+    for byte in name.as_bytes() {
+        sum = sum.wrapping_mul(31).wrapping_add(*byte as u64);
+    }
+    (sum % SLOTS) as usize
+}
+
+// The number of the name that took the slot of this one last.
+fn number_in_slot(names: &Names, name: &str) -> usize {
+    match names.slots.get(slot_of(name)) {
+        Some(number) => *number,
+        None => 0,
+    }
+}
+
+// Puts a number into the slot of its name.
+fn take_slot(
+    alloc: Global,
+    slots: &mut Vec<usize>,
+    name: &str,
+    number: usize,
+) -> Result<(), AllocError> {
+    if slots.is_empty() {
+        *slots = vec![in alloc; 0; SLOTS as usize]?;
+    }
+    let slot = slot_of(name);
+    if slot < slots.len() {
+        slots[slot] = number;
+    }
+    Ok(())
+}
+
+// The number of a name, which is mostly in its slot.
+fn number_by_slot(names: &Names, name: &str) -> Option<usize>
+    ensures value { result ≡ position (bytes_eq name.now) names.now }
+    ensures within { IfSome result (λ n. n < length names.now) }
+{
+    names.are_own();
+    let near = number_in_slot(names, name);
+    if is_named(names, near, name) {
+        return Some(near);
+    }
+    number_of(names, name)
+}
+
+/// The number of a name. It is found at once where it is this one.
+pub(crate) fn number_near(names: &Names, name: &str, near: usize) -> Option<usize>
+    ensures value { result ≡ position (bytes_eq name.now) names.now }
+    ensures within { IfSome result (λ n. n < length names.now) }
+{
+    names.are_own();
+    if is_named(names, near, name) {
+        return Some(near);
+    }
+    number_by_slot(names, name)
 }
 
 // Puts a text that is new behind others, under the next number.
@@ -96,6 +178,8 @@ pub(crate) fn add_name(alloc: Global, names: &mut Names, name: &str) -> Result<b
     if number_of(names, name).is_some() {
         return Ok(false);
     }
+    let number = names.texts.len();
     push_text(alloc, &mut names.texts, &mut names.numbers, name)?;
+    take_slot(alloc, &mut names.slots, name, number)?;
     Ok(true)
 }

@@ -9,7 +9,7 @@ ghost use Rattle.document_tables.specs.Paths as spec;
 ghost use Rattle.document_tables.specs.Growing.{HasOwnPorts};
 ghost use Rattle.document_tables.specs.Ports.{ports_view};
 
-use crate::names::number_of;
+use crate::names::number_near;
 use crate::ports::PortTable;
 use document_rows::{CellFault, Column, RowError, Wrong};
 use std::alloc::Global;
@@ -62,29 +62,30 @@ fn takes(
     Ok(number)
 }
 
-// The number of the port that a word names.
-fn port_named(table: &PortTable, word: &[u8]) -> Option<usize>
+// The number of the port that a word names, which may be this one.
+fn port_named(table: &PortTable, word: &[u8], near: usize) -> Option<usize>
     ensures { result ≡ spec.port_named table.now.names word.now }
 {
     if !is_name(word) {
         return None;
     }
-    number_of(&table.names, name_text(word))
+    number_near(&table.names, name_text(word), near)
 }
 
-// The number of the port behind those before it in a path.
+// The number of the port behind those before it in a path, which may be a near one.
 fn next_port(
     table: &PortTable,
     priority: usize,
     frame: u64,
     before: &[usize],
     word: &[u8],
+    near: usize,
 ) -> Result<usize, Wrong>
     ensures value { result ≡ spec.next_port (ports_view table.now) priority frame before.now word.now }
     ensures own { IfOk result (λ n. list_any (λ m. m == n) before.now ≡ false) }
 {
     let place = before.len() + 1;
-    let Some(number) = port_named(table, word) else {
+    let Some(number) = port_named(table, word, near) else {
         return Err(Wrong::UnknownPort(place));
     };
     if before.contains(&number) {
@@ -96,22 +97,39 @@ fn next_port(
     }
 }
 
-/// The numbers of the ports of a path, of a link of a priority and a frame.
+// Where a port of a path is looked for first: at its place in a path that may be alike.
+fn near_at(path: &[usize], place: usize) -> usize {
+    match path.get(place) {
+        Some(number) => *number,
+        None => 0,
+    }
+}
+
+/// The numbers of the ports of a path, of a link of a priority and a frame. Those that it shares with a near path, place by
+/// place, are found at once.
 pub(crate) fn path_ports(
     alloc: Global,
     table: &PortTable,
     priority: usize,
     frame: u64,
     words: &[&[u8]],
+    near: &[usize],
 ) -> Result<Vec<usize>, RowError>
     ensures value { Tells (λ path. path.items) result
         (at column.Path (spec.path_ports (ports_view table.now) priority frame (map (λ word. word.now) words.now))) }
     ensures own { IfOk result (λ path. HasOwnPorts path.items) }
     ensures all { IfOk result (λ path. length path.items ≡ length words.now) }
 {
-    let mut path = Vec::new(alloc);
+    let mut path = Vec::with_capacity(alloc, words.len())?;
     for place in 0..words.len() {
-        match next_port(table, priority, frame, &path, word_at(words, place)) {
+        match next_port(
+            table,
+            priority,
+            frame,
+            &path,
+            word_at(words, place),
+            near_at(near, place),
+        ) {
             Ok(number) => path.push(number)?,
             Err(wrong) => return Err(RowError::Cell(CellFault {
                 column: Column::Path,

@@ -1,11 +1,9 @@
--- The services of a queue, and its row, as the calls make them.
-use Rattle.std.specs.Prelude.{◌≡◌, ◌⊎◌, ◌<◌, ◌*◌, ◌^◌, ◌++◌, ◌∷◌, [], ℕ, zero, suc, List, All, Contains, get_or, sum, Option, Some}
+-- The services of a queue, as the calls make them.
+use Rattle.std.specs.Prelude.{◌≡◌, ◌⊎◌, ◌<◌, ◌*◌, ◌^◌, ◌++◌, ◌∷◌, [], ℕ, List, All, Contains, get_or, sum}
 use Rattle.std.specs.declared.vec.Vec.{Vec}
 use Rattle.std.specs.declared.alloc.Global.{Global}
-use Rattle.std.proofs.Common.{arith, sym, refl, inl, inr, subst}
+use Rattle.std.proofs.Common.{sym, refl, inl, inr, subst}
 use Rattle.std.proofs.lemmas.List.Elements.{All-append, All-cons, All-nil, All-contains, Contains-get_or, Contains-append_left, Contains-push, Contains-push_cases}
-use Rattle.arrival_lines.specs.declared.grid.Part.{Part}
-use Rattle.arrival_lines.specs.declared.grid.Queue.{Queue}
 use Rattle.arrival_lines.specs.declared.grid.Service.{Service}
 use Rattle.tree_network.specs.declared.network.Discipline.{Discipline}
 use Rattle.tree_network.specs.declared.network.Discipline.TheVariants.{Priority, Drr}
@@ -13,7 +11,6 @@ use Rattle.tree_network.specs.declared.network.Port.{Port}
 use Rattle.port_bounds.specs.Ports.{port_service}
 use Rattle.port_bounds.specs.Incoming.{Incoming, queue_in, joined_parts, longest_frame_of, longest_frames_of, before, behind}
 use Rattle.port_bounds.specs.Services.{IsLeft, round_robin_share, IsServiceAt, IsServiceOf, AreAll}
-use Rattle.port_bounds.specs.Rows.{IsLeastRow, IsRowBy, IsRow}
 
 -- ---- the services by the discipline
 pub priority_services : (port : Port) (queues some : List Incoming) (q n frame : ℕ) (own : Service) (services : List Service) → port.discipline ≡ Priority n
@@ -58,19 +55,6 @@ pub small_push : (one : Service) (services more : List Service) → All (λ (s :
 small_push one services more all small is =
     let P = λ (s : Service). s.debt < 2 ^ 63 in
     subst (λ (xs : List Service). All P xs) (sym is) (All-append P services (one ∷ []) all (All-cons P one [] small (All-nil P)))
-
--- ---- rows
-pub row_empty : (port : Port) (queues : List Incoming) (q : ℕ) → (queue_in queues q).longest ≡ 0 → IsRow port queues q (Some record { delay = 0; backlog = 0 })
-row_empty port queues q h = subst (λ (l : ℕ). IsRowBy port queues q l (queue_in queues q).parts (Some record { delay = 0; backlog = 0 })) (sym h) refl
-
-pub row_known : (port : Port) (queues : List Incoming) (q : ℕ) (parts : List Part) (row : Option Queue) → 0 < (queue_in queues q).longest
-    → (queue_in queues q).parts ≡ Some parts → IsLeastRow port queues q parts row → IsRow port queues q row
-row_known port queues q parts row some known least =
-    subst (λ (o : Option (List Part)). IsRowBy port queues q (queue_in queues q).longest o row) (sym known) (by_length (queue_in queues q).longest some)
-  where
-    by_length : (l : ℕ) → 0 < l → IsRowBy port queues q l (Some parts) row
-    by_length zero h = absurd (omega (arith, h))
-    by_length (suc l) h = least
 
 -- ---- the share of the same numbers
 pub same_share : (own : Service) (Q q F f l k Λ m : ℕ) → Q ≡ q → F ≡ f → l ≡ k → Λ ≡ m → round_robin_share own Q F l Λ ≡ round_robin_share own q f k m

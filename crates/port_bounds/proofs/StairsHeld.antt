@@ -34,8 +34,7 @@ use Rattle.port_bounds.specs.Ports.{server_of}
 use Rattle.port_bounds.specs.Incoming.{Incoming, queue_in}
 use Rattle.port_bounds.specs.Promises.{IsSeenAt, IsHeld}
 use Rattle.port_bounds.specs.Services.{IsServiceOf, AreAll}
-use Rattle.port_bounds.proofs.Held.{is_some, queue_of, rows_are_held}
-use Rattle.port_bounds.proofs.Rowed.{row_empty}
+use Rattle.port_bounds.proofs.Held.{empty_is_held, is_some, queue_of}
 use Rattle.port_bounds.proofs.Served.{value_of, service_serves}
 use Rattle.arrival_stairs.specs.Queues.{IsKept, IsLeastOfBoth}
 use Rattle.arrival_stairs.proofs.Lined.{least_of_both_is_kept}
@@ -130,10 +129,8 @@ held_by : (port : Port) (queues : List StairsIn) (q : ℕ) (queue : Queue) (end 
 unfolding is_some queue_of
 held_by port queues q queue end V zero bundles range bounded count inside seen empty known row =
     let is : record { delay = 0; backlog = 0 } ≡ queue = ap queue_of (sym row) in
-    let m = length-map queues line_incoming in
     subst (λ (w : Queue). IsHeld w q end V) is
-    (rows_are_held port (line_incomings queues) q record { delay = 0; backlog = 0 } end V range (m ∙ count) (omega (arith, m, inside))
-    (row_empty port (line_incomings queues) q (ap (λ (w : Incoming). w.longest) (at_line queues q) ∙ empty)) (seen_by_lines port queues end V bounded seen))
+    (empty_is_held port (line_incomings queues) q end V (seen_by_lines port queues end V bounded seen) (ap (λ (w : Incoming). w.longest) (at_line queues q) ∙ empty))
 held_by port queues q queue end V (suc longest) None range bounded count inside seen some known row = absurd (subst is_some row tt)
 held_by port queues q queue end V (suc longest) (Some bundles) range bounded count inside seen some known row = record {
   delays = delay_held port queues q queue bundles row.services end V range bounded count inside seen known row.all row.least;

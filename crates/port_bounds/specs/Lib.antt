@@ -2,7 +2,6 @@ pub mod Ports
 pub mod Incoming
 pub mod Ranges
 pub mod Services
-pub mod Rows
 pub mod Promises
 pub mod StairsIncoming
 pub mod StairRows

@@ -1,7 +1,7 @@
--- What a row promises: in every lawful view of the port whose queues keep their parts, whose packets are no longer than their queue's longest
--- frame and whose work keeps the port's service curve, no packet of the queue stays longer than the delay, and the queue never holds more
+-- A lawful view of a port whose queues keep their parts, whose packets are no longer than their queue's longest frame and whose work keeps the
+-- port's service curve; and what a row promises of a view: no packet of the queue stays longer than the delay, and the queue never holds more
 -- bits than the backlog.
-use Rattle.std.specs.Prelude.{Option, Some, ◌≡◌, ◌<◌, ℕ, List, length}
+use Rattle.std.specs.Prelude.{Some, ◌≡◌, ℕ, List}
 use Rattle.rational.specs.Rational.{ℚ, ◌≤ℚ◌}
 use Rattle.rational.specs.Extended.{◌≤ₑ◌}
 use Rattle.rational.specs.declared.Extended.TheVariants.{Fin}
@@ -12,11 +12,9 @@ use Rattle.run_laws.specs.Delays.{hop_delays, AreAtMost, backlog}
 use Rattle.arrival_lines.specs.Grid.{micros, parts_value}
 use Rattle.arrival_lines.specs.declared.grid.Part.{Part}
 use Rattle.arrival_lines.specs.declared.grid.Queue.{Queue}
-use Rattle.tree_network.specs.Networks.{PortIsInRange, queues_of}
 use Rattle.tree_network.specs.declared.network.Port.{Port}
 use Rattle.port_bounds.specs.Ports.{server_of, service_curve}
 use Rattle.port_bounds.specs.Incoming.{Incoming, queue_in}
-use Rattle.port_bounds.specs.Rows.{IsRow}
 
 pub record IsSeenAt (port : Port) (queues : List Incoming) (end : ℚ) (view : List ServerStep) : Type 0 where
   pub lawful : IsLawfulView (server_of port) end view
@@ -28,8 +26,3 @@ pub record IsSeenAt (port : Port) (queues : List Incoming) (end : ℚ) (view : L
 pub record IsHeld (queue : Queue) (q : ℕ) (end : ℚ) (view : List ServerStep) : Type 0 where
   pub delays : AreAtMost (Fin (micros queue.delay)) (hop_delays (of_queue q) end view)
   pub backlogs : (t : ℚ) → t ≤ℚ end → Fin (backlog (of_queue q) view t) ≤ₑ Fin (whole queue.backlog)
-
-abbrev pub RowsAreHeld : Type 0
-RowsAreHeld = (port : Port) (queues : List Incoming) (q : ℕ) (queue : Queue) (end : ℚ) (view : List ServerStep)
-    → PortIsInRange port → length queues ≡ queues_of port.discipline → q < length queues
-    → IsRow port queues q (Some queue) → IsSeenAt port queues end view → IsHeld queue q end view

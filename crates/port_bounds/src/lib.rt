@@ -4,12 +4,10 @@
 
 mod arrivals;
 mod by_stairs;
-mod rows;
 mod services;
 mod stair_arrivals;
 
 pub use arrivals::Arrivals;
 pub use by_stairs::{stair_rows, stair_rows_are_held};
-pub use rows::{port_rows, rows_are_held};
 pub use services::{own_service, services_of};
 pub use stair_arrivals::StairArrivals;

@@ -89,17 +89,22 @@ at_port net plan s v numbers is h at e =
     let count = length-map plan.at.items (λ w. w.items) in
     e ∙ sym (list_of plan.at.items s v (omega (arith, count, is.at.count, h)) at) ∙ is.at.each s h
 
-pub in_its_queue : (net : Network) (plan : Plan) (s q : ℕ) (spots : List Spot) (numbers found : List ℕ) → IsPlanOf net plan → spots ≡ plan.spots.items
-    → numbers ≡ spots_at_port (spots_of net) s (length net.ports.items + 1) → found ≡ filter (is_of_queue spots q) numbers
+-- those of a queue, by the spots and the numbers that the code reads of its plan
+pub queue_spots : (net : Network) (plan : Plan) (s q : ℕ) (spots : List Spot) (v : Vec ℕ Global) (numbers found : List ℕ) → IsPlanOf net plan → s < length net.ports.items
+    → v ≡ get_or plan.at.items s v → numbers ≡ v.items → spots ≡ plan.spots.items → found ≡ filter (is_of_queue spots q) numbers
     → found ≡ spots_in_queue (spots_of net) s q (length net.ports.items + 1)
-in_its_queue net plan s q spots numbers found is e f g =
-    g ∙ ap₂ (λ (ss : List Spot) (ns : List ℕ). filter (is_of_queue ss q) ns) (e ∙ is.spots) f ∙ in_queue (spots_of net) s q (length net.ports.items + 1)
+queue_spots net plan s q spots v numbers found is h at e same f =
+    let listed = at_port net plan s v numbers is h at e in
+    f ∙ ap₂ (λ (ss : List Spot) (ns : List ℕ). filter (is_of_queue ss q) ns) (same ∙ is.spots) listed ∙ in_queue (spots_of net) s q (length net.ports.items + 1)
 
-pub its_groups : (net : Network) (plan : Plan) (stair : ℕ → Option Stair) (s q : ℕ) (spots : List Spot) (numbers : List ℕ) (groups : List Group) → IsPlanOf net plan
-    → spots ≡ plan.spots.items → numbers ≡ spots_in_queue (spots_of net) s q (length net.ports.items + 1) → groups ≡ grouped spots (λ n. line_of (stair n)) numbers
+pub queue_groups : (net : Network) (plan : Plan) (stair : ℕ → Option Stair) (s q : ℕ) (spots : List Spot) (v : Vec ℕ Global) (numbers found : List ℕ)
+    (spots_again : List Spot) (found_again : List ℕ) (groups : List Group) → IsPlanOf net plan → s < length net.ports.items
+    → v ≡ get_or plan.at.items s v → numbers ≡ v.items → spots ≡ plan.spots.items → found ≡ filter (is_of_queue spots q) numbers
+    → spots_again ≡ plan.spots.items → found_again ≡ found → groups ≡ grouped spots_again (λ n. line_of (stair n)) found_again
     → groups ≡ groups_at (spots_of net) (λ n. line_of (stair n)) s q (length net.ports.items + 1)
-its_groups net plan stair s q spots numbers groups is e f g =
-    g ∙ ap₂ (λ (ss : List Spot) (ns : List ℕ). grouped ss (λ n. line_of (stair n)) ns) (e ∙ is.spots) f
+queue_groups net plan stair s q spots v numbers found spots_again found_again groups is h at e same f again found_is g =
+    let own = found_is ∙ queue_spots net plan s q spots v numbers found is h at e same f in
+    g ∙ ap₂ (λ (ss : List Spot) (ns : List ℕ). grouped ss (λ n. line_of (stair n)) ns) (again ∙ is.spots) own
     ∙ grouped_at (spots_of net) (λ n. line_of (stair n)) s q (length net.ports.items + 1)
 
 pub are_in_groups : (net : Network) (line : ℕ → Option Line) (s q : ℕ) (groups : List Group) (numbers : List ℕ)

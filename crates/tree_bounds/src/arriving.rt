@@ -64,7 +64,7 @@ fn of_queue(
 {
     let mut found = Vec::new(alloc);
     for n in numbers {
-        if spots[*n].queue == q {
+        if spots[*n].queue as usize == q {
             found.push(*n)?;
         }
     }

@@ -44,7 +44,7 @@ fn group_of_one(spot: Spot, line: Option<Line>) -> Group
 {
     match line {
         None => Group {
-            source: spot.source,
+            source: spot.source as usize,
             burst: 0,
             rate: 0,
             longest: spot.frame,
@@ -52,7 +52,7 @@ fn group_of_one(spot: Spot, line: Option<Line>) -> Group
             count: 1,
         },
         Some(line) => Group {
-            source: spot.source,
+            source: spot.source as usize,
             burst: line.burst as u128,
             rate: line.rate as u128,
             longest: spot.frame,

@@ -115,7 +115,7 @@ fn first_stair_at(network: &Network, spot: Spot) -> Option<Stair>
     ensures range { IfSome result (λ stair. IsStair stair) }
 {
     if spot.source == 0 {
-        stair_of(&network.links[spot.link])
+        stair_of(&network.links[spot.link as usize])
     } else {
         None
     }
@@ -151,6 +151,6 @@ pub(crate) fn pass_on(
 {
     for n in numbers {
         let from = spots[*n].from;
-        stairs[*n] = stair_after(stairs[from], rows[spots[from].queue]);
+        stairs[*n] = stair_after(stairs[from], rows[spots[from].queue as usize]);
     }
 }

@@ -52,10 +52,11 @@ abbrev pub spots_of : Network → List Spot
 spots_of net = spots_below net (length net.links.items)
 
 -- ---- what holds of each
--- each node of a link but the first hangs on one before it, at a port of few
+-- each node of a link but the first hangs on one before it, at a port of few, in a queue of few
 pub record HangsTogether (link : Link) : Type 0 where
   pub hangs : (place : ℕ) → place < length link.nodes.items → HangsBefore place (node_at link place).from
   pub ports : (place : ℕ) → place < length link.nodes.items → (node_at link place).port < 4096
+  pub queues : (place : ℕ) → place < length link.nodes.items → (node_at link place).queue < 8
 
 -- frames come from the spot before, which is of the same link
 abbrev pub ComesFrom : List Spot → Spot → ℕ → ℕ → Type 0

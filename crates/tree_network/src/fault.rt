@@ -3,7 +3,7 @@
 use std::alloc::{AllocError, AllocFailed};
 
 /// Why a network has no order.
-#[derive(Debug, Drop)]
+#[derive(Drop)]
 pub enum Fault {
     /// Ports that come back to the first of them: from each to the next some link goes. Which ring this is the network
     /// determines.

@@ -38,7 +38,7 @@ pub(crate) fn by_source(
 {
     let mut lists = empty_lists(alloc, sources)?;
     for n in 0..spots.len() {
-        add_to(&mut lists, spots[n].source, n)?;
+        add_to(&mut lists, spots[n].source as usize, n)?;
     }
     Ok(lists)
 }
@@ -56,7 +56,7 @@ fn add_spots(
         ≡ list_at (lists_of lists.old.items) s ++ filter (λ n. (spot_at spots.now n).port == s) numbers.now) }
 {
     for n in numbers {
-        add_to(lists, spots[*n].port, *n)?;
+        add_to(lists, spots[*n].port as usize, *n)?;
     }
     Ok(())
 }

@@ -24,7 +24,7 @@ fn waiting_at(alloc: Global, spots: &[Spot], ports: usize) -> Result<Vec<usize>,
     let mut waiting = vec![in alloc; 0; ports]?;
     for spot in spots {
         if spot.source > 0 {
-            waiting[spot.port] += 1;
+            waiting[spot.port as usize] += 1;
         }
     }
     Ok(waiting)
@@ -60,7 +60,7 @@ fn release(
     ensures more { OnOk result (Begins ready.old.items ready.new.items) }
 {
     for n in numbers {
-        let port = spots[*n].port;
+        let port = spots[*n].port as usize;
         let left = waiting[port] - 1;
         waiting[port] = left;
         if left == 0 {

@@ -57,7 +57,7 @@ fn waits_for(spots: &[Spot], numbers: &[usize], is_done: &[bool]) -> Option<usiz
         (λ a. IsFirstLateFrom spots.now is_done.now numbers.now a) }
 {
     for n in numbers {
-        if let Some(port) = late_source(spots[*n].source, is_done) {
+        if let Some(port) = late_source(spots[*n].source as usize, is_done) {
             return Some(port);
         }
     }

@@ -1,6 +1,6 @@
 //! The spots of a network: the nodes of its links' trees, with numbers.
 
-ghost use Rattle.std.specs.Prelude.{◌≡◌, ◌<◌, ◌+◌, ◌^◌, ◌++◌, ℕ, length, IfOk, OnOk};
+ghost use Rattle.std.specs.Prelude.{◌≡◌, ◌<◌, ◌≤◌, ◌+◌, ◌^◌, ◌++◌, ℕ, length, IfOk, OnOk};
 ghost use Rattle.std.specs.Option.{ForSome};
 ghost use Rattle.tree_network.specs.Networks.{HangsBefore, IsNetwork, node_at};
 ghost use Rattle.tree_network.specs.Spots.{HangsTogether, SpotsAreInRange, number_before, source_in, spots_in, spots_of};
@@ -8,28 +8,29 @@ ghost use Rattle.tree_network.specs.Spots.{HangsTogether, SpotsAreInRange, numbe
 use crate::network::{Link, Network};
 use std::alloc::{AllocError, Global};
 
-/// A node of a link's tree.
+/// A node of a link's tree. It is kept short, since ports look at their spots all over the list of these.
 #[derive(Clone, Copy)]
 pub struct Spot {
-    /// The number of the link.
-    pub link: usize,
     /// The longest frame of the link, in bits.
     pub frame: u64,
-    /// The number of the port.
-    pub port: usize,
-    /// The queue of the link's frames there.
-    pub queue: usize,
-    /// Where its frames come from: 0 where they begin, else one more than the number of the port before.
-    pub source: usize,
     /// The number of the spot before; its own where its frames begin.
     pub from: usize,
+    /// The number of the link.
+    pub link: u32,
+    /// The number of the port.
+    pub port: u32,
+    /// The queue of the link's frames there.
+    pub queue: u32,
+    /// Where its frames come from: 0 where they begin, else one more than the number of the port before.
+    pub source: u32,
 }
 
 /// Where the frames of a link's node come from: 0 where they begin, else one more than the number of the port before.
 fn source_of(link: &Link, from: Option<usize>) -> usize
     requires inside { ForSome from (λ place. place < length link.now.nodes.items) }
     requires small { (k : ℕ) → k < length link.now.nodes.items → (node_at link.now k).port < 4096 }
-    ensures { result ≡ source_in link.now from }
+    ensures value { result ≡ source_in link.now from }
+    ensures small { result ≤ 4096 }
 {
     match from {
         None => 0,
@@ -51,19 +52,25 @@ fn spot_before(first: usize, place: usize, from: Option<usize>) -> usize
 
 /// Adds the spots of a link of this number.
 fn add_link(spots: &mut Vec<Spot>, link: &Link, number: usize) -> Result<(), AllocError>
-    requires { HangsTogether link.now }
+    requires hangs { HangsTogether link.now }
+    requires small { number < 16384 }
     ensures { OnOk result (spots.new.items ≡ spots.old.items ++ spots_in number (length spots.old.items) link.now (length link.now.nodes.items)) }
 {
     for place in 0..link.nodes.len() {
         let node = link.nodes[place];
         let first = spots.len() - place;
+        let before = source_of(link, node.from);
+        let own = number as u32;
+        let port = node.port as u32;
+        let queue = node.queue as u32;
+        let source = before as u32;
         spots.push(Spot {
-            link: number,
             frame: link.frame,
-            port: node.port,
-            queue: node.queue,
-            source: source_of(link, node.from),
             from: spot_before(first, place, node.from),
+            link: own,
+            port,
+            queue,
+            source,
         })?;
     }
     Ok(())

@@ -1,4 +1,4 @@
-use Rattle.std.proofs.Common.{◌≡◌, nat_le, true, length, Ok, Err, sym, ap, subst, ◌∙◌, arith}
+use Rattle.std.proofs.Common.{◌≡◌, nat_le, true, length, Err, sym, ap, subst, ◌∙◌, arith}
 use Rattle.std.proofs.lemmas.List.{length-map}
 use Rattle.csv.specs.Records.{fields_of}
 use Rattle.document_rows.specs.LinkRows.{link_view}
@@ -37,7 +37,7 @@ returns-in_err-number-clause-value c =
     let few = few_rows c.args.table.now.branches.items (omega (arith, c.len.ensures, c.if-len-ge-MOST_BRANCHES.false)) in
     handed_on c.from_residual-in_err-number.result (Cell c.in_err-number.field-0.0) (with_row ports c.args.overhead c.args.head.now before row) before c.from_residual-in_err-number.ensures.1
     (no_room ports c.args.overhead c.args.head.now before row few c.in_ok-name.name.now (sym c.in_ok-name.ensures) c.in_err-number.field-0.0
-    (ap (has_room before) (sym c.number_of.ensures.value) ∙ sym c.in_err-number.ensures.value))
+    (ap (has_room before) (sym c.number_near.ensures.value) ∙ sym c.in_err-number.ensures.value))
 
 pub returns-in_err-row-clause-value : goal.returns-in_err-row-clause-value
 returns-in_err-row-clause-value c =
@@ -47,7 +47,7 @@ returns-in_err-row-clause-value c =
     let few = few_rows c.args.table.now.branches.items (omega (arith, c.len.ensures, c.if-len-ge-MOST_BRANCHES.false)) in
     handed_on c.from_residual-in_err-row.result c.in_err-row.field-0.0 (with_row ports c.args.overhead c.args.head.now before row) before c.from_residual-in_err-row.ensures.1
     (no_text ports c.args.overhead c.args.head.now before row few c.in_ok-name.name.now (sym c.in_ok-name.ensures) c.in_ok-number.number
-    (ap (has_room before) (sym c.number_of.ensures.value) ∙ sym c.in_ok-number.ensures.value) link_view c.in_err-row.field-0.0 before c.in_err-row.ensures)
+    (ap (has_room before) (sym c.number_near.ensures.value) ∙ sym c.in_ok-number.ensures.value) link_view c.in_err-row.field-0.0 before c.in_err-row.ensures)
 
 pub put_row-requires-clause-row : goal.put_row-requires-clause-row
 put_row-requires-clause-row c = link_says c.args.head.now (fields_of c.args.row.now) (link_view c.in_ok-row.row) c.in_ok-row.ensures
@@ -59,6 +59,6 @@ returns-clause-value c =
     let row = fields_of c.args.row.now in
     let few = few_rows c.args.table.now.branches.items (omega (arith, c.len.ensures, c.if-len-ge-MOST_BRANCHES.false)) in
     let same = to_text ports c.args.overhead c.args.head.now before row few c.in_ok-name.name.now (sym c.in_ok-name.ensures) c.in_ok-number.number
-    (ap (has_room before) (sym c.number_of.ensures.value) ∙ sym c.in_ok-number.ensures.value) (link_view c.in_ok-row.row) c.in_ok-row.ensures
+    (ap (has_room before) (sym c.number_near.ensures.value) ∙ sym c.in_ok-number.ensures.value) (link_view c.in_ok-row.row) c.in_ok-row.ensures
     in
     subst (λ read. Makes c.put_row.result read (links_view c.put_row.new.table)) (sym same) c.put_row.ensures.value

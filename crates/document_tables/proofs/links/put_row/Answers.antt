@@ -1,4 +1,4 @@
-use Rattle.std.proofs.Common.{◌≡◌, Ok, Err, sym, subst}
+use Rattle.std.proofs.Common.{Ok, Err, sym, subst}
 use Rattle.document_rows.specs.LinkRows.{link_view}
 use Rattle.document_tables.specs.declared.links.LinkKeys.{LinkKeys}
 use Rattle.document_tables.specs.LinkTrees.{MakesLink}

@@ -8,7 +8,7 @@ pub returns-clause-value : goal.returns-clause-value
 returns-clause-value c =
     c.copied.ensures
     ∙ (c.get.ensures.value
-    ∙ (c.names.invariant c.args.name.now
+    ∙ (c.names.invariant.found c.args.name.now
     ∙ ap (λ (names : List (List ℕ)). position (bytes_eq c.args.name.now) names) c.names.view_is))
 
 pub returns-clause-within : goal.returns-clause-within
@@ -16,5 +16,5 @@ returns-clause-within c =
     number_within (bytes_eq c.args.name.now) c.args.names.now [] c.copied.result
     (c.copied.ensures
     ∙ (c.get.ensures.value
-    ∙ (c.names.invariant c.args.name.now
+    ∙ (c.names.invariant.found c.args.name.now
     ∙ ap (λ (names : List (List ℕ)). position (bytes_eq c.args.name.now) names) c.names.view_is)))

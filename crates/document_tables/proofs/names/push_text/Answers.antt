@@ -1,8 +1,7 @@
-use Rattle.std.specs.Str.{bytes_eq}
-use Rattle.std.specs.List.{position}
 use Rattle.std.specs.String.{string_bytes}
-use Rattle.std.proofs.Common.{◌≡◌, ℕ, List, map, length, refl, sym, ap, ◌∙◌, arith}
+use Rattle.std.proofs.Common.{◌≡◌, map, length, refl, sym, subst, arith}
 use Rattle.std.proofs.lemmas.List.{length-map}
+use Rattle.document_tables.specs.Names.{AreNumbersOf}
 use Rattle.document_tables.proofs.Named.{numbered, pushed}
 use Rattle.document_tables.proofs.names.push_text.Goals as goal
 
@@ -15,7 +14,7 @@ returns-clause-numbered c =
     let next : c.len-number.result ≡ length names = omega (arith, many, c.len-number.ensures) in
     let are = numbered c.args.numbers.now c.insert.new.self c.in_ok-from_str.field-0 c.len-number.result names name c.requires.numbered c.requires.new c.in_ok-from_str.ensures.ok next c.in_ok-insert.ensures.updates in
     let more = pushed texts c.reserve.new.self.items c.push_reserved.new.self.items c.in_ok-text.text names name refl c.reserve.ensures.items c.push_reserved.ensures.items c.in_ok-text.ensures.ok in
-    λ text. are text ∙ ap (λ (ns : List (List ℕ)). position (bytes_eq text) ns) (sym more)
+    subst (AreNumbersOf c.insert.new.self) (sym more) are
 
 pub returns-clause-grown : goal.returns-clause-grown
 returns-clause-grown c =

@@ -9,7 +9,7 @@ use Rattle.tree_bounds.specs.Lines.{line_of}
 use Rattle.tree_bounds.specs.Onward.{stair_in}
 use Rattle.tree_bounds.specs.Parts.{IsOfNetwork}
 use Rattle.tree_bounds.specs.declared.groups.Group.{Group}
-use Rattle.tree_bounds.proofs.Coming.{are_in_groups, at_port, in_its_queue, its_groups}
+use Rattle.tree_bounds.proofs.Coming.{are_in_groups, at_port, queue_groups, queue_spots}
 use Rattle.tree_bounds.proofs.Grouped.{counts_are, queue_pass}
 use Rattle.tree_bounds.proofs.Ranged.{of_network}
 use Rattle.tree_bounds.proofs.arriving.arrivals_at.Goals as goal
@@ -29,8 +29,8 @@ groups_of-requires-clause-inside c =
     let net = c.args.network.now in
     let plan = c.args.plan.now in
     let q = c.args.q in
-    let at = at_port net plan c.args.port c.index.result.now c.deref-2.result.now c.requires.plan c.requires.port c.index.ensures c.deref-2.ensures.value in
-    let found = in_its_queue net plan c.args.port q c.deref.result.now c.deref-2.result.now c.in_ok-numbers.numbers.items c.requires.plan c.deref.ensures.value at c.in_ok-numbers.ensures in
+    let found = queue_spots net plan c.args.port q c.deref.result.now c.index.result.now c.deref-2.result.now c.in_ok-numbers.numbers.items c.requires.plan c.requires.port
+    c.index.ensures c.deref-2.ensures.value c.deref.ensures.value c.in_ok-numbers.ensures in
     let Q : ℕ → Type 0 = λ n. n < length c.deref-3.result.now in
     let P : List ℕ → Type 0 = λ xs. All Q xs in
     let same = ap length (c.deref-3.ensures.value ∙ c.requires.plan.spots) in
@@ -45,10 +45,9 @@ arrivals-requires c =
     let plan = c.args.plan.now in
     let q = c.args.q in
     let stair = λ (n : ℕ). stair_in c.args.stairs.now n in
-    let at = at_port net plan c.args.port c.index.result.now c.deref-2.result.now c.requires.plan c.requires.port c.index.ensures c.deref-2.ensures.value in
-    let found = in_its_queue net plan c.args.port q c.deref.result.now c.deref-2.result.now c.in_ok-numbers.numbers.items c.requires.plan c.deref.ensures.value at c.in_ok-numbers.ensures in
-    let are = its_groups net plan stair c.args.port q c.deref-3.result.now c.deref-4.result.now c.in_ok-groups.groups.items c.requires.plan
-    c.deref-3.ensures.value (c.deref-4.ensures.value ∙ found) c.in_ok-groups.ensures in
+    let are = queue_groups net plan stair c.args.port q c.deref.result.now c.index.result.now c.deref-2.result.now c.in_ok-numbers.numbers.items
+    c.deref-3.result.now c.deref-4.result.now c.in_ok-groups.groups.items c.requires.plan c.requires.port
+    c.index.ensures c.deref-2.ensures.value c.deref.ensures.value c.in_ok-numbers.ensures c.deref-3.ensures.value c.deref-4.ensures.value c.in_ok-groups.ensures in
     let P : List Group → Type 0 = λ gs. All (IsOfNetwork net) gs in
     subst P (sym (c.deref-5.ensures.value ∙ are))
     (of_network net (spots_of net) (λ n. line_of (stair n)) c.args.port q (length net.ports.items + 1) (in_range net c.requires.network) (omega arith))
@@ -58,8 +57,8 @@ stair_arrivals-requires-clause-inside c =
     let net = c.args.network.now in
     let plan = c.args.plan.now in
     let q = c.args.q in
-    let at = at_port net plan c.args.port c.index.result.now c.deref-2.result.now c.requires.plan c.requires.port c.index.ensures c.deref-2.ensures.value in
-    let found = in_its_queue net plan c.args.port q c.deref.result.now c.deref-2.result.now c.in_ok-numbers.numbers.items c.requires.plan c.deref.ensures.value at c.in_ok-numbers.ensures in
+    let found = queue_spots net plan c.args.port q c.deref.result.now c.index.result.now c.deref-2.result.now c.in_ok-numbers.numbers.items c.requires.plan c.requires.port
+    c.index.ensures c.deref-2.ensures.value c.deref.ensures.value c.in_ok-numbers.ensures in
     let Q : ℕ → Type 0 = λ n. n < length c.args.stairs.now in
     let P : List ℕ → Type 0 = λ xs. All Q xs in
     let same = ap length c.requires.plan.spots in
@@ -72,10 +71,9 @@ stair_arrivals-requires-clause-groups c =
     let plan = c.args.plan.now in
     let q = c.args.q in
     let stair = λ (n : ℕ). stair_in c.args.stairs.now n in
-    let at = at_port net plan c.args.port c.index.result.now c.deref-2.result.now c.requires.plan c.requires.port c.index.ensures c.deref-2.ensures.value in
-    let found = in_its_queue net plan c.args.port q c.deref.result.now c.deref-2.result.now c.in_ok-numbers.numbers.items c.requires.plan c.deref.ensures.value at c.in_ok-numbers.ensures in
-    let are = its_groups net plan stair c.args.port q c.deref-3.result.now c.deref-4.result.now c.in_ok-groups.groups.items c.requires.plan
-    c.deref-3.ensures.value (c.deref-4.ensures.value ∙ found) c.in_ok-groups.ensures in
+    let are = queue_groups net plan stair c.args.port q c.deref.result.now c.index.result.now c.deref-2.result.now c.in_ok-numbers.numbers.items
+    c.deref-3.result.now c.deref-4.result.now c.in_ok-groups.groups.items c.requires.plan c.requires.port
+    c.index.ensures c.deref-2.ensures.value c.deref.ensures.value c.in_ok-numbers.ensures c.deref-3.ensures.value c.deref-4.ensures.value c.in_ok-groups.ensures in
     let P : List Group → Type 0 = λ gs. All (IsOfNetwork net) gs in
     subst P (sym (c.deref-7.ensures.value ∙ are))
     (of_network net (spots_of net) (λ n. line_of (stair n)) c.args.port q (length net.ports.items + 1) (in_range net c.requires.network) (omega arith))
@@ -86,10 +84,11 @@ stair_arrivals-requires-clause-count c =
     let plan = c.args.plan.now in
     let q = c.args.q in
     let stair = λ (n : ℕ). stair_in c.args.stairs.now n in
-    let at = at_port net plan c.args.port c.index.result.now c.deref-2.result.now c.requires.plan c.requires.port c.index.ensures c.deref-2.ensures.value in
-    let found = in_its_queue net plan c.args.port q c.deref.result.now c.deref-2.result.now c.in_ok-numbers.numbers.items c.requires.plan c.deref.ensures.value at c.in_ok-numbers.ensures in
-    let are = its_groups net plan stair c.args.port q c.deref-3.result.now c.deref-4.result.now c.in_ok-groups.groups.items c.requires.plan
-    c.deref-3.ensures.value (c.deref-4.ensures.value ∙ found) c.in_ok-groups.ensures in
+    let found = queue_spots net plan c.args.port q c.deref.result.now c.index.result.now c.deref-2.result.now c.in_ok-numbers.numbers.items c.requires.plan c.requires.port
+    c.index.ensures c.deref-2.ensures.value c.deref.ensures.value c.in_ok-numbers.ensures in
+    let are = queue_groups net plan stair c.args.port q c.deref.result.now c.index.result.now c.deref-2.result.now c.in_ok-numbers.numbers.items
+    c.deref-3.result.now c.deref-4.result.now c.in_ok-groups.groups.items c.requires.plan c.requires.port
+    c.index.ensures c.deref-2.ensures.value c.deref.ensures.value c.in_ok-numbers.ensures c.deref-3.ensures.value c.deref-4.ensures.value c.in_ok-groups.ensures in
     counts_are (spots_of net) c.args.port q c.deref-7.result.now c.deref-6.result.now
     (are_in_groups net (λ n. line_of (stair n)) c.args.port q c.deref-7.result.now c.deref-6.result.now
     (c.deref-7.ensures.value ∙ are) (c.deref-6.ensures.value ∙ found))
@@ -104,10 +103,9 @@ returns-clause-lines c =
     let plan = c.args.plan.now in
     let q = c.args.q in
     let stair = λ (n : ℕ). stair_in c.args.stairs.now n in
-    let at = at_port net plan c.args.port c.index.result.now c.deref-2.result.now c.requires.plan c.requires.port c.index.ensures c.deref-2.ensures.value in
-    let found = in_its_queue net plan c.args.port q c.deref.result.now c.deref-2.result.now c.in_ok-numbers.numbers.items c.requires.plan c.deref.ensures.value at c.in_ok-numbers.ensures in
-    let are = its_groups net plan stair c.args.port q c.deref-3.result.now c.deref-4.result.now c.in_ok-groups.groups.items c.requires.plan
-    c.deref-3.ensures.value (c.deref-4.ensures.value ∙ found) c.in_ok-groups.ensures in
+    let are = queue_groups net plan stair c.args.port q c.deref.result.now c.index.result.now c.deref-2.result.now c.in_ok-numbers.numbers.items
+    c.deref-3.result.now c.deref-4.result.now c.in_ok-groups.groups.items c.requires.plan c.requires.port
+    c.index.ensures c.deref-2.ensures.value c.deref.ensures.value c.in_ok-numbers.ensures c.deref-3.ensures.value c.deref-4.ensures.value c.in_ok-groups.ensures in
     c.in_ok-lines.ensures ∙ ap (incoming_of_groups net) (c.deref-5.ensures.value ∙ are)
 
 pub returns-clause-stairs : goal.returns-clause-stairs
@@ -116,10 +114,11 @@ returns-clause-stairs c =
     let plan = c.args.plan.now in
     let q = c.args.q in
     let stair = λ (n : ℕ). stair_in c.args.stairs.now n in
-    let at = at_port net plan c.args.port c.index.result.now c.deref-2.result.now c.requires.plan c.requires.port c.index.ensures c.deref-2.ensures.value in
-    let found = in_its_queue net plan c.args.port q c.deref.result.now c.deref-2.result.now c.in_ok-numbers.numbers.items c.requires.plan c.deref.ensures.value at c.in_ok-numbers.ensures in
-    let are = its_groups net plan stair c.args.port q c.deref-3.result.now c.deref-4.result.now c.in_ok-groups.groups.items c.requires.plan
-    c.deref-3.ensures.value (c.deref-4.ensures.value ∙ found) c.in_ok-groups.ensures in
+    let found = queue_spots net plan c.args.port q c.deref.result.now c.index.result.now c.deref-2.result.now c.in_ok-numbers.numbers.items c.requires.plan c.requires.port
+    c.index.ensures c.deref-2.ensures.value c.deref.ensures.value c.in_ok-numbers.ensures in
+    let are = queue_groups net plan stair c.args.port q c.deref.result.now c.index.result.now c.deref-2.result.now c.in_ok-numbers.numbers.items
+    c.deref-3.result.now c.deref-4.result.now c.in_ok-groups.groups.items c.requires.plan c.requires.port
+    c.index.ensures c.deref-2.ensures.value c.deref.ensures.value c.in_ok-numbers.ensures c.deref-3.ensures.value c.deref-4.ensures.value c.in_ok-groups.ensures in
     c.in_ok-stairs.ensures c.args.port q
     (are_in_groups net (λ n. line_of (stair n)) c.args.port q c.deref-7.result.now c.deref-6.result.now
     (c.deref-7.ensures.value ∙ are) (c.deref-6.ensures.value ∙ found))

@@ -1,7 +1,7 @@
 use Rattle.std.proofs.Common.{◌<◌, length, arith, sym, ◌∙◌, ap, subst, refl, List, ◌++◌}
 use Rattle.tree_network.specs.declared.spots.Spot.{Spot}
 use Rattle.std.proofs.lemmas.Option.{slice_get_read}
-use Rattle.tree_network.specs.Networks.{IsLink}
+use Rattle.tree_network.specs.Networks.{IsLink, no_port, node_at}
 use Rattle.tree_network.specs.declared.network.Link.{Link}
 use Rattle.tree_network.specs.Spots.{spots_in}
 use Rattle.tree_network.proofs.SpotLists.{below_zero, below_more}
@@ -10,14 +10,21 @@ use Rattle.tree_network.proofs.spots.spots_in_order.Goals as goal
 pub loop-number-init : goal.loop-number-init
 loop-number-init c = c.new-spots.ensures.items ∙ sym (below_zero c.args.network.now)
 
-pub add_link-requires : goal.add_link-requires
-add_link-requires c =
+pub add_link-requires-clause-small : goal.add_link-requires-clause-small
+add_link-requires-clause-small c = omega (arith, c.loop-number-test.true, c.len-number-end.ensures, c.requires.few_links)
+
+pub add_link-requires-clause-hangs : goal.add_link-requires-clause-hangs
+add_link-requires-clause-hangs c =
     let inside : c.loop-number.number < length c.args.network.now.links.items = omega (arith, c.loop-number-test.true, c.len-number-end.ensures) in
     let P : Link → Type 0 = λ l. IsLink c.args.network.now l in
     let l = subst P (sym c.index.ensures) (c.requires.links c.loop-number.number c.index.result.now inside) in
     record {
       hangs = λ place h. (l.nodes place h).hangs;
       ports = λ place h. let lt = (l.nodes place h).port in omega (arith, lt, c.requires.few_ports);
+      queues = λ place h.
+          let node = l.nodes place h in
+          let most = (c.requires.ports (node_at c.index.result.now place).port no_port node.port).queues in
+          omega (arith, node.queue, most);
     }
 
 pub loop-number-preserved : goal.loop-number-preserved
