@@ -3,3 +3,4 @@ pub mod Sites
 pub mod Finding
 pub mod Marks
 pub mod cell_changes
+pub mod cell_values

@@ -17,7 +17,7 @@ use Rattle.net_edits.specs.declared.fault.EditFault.TheVariants.{UnknownName, Na
 use Rattle.net_edits.specs.Edited.{edited}
 use Rattle.net_edits.specs.Replies.{Refuses, IsEdited, IsEditOver, IsOverNone}
 pub use Rattle.cell_rules.specs.cell_changes.Changes.{Touched}
-use Rattle.cell_store.specs.Edits.{EditEnds}
+use Rattle.cell_rules.specs.cell_values.Edits.{EditEnds}
 use Rattle.cell_store.specs.edit_store.Stored.{Stored, networks, AreTouched}
 
 -- an edit gives this network: what it makes of the present one, where the curve that it makes is over no limit

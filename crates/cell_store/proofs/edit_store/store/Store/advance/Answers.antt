@@ -2,10 +2,10 @@ use Rattle.std.proofs.Common.{◌≡◌, ℕ, ◌<◌, ◌^◌, length, ◌++◌
 use Rattle.std.specs.Prelude.{Result, IfErr, OnErr}
 use Rattle.std.proofs.lemmas.Result.{IfOk-from_err, err_from_is_err_and}
 use Rattle.net_model.specs.Networks.{Net}
-use Rattle.cell_store.specs.Placed.{placed}
+use Rattle.cell_rules.specs.cell_values.Placed.{placed}
 use Rattle.net_cells.specs.Order.{evaluation_order}
 use Rattle.cell_rules.specs.cell_changes.Changes.{TouchedOf}
-use Rattle.cell_store.specs.Edits.{EditEnds, at_none, RefusesFor, IsFirstTouched}
+use Rattle.cell_rules.specs.cell_values.Edits.{EditEnds, at_none, RefusesFor, IsFirstTouched}
 use Rattle.version_table.specs.Histories.{History}
 use Rattle.cell_store.specs.declared.edit_store.replaced.Replaced.{Replaced}
 use Rattle.cell_store.specs.edit_store.Stored.{Stored, AreTouched, AreLost}
