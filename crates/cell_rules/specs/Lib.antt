@@ -4,3 +4,4 @@ pub mod Finding
 pub mod Marks
 pub mod cell_changes
 pub mod cell_values
+pub mod edit_sites
