@@ -57,7 +57,7 @@ LABELS = {
     "shifts": ("plain_operators::pointwise::shifts",),
     "closures": ("subadd_closure::",),
     "gauges": ("upp_limits::call_sizes::", "upp_limits::curve_numbers::", "upp_limits::own_limits::"),
-    "who is at a queue": ("cell_eval::found::", "cell_eval::counted::"),
+    "who is at a queue": ("cell_numbers::found::", "cell_eval::counted::"),
     "TOML": ("toml::de", "toml_parser::"),
     "the network's tables": ("net_text::reading",),
     "the network's order": ("net_model::net_graph",),

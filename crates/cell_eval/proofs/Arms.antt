@@ -30,19 +30,19 @@ use Rattle.net_cells.proofs.LeftOf.{before_is}
 use Rattle.net_cells.proofs.Lists.{map_has, filter_has, has_range, range_has}
 use Rattle.net_cells.proofs.Places.{flow_inside}
 use Rattle.net_cells.proofs.Precedes.{some_hop}
-use Rattle.cell_eval.specs.declared.found.Pick.{Pick}
+use Rattle.cell_numbers.specs.declared.found.Pick.{Pick}
 use Rattle.net_cells.specs.cell_table.Gives.{Gives}
-use Rattle.cell_eval.specs.declared.found.Pick.TheVariants.{InQueue, InPart}
+use Rattle.cell_numbers.specs.declared.found.Pick.TheVariants.{InQueue, InPart}
 use Rattle.cell_eval.specs.declared.curve_sums.Partial.{Partial}
-use Rattle.cell_eval.specs.Chosen.{flow_visits, visit_list, picks, is_other, picked, chosen, all_chosen}
+use Rattle.cell_numbers.specs.Chosen.{flow_visits, visit_list, picks, is_other, picked, chosen, all_chosen}
 use Rattle.cell_eval.specs.Partial.{Adds}
 use Rattle.cell_eval.specs.Evaluates.{MayBeMade, Evaluates}
 use Rattle.outcomes.specs.Spending.{Counts}
-use Rattle.cell_eval.specs.Shapes.{Rises, Serving, Grows}
-use Rattle.cell_eval.specs.TableValues.{HasCurve, HasNumber, IsCurveAt, IsNumberAt, Deviate}
+use Rattle.cell_numbers.specs.Shapes.{Rises, Serving, Grows}
+use Rattle.cell_numbers.specs.TableValues.{HasCurve, HasNumber, IsCurveAt, IsNumberAt, Deviate}
 use Rattle.cell_eval.proofs.Rises.{grows_served}
 use Rattle.cell_eval.proofs.Meeting.{InList, meets_below, operand, curve_map, number_map, curve_from, number_from, sum_leaf, served_leaf}
-use Rattle.cell_eval.proofs.Choosing.{queue_visits, other_visits, part_visits}
+use Rattle.cell_numbers.proofs.Choosing.{queue_visits, other_visits, part_visits}
 use Rattle.cell_eval.proofs.Shapes.{in_rises, cross_rises, total_rises, higher_rises, queue_served, hop_served, residual_grows, path_grows, queue_delay_ahead, hop_delay_ahead}
 use Rattle.run_laws.proofs.Members.{Has, has_map, has_flat}
 use Rattle.min_plus.specs.Functions.{IsNonneg}

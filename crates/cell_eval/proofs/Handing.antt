@@ -1,6 +1,6 @@
 -- What calls answer once their curve is shared, and what operands of a formula add to that.
 use Rattle.std.proofs.Common.{◌≡◌, ℕ, List, refl, sym, subst}
-use Rattle.std.specs.Prelude.{Some, Result, Ok, Err, IfOk, IfErr}
+use Rattle.std.specs.Prelude.{Some, Result, Ok, Err, IfOk}
 use Rattle.rational.specs.Rational.{ℚ}
 use Rattle.rational.specs.Extended.{Ext}
 use Rattle.upp_limits.specs.declared.op_kind.OpKind.{OpKind}
@@ -9,7 +9,6 @@ use Rattle.upp_limits.specs.declared.op_kind.OpFault.TheVariants.{NoMemory}
 use Rattle.upp_curve.specs.Curve.{SpecCurve, value_at}
 use Rattle.upp_limits.specs.declared.op_kind.OpKind.TheVariants.{PosMinus, Vertical}
 use Rattle.min_plus.specs.Functions.{IsFinite}
-use Rattle.upp_limits.specs.Outcome.{KeepsLimits}
 use Rattle.curve_call.specs.Again.{IsAgain}
 use Rattle.curve_call.specs.Calls.{Applies, AppliesTo}
 use Rattle.outcomes.specs.Calls.{Then, goes_on, stops}
@@ -21,8 +20,7 @@ use Rattle.net_cells.specs.Meanings.{curve, number, CellTable}
 use Rattle.min_plus.specs.Deviations.{IsVerticalDeviation}
 use Rattle.net_cells.specs.Formulas.{Formula, value_of, vertical}
 use Rattle.net_cells.specs.cell_table.Gives.{Gives}
-use Rattle.net_cells.specs.Answers.{Answer, Answers, IsOnly, MakesCurve, MakesNumber, Deviates, ThenCurve, ThenNumber}
-use Rattle.net_cells.specs.cell_table.Values.{answer_of}
+use Rattle.net_cells.specs.Answers.{Answer, Answers, IsOnly, MakesCurve, MakesNumber, Deviates, ThenNumber}
 use Rattle.cell_eval.specs.Sharing.{IsShared}
 
 -- ---- calls that may want memory where they have an answer
@@ -55,20 +53,9 @@ shared_makes P (Err e) (Ok v) out p s = absurd s
 shared_makes P (Err e) (Err fault) out p s = subst (λ d. P (Err d)) (sym s) p
 
 -- ---- on cells
-pub on_cell : (at : CellTable) (c : Cell) (f : SpecCurve) (Q : SpecCurve → Answer → Type 0) (r : Answer) → at c ≡ Some (curve f) → Q f r
-    → ThenCurve (IsOnly (λ v. at c ≡ Some v)) Q r
-on_cell at c f Q r is q = goes_on (curve f) is q
-
 pub on_number_cell : (at : CellTable) (c : Cell) (x : Ext) (Q : Ext → Answer → Type 0) (r : Answer) → at c ≡ Some (number x) → Q x r
     → ThenNumber (IsOnly (λ v. at c ≡ Some v)) Q r
 on_number_cell at c x Q r is q = goes_on (number x) is q
-
--- ---- deviations
-pub deviates : (op : OpKind) (D : (ℚ → Ext) → (ℚ → Ext) → Ext → Type 0) (f g : SpecCurve) (r : Result Ext OpFault)
-    → KeepsLimits op f g r → IfOk r (D (value_at f) (value_at g)) → IfErr r (λ e. ¬ (e ≡ NoMemory))
-    → MakesNumber (Deviates op D f g) (answer_of number r)
-deviates op D f g (Ok x) limits d memory = (limits, d)
-deviates op D f g (Err fault) limits d memory = (limits, memory)
 
 -- ---- packets
 pub packets_finite : (f : SpecCurve) (l : ℚ) (r : Result SpecCurve OpFault) → IsFinite (value_at f) → AppliesTo (PosMinus l) f r

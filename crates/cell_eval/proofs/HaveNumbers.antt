@@ -5,7 +5,7 @@ use Rattle.rational.specs.Extended.{Ext}
 use Rattle.net_cells.specs.declared.cell.Cell.{Cell}
 use Rattle.net_cells.specs.Meanings.{number, CellTable}
 use Rattle.net_cells.specs.Means.{HaveNumbers}
-use Rattle.cell_eval.specs.TableValues.{IsNumberAt}
+use Rattle.cell_numbers.specs.TableValues.{IsNumberAt}
 use Rattle.run_laws.proofs.Members.{Has}
 
 pub record HaveMore (at : CellTable) (cs : List Cell) (c : Cell) (xs : List Ext) : Type 0 where

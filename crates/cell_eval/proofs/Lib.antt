@@ -14,6 +14,4 @@ pub mod PartSteps
 pub mod PartSums
 pub mod PathSteps
 pub mod SharedCounts
-pub mod LinkRates
 pub mod OperatorStopping
-pub mod Choosing

@@ -13,7 +13,7 @@ use Rattle.net_cells.specs.Meanings.{Meaning, curve, number, CellTable, IsCurveI
 use Rattle.net_cells.specs.Formulas.{Formula, leaves, made, value_of}
 use Rattle.net_cells.specs.CellFormulas.{formula, sum_of_cells, sum_from, packets_to, served_to}
 use Rattle.net_cells.specs.Equations.{MeetsEquation, MeetsBelow}
-use Rattle.cell_eval.specs.TableValues.{HasCurve, HasNumber}
+use Rattle.cell_numbers.specs.TableValues.{HasCurve, HasNumber}
 use Rattle.run_laws.proofs.Members.{Has, has_contains, has_left, has_right}
 pub use Rattle.net_cells.proofs.TableValues.{has_number}
 
@@ -46,12 +46,6 @@ number_from Q (number x) q = (x, refl, q)
 pub has_curve : (at : CellTable) (c : Cell) (Q : SpecCurve → Type 0) (v : Meaning) → at c ≡ Some v → IsCurveIn Q v → HasCurve at c Q
 has_curve at c Q (curve f) is q = record { value = f; is = is; holds = q }
 has_curve at c Q (number x) is q = absurd q
-
-pub curve_holds : (at : CellTable) (c : Cell) (Q : SpecCurve → Type 0) (f : SpecCurve) → HasCurve at c Q → at c ≡ Some (curve f) → Q f
-curve_holds at c Q f h is =
-    let both : Some (curve h.value) ≡ Some (curve f) = sym h.is ∙ is in
-    let same : h.value ≡ f = cc in
-    subst Q same h.holds
 
 pub number_holds : (at : CellTable) (c : Cell) (Q : Ext → Type 0) (x : Ext) → HasNumber at c Q → at c ≡ Some (number x) → Q x
 number_holds at c Q x h is =

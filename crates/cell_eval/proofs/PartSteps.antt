@@ -30,14 +30,14 @@ use Rattle.net_cells.proofs.Works.{terms, part_terms}
 use Rattle.net_cells.proofs.Growing.{range_more}
 use Rattle.net_cells.proofs.PartCounts.{more_items, links_append, links_more, no_hops, some_hops}
 use Rattle.net_cells.specs.cell_table.Gives.{Gives}
-use Rattle.cell_eval.proofs.Choosing.{map_front}
+use Rattle.cell_numbers.proofs.Choosing.{map_front}
 use Rattle.cell_eval.specs.declared.curve_sums.Partial.{Partial}
 use Rattle.cell_eval.specs.declared.curve_sums.Partial.TheVariants.{Nothing, One, Made}
 use Rattle.outcomes.specs.Spending.{Counts}
 use Rattle.outcomes.proofs.Spending.{counts_none, counts_then}
 use Rattle.cell_eval.specs.Partial.{IsPartial, IsReady, IsSummed, FailsAt, Adds}
 use Rattle.cell_eval.specs.Parts.{curve_in, curve_of, IsHeld, IsPartOf, MakesPart, part_work, kept, AreMade, AreRefused}
-use Rattle.cell_eval.specs.TableValues.{IsCurveAt}
+use Rattle.cell_numbers.specs.TableValues.{IsCurveAt}
 use Rattle.cell_eval.proofs.OperatorStopping.{err_map}
 use Rattle.cell_eval.proofs.SumSteps.{failed_answer}
 

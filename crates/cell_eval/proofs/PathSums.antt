@@ -1,12 +1,12 @@
--- Numbers along a path, added up, and what the numbers of two cells answer.
+-- Numbers along a path, added up.
 use Rattle.std.proofs.Common.{◌≡◌, ℕ, ◌+◌, ◌≤◌, ◌<◌, ◌^◌, List, [], ◌∷◌, ◌++◌, length, map, take}
-use Rattle.std.proofs.Common.{refl, sym, ap, ◌∙◌, subst, arith, append_assoc}
+use Rattle.std.proofs.Common.{sym, ap, ◌∙◌, subst, arith, append_assoc}
 use Rattle.std.specs.Prelude.{Some, Result, Ok, Err}
 use Rattle.std.specs.List.{range_with_len}
 use Rattle.std.proofs.lemmas.List.{length-map, length-append, map-append, map_more}
 use Rattle.std.proofs.lemmas.List.FromFn.{length-map-range_with_len, map-range_with_len_more}
 use Rattle.rational.specs.Rational.{ℚ}
-use Rattle.rational.specs.Extended.{Ext, min_ext}
+use Rattle.rational.specs.Extended.{Ext}
 use Rattle.rational.specs.declared.Extended.TheVariants.{Fin}
 use Rattle.upp_limits.specs.declared.op_kind.OpFault.{OpFault}
 use Rattle.net_model.specs.Networks.{Net}
@@ -16,16 +16,16 @@ use Rattle.net_cells.specs.declared.cell.Kind.TheVariants.{HopDelay}
 use Rattle.net_cells.specs.Numbered.{path, hops, server_of_hop, link}
 use Rattle.net_cells.specs.Cells.{cell_of}
 use Rattle.net_cells.specs.CellFormulas.{hop_delay_cells, link_delays}
-use Rattle.net_cells.specs.Formulas.{Formula, value_of, smaller, along, delayed}
+use Rattle.net_cells.specs.Formulas.{Formula, along, delayed}
 use Rattle.net_cells.specs.Meanings.{number, CellTable}
 use Rattle.net_cells.specs.Means.{HaveNumbers, with_links}
 use Rattle.net_cells.specs.NumberSums.{Sums}
 use Rattle.net_cells.specs.Answers.{Answers, MakesNumber}
 use Rattle.net_cells.proofs.Lists.{map_has, range_has}
 use Rattle.net_cells.proofs.Stored.{few_hops}
-use Rattle.outcomes.specs.Calls.{goes_on, stops}
+use Rattle.outcomes.specs.Calls.{goes_on}
 use Rattle.net_cells.specs.cell_table.Values.{answer_of}
-use Rattle.cell_eval.specs.TableValues.{IsNumberAt}
+use Rattle.cell_numbers.specs.TableValues.{IsNumberAt}
 use Rattle.cell_eval.specs.declared.number_sums.Added.{Added}
 use Rattle.cell_eval.specs.Tallies.{AreAdded}
 use Rattle.cell_eval.proofs.HaveNumbers.{have_all, have_more, have_none}
@@ -119,12 +119,3 @@ delayed_answer net at F i x r accepted a sums =
     goes_on (number x) a
     (sums_answer (with_links (x ∷ []) (link_delays net i)) r
     (sums (few_links net i (x ∷ []) accepted (omega arith))))
-
--- ---- the lesser of two
-pub smaller_answer : (at : CellTable) (c : Cell) (F : Formula) (x y : Ext) → at c ≡ Some (number x)
-    → Answers at F (Ok (number y)) → Answers at (smaller (value_of c) F) (Ok (number (min_ext x y)))
-smaller_answer at c F x y is a = goes_on (number x) is (goes_on (number y) a refl)
-
-pub smaller_refused : (at : CellTable) (c : Cell) (F : Formula) (fault : OpFault) → IsNumberAt at c
-    → Answers at F (Err fault) → Answers at (smaller (value_of c) F) (Err fault)
-smaller_refused at c F fault has a = goes_on (number has.value) has.is (stops fault a refl)

@@ -22,7 +22,7 @@ use Rattle.curve_call.proofs.FiniteAnswers.{supremum_finite}
 use Rattle.curve_call.proofs.GrowingAnswers.{same_rising}
 use Rattle.curve_deconv.proofs.Kept.{sub_le}
 use Rattle.residual_laws.specs.PriorityLaws.{IsPriorityService, priority_left}
-use Rattle.cell_eval.specs.Shapes.{IsServed}
+use Rattle.cell_numbers.specs.Shapes.{IsServed}
 use Rattle.min_plus.proofs.TimeSums.{nonneg_sum}
 
 -- ---- calls

@@ -45,10 +45,11 @@ use Rattle.net_cells.proofs.LeavesOf.{parts_leaves}
 use Rattle.net_cells.proofs.LeftOf.{before_is, left_fits}
 use Rattle.net_cells.proofs.Stored.{server_kept}
 use Rattle.net_cells.proofs.Members.{hop_kept}
-use Rattle.cell_eval.specs.Shapes.{Rises, Serving, Grows}
-use Rattle.cell_eval.specs.TableValues.{HasCurve, HasNumber}
+use Rattle.cell_numbers.specs.Shapes.{Rises, Serving, Grows}
+use Rattle.cell_numbers.specs.TableValues.{HasCurve, HasNumber}
+use Rattle.cell_numbers.proofs.OnCells.{curve_holds}
 use Rattle.cell_eval.proofs.Rises.{sum_rises, min_rises, shift_rises, deconvolution_rises, grows_served, priority_served}
-use Rattle.cell_eval.proofs.Meeting.{Meets, curve_from, number_from, has_curve, has_number, curve_holds, number_holds, sum_leaf, served_leaf}
+use Rattle.cell_eval.proofs.Meeting.{Meets, curve_from, number_from, has_curve, has_number, number_holds, sum_leaf, served_leaf}
 use Rattle.run_laws.proofs.Members.{Has}
 
 -- ---- numbers that are deviations

@@ -10,7 +10,7 @@ use Rattle.net_cells.specs.Answers.{Answers}
 use Rattle.net_cells.specs.Refusals.{RefusedAt}
 use Rattle.cell_eval.specs.declared.curve_sums.Partial.{Partial}
 use Rattle.cell_eval.specs.declared.curve_sums.Partial.TheVariants.{Nothing, One, Made}
-use Rattle.cell_eval.specs.TableValues.{IsCurveAt}
+use Rattle.cell_numbers.specs.TableValues.{IsCurveAt}
 
 -- f is the sum of two cells or more; to hand it on there might be no memory
 pub record IsSumOf (at : CellTable) (cells : List Cell) (f : SpecCurve) : Type 0 where

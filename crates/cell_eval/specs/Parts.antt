@@ -13,7 +13,7 @@ use Rattle.net_cells.specs.Work.{parts_work}
 use Rattle.net_cells.specs.Refusals.{RefusedFrom, RefusedAt}
 use Rattle.cell_eval.specs.declared.curve_sums.Partial.{Partial}
 use Rattle.cell_eval.specs.declared.curve_sums.Partial.TheVariants.{Nothing, One, Made}
-use Rattle.cell_eval.specs.TableValues.{IsCurveAt}
+use Rattle.cell_numbers.specs.TableValues.{IsCurveAt}
 
 -- ---- the curve of a sum that is not of no cell
 abbrev pub curve_in : Option Meaning → SpecCurve

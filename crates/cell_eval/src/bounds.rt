@@ -7,11 +7,11 @@ ghost use Rattle.net_cells.specs.Cells.{cell_of};
 ghost use Rattle.net_cells.specs.CellFormulas.{hop_delay_cells, link_delays};
 ghost use Rattle.net_cells.specs.Means.{HaveNumbers, with_links};
 ghost use Rattle.rational.specs.Extended.{Ext};
-ghost use Rattle.cell_eval.specs.TableValues.{IsNumberAt};
+ghost use Rattle.cell_numbers.specs.TableValues.{IsNumberAt};
 ghost use Rattle.cell_eval.specs.Tallies.{AreAdded};
 
 use crate::number_sums::{Added, and, no_number};
-use crate::{link, number_at};
+use cell_numbers::{link, number_at};
 use net_cells::cell_table::{Table, Value};
 use net_cells::{Cell, Kind, hops, server_of_hop};
 use net_model::Network;

@@ -11,13 +11,12 @@ ghost use Rattle.net_cells.specs.Order.{at_visit};
 ghost use Rattle.net_cells.specs.CellFormulas.{sum_of_cells};
 ghost use Rattle.net_cells.specs.cell_table.Gives.{Gives};
 ghost use Rattle.net_cells.specs.cell_table.Values.{answer_of, meaning_of};
-ghost use Rattle.cell_eval.specs.Chosen.{chosen, all_chosen, visit_list};
+ghost use Rattle.cell_numbers.specs.Chosen.{chosen, all_chosen, visit_list};
 ghost use Rattle.cell_eval.specs.Partial.{IsPartial, IsReady, IsSummed, Adds};
-ghost use Rattle.cell_eval.specs.TableValues.{IsCurveAt};
+ghost use Rattle.cell_numbers.specs.TableValues.{IsCurveAt};
 
-use crate::reading::curve_at;
 use crate::sharing::{again, shared};
-use crate::{Pick, chosen_at};
+use cell_numbers::{Pick, chosen_at, curve_at};
 use curve_call::intact;
 use curve_library::bucket;
 use fraction128::Frac;

@@ -10,12 +10,13 @@ ghost use Rattle.net_cells.specs.Cells.{cell_of};
 ghost use Rattle.net_cells.specs.cell_table.Values.{answer_of, meaning_of};
 ghost use Rattle.cell_eval.specs.Evaluates.{MayBeMade, Evaluates};
 
-use crate::places::{cell, place_of};
+use crate::named_cells::cell;
 use crate::sums::summed;
 use crate::{
-    Pick, again, copied, flows_sum, later, left_over, lesser, packet, parts_sum, path_service,
-    queue_service, queues_sum, shared, spread,
+    again, copied, flows_sum, later, left_over, lesser, parts_sum, path_service, queue_service,
+    queues_sum, shared, spread,
 };
+use cell_numbers::{Pick, packet, place_of};
 use net_cells::cell_table::{Table, Value};
 use net_cells::{Cell, Kind, live_flow};
 use net_model::Network;

@@ -1,4 +1,5 @@
-//! What each cell of a network is by the cells that it is made of: the program's evaluator, which counts each operator.
+//! What each cell of a network is by the cells that it is made of: the program's evaluator, which counts each operator. And
+//! the values of all cells.
 #![tactic(auto)]
 
 mod bounds;
@@ -6,14 +7,13 @@ mod counted;
 mod curve_sums;
 mod curves;
 mod each_kind;
-mod found;
+pub mod flow_analysis;
+mod named_cells;
 mod nodes;
 mod number_sums;
 mod numbers;
 mod parts;
 mod paths;
-mod places;
-mod reading;
 mod services;
 mod sharing;
 mod sums;
@@ -24,13 +24,11 @@ pub use curves::{
     arriving, cross, deconv_out, higher, leaving, path, residual, serving, shift_out, total,
 };
 pub use each_kind::eval;
-pub use found::{Pick, chosen_at, link, longest_at, packet, rate};
 pub use net_cells::cell_table::{Analysis, AnalysisFault, CellValue, Evaluator, Table, Value};
 pub use net_cells::{Cell, Kind, cells, operands, work};
-pub use nodes::{backlog, delay_between, later, left_over, lesser, spread};
+pub use nodes::{backlog, later, left_over, lesser, spread};
 pub use numbers::{bound, hop_delay, queue_backlog, queue_delay, sfa, tfa, theta};
 pub use parts::parts_sum;
 pub use paths::path_service;
-pub use reading::{curve_at, number_at};
 pub use services::queue_service;
 pub use sharing::{again, copied, shared};

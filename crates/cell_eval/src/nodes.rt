@@ -5,20 +5,20 @@ ghost use Rattle.upp_limits.specs.declared.op_kind.OpKind.TheVariants.{Min, Deco
 ghost use Rattle.upp_curve.specs.Curve.{value_at};
 ghost use Rattle.min_plus.specs.Functions.{IsNonneg, IsFinite};
 ghost use Rattle.net_cells.specs.Meanings.{curve, number};
-ghost use Rattle.net_cells.specs.Formulas.{value_of, made, moved, leftover, horizontal, vertical};
+ghost use Rattle.net_cells.specs.Formulas.{value_of, made, moved, leftover, vertical};
 ghost use Rattle.net_cells.specs.CellFormulas.{less};
 ghost use Rattle.net_cells.specs.Answers.{Answers};
 ghost use Rattle.net_cells.specs.Refusals.{RefusedAt};
 ghost use Rattle.net_cells.specs.cell_table.Values.{answer_of, meaning_of};
 ghost use Rattle.outcomes.specs.Spending.{Counts};
-ghost use Rattle.cell_eval.specs.Shapes.{Rises, Serving};
-ghost use Rattle.cell_eval.specs.TableValues.{HasCurve, HasNumber, IsCurveAt, Deviate};
+ghost use Rattle.cell_numbers.specs.Shapes.{Serving};
+ghost use Rattle.cell_numbers.specs.TableValues.{HasCurve, HasNumber, IsCurveAt, Deviate};
 
-use crate::reading::{curve_at, number_at};
 use crate::sharing::shared;
+use cell_numbers::{curve_at, number_at};
 use curve_call::intact;
 use curve_deconv::deconvolve;
-use curve_deviation::{horizontal, vertical};
+use curve_deviation::vertical;
 use fraction128::{Ext, Frac};
 use net_cells::Cell;
 use net_cells::cell_table::{Table, Value};
@@ -31,22 +31,6 @@ use std::alloc::Global;
 use std::sync::ledger::Ledger;
 use upp_curve::Curve;
 use upp_limits::OpFault;
-
-/// The horizontal deviation of a cell's curve, which rises, and another's, which serves. One step is counted; refused
-/// only where that call is over a limit.
-pub fn delay_between<T: Table<Value>, L: Ledger>(
-    table: &T,
-    from: Cell,
-    by: Cell,
-    steps: &mut Steps<L>,
-) -> Result<Ext, OpFault>
-    requires rises { HasCurve (T.at table.now) from Rises }
-    requires serves { HasCurve (T.at table.now) by Serving }
-    ensures answer { Answers (T.at table.now) (horizontal (value_of from) (value_of by)) (answer_of number result) }
-    ensures count { steps.new ≡ steps.old + 1 }
-{
-    horizontal(curve_at(table, from), curve_at(table, by), steps)
-}
 
 /// What a queue's service leaves to a flow of it.
 pub fn left_over<T: Table<Value>, L: Ledger>(

@@ -13,7 +13,7 @@ use std::cmp::Ordering;
 use upp_limits::OpFault;
 
 /// Of the numbers so far: their least common denominator, their sizes together, and their sum.
-#[derive(Debug, Clone, Copy)]
+#[derive(Clone, Copy)]
 pub struct Tally {
     pub den: u128,
     pub sizes: Frac,
@@ -74,7 +74,7 @@ fn with_finite(so_far: Option<Tally>, x: Frac) -> Option<Tally>
 }
 
 /// Numbers that are added up: whether one is infinite, and the others together, while their gauge may be over no limit.
-#[derive(Debug, Clone, Copy)]
+#[derive(Clone, Copy)]
 pub struct Added {
     pub infinite: bool,
     pub tally: Option<Tally>,

@@ -10,10 +10,13 @@ ghost use Rattle.net_cells.specs.Cells.{cell_of};
 ghost use Rattle.net_cells.specs.cell_table.Values.{answer_of, meaning_of};
 ghost use Rattle.cell_eval.specs.Evaluates.{MayBeMade, Evaluates};
 
+use crate::backlog;
 use crate::bounds::{delays, with_path};
+use crate::named_cells::cell;
 use crate::number_sums::{and, no_number, sum_of};
-use crate::places::{cell, numbered, place_of};
-use crate::{Pick, backlog, delay_between, longest_at, number_at};
+use cell_numbers::{
+    Pick, bound_of, delay_between, longest_at, number_at, numbered, place_of, theta_of,
+};
 use fraction128::lesser_value;
 use net_cells::cell_table::{Table, Value};
 use net_cells::{Cell, Kind};
@@ -35,9 +38,7 @@ pub fn theta<T: Table<Value>, L: Ledger>(
     ensures { Evaluates net.now (T.at table.now) (cell_of Theta flow hop) steps.old steps.new
         (answer_of meaning_of result) }
 {
-    let place = place_of(net, flow, hop);
-    let service = cell!(QueueService, place.0, place.1);
-    numbered(delay_between(table, cell!(Cross, flow, hop), service, steps))
+    theta_of(table, net, flow, hop, steps)
 }
 
 /// The longest delay in a queue.
@@ -135,7 +136,5 @@ pub fn bound<T: Table<Value>>(table: &T, net: &Network, flow: u32) -> Result<Val
     requires { MayBeMade net.now (T.at table.now) (cell_of Bound flow 0) }
     ensures { (n : ℕ) → Evaluates net.now (T.at table.now) (cell_of Bound flow 0) n n (answer_of meaning_of result) }
 {
-    let hop_by_hop = number_at(table, cell!(Tfa, flow, 0));
-    let whole_path = number_at(table, cell!(Sfa, flow, 0));
-    Ok(Value::Number(lesser_value(hop_by_hop, whole_path)))
+    Ok(bound_of(table, flow))
 }

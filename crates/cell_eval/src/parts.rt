@@ -5,8 +5,6 @@ ghost use Rattle.std.specs.Prelude.{◌≡◌, ◌+◌, ◌-◌, ◌<◌, ◌≤
 ghost use Rattle.arrayvec.specs.ArrayVec.{array_vec_len};
 ghost use Rattle.rational.specs.Rational.{◌≤ℚ◌};
 ghost use Rattle.min_plus.specs.Functions.{zero_q};
-ghost use Rattle.upp_curve.specs.Kinds.{bucket};
-ghost use Rattle.run_laws.specs.Cards.{whole};
 ghost use Rattle.upp_limits.specs.declared.op_kind.OpKind.TheVariants.{Sum};
 ghost use Rattle.curve_call.specs.Again.{IsAgain};
 ghost use Rattle.curve_call.specs.Calls.{Applies};
@@ -22,27 +20,24 @@ ghost use Rattle.net_cells.specs.Refusals.{RefusedAt, SumsRefused};
 ghost use Rattle.net_cells.specs.Work.{parts_work};
 ghost use Rattle.net_cells.specs.cell_table.Gives.{Gives};
 ghost use Rattle.net_cells.specs.cell_table.Values.{answer_of, meaning_of};
-ghost use Rattle.cell_eval.specs.Chosen.{chosen, visit_list};
-ghost use Rattle.cell_eval.specs.declared.found.Pick.TheVariants.{InPart};
+ghost use Rattle.cell_numbers.specs.Chosen.{chosen, visit_list};
+ghost use Rattle.cell_numbers.specs.declared.found.Pick.TheVariants.{InPart};
 ghost use Rattle.outcomes.specs.Spending.{Counts};
 ghost use Rattle.cell_eval.specs.Partial.{IsReady, Adds};
 ghost use Rattle.cell_eval.specs.Parts.{curve_of, IsHeld, MakesPart, part_answer, part_work};
 ghost use Rattle.cell_eval.specs.Parts.{kept, AreMade, AreRefused};
-ghost use Rattle.cell_eval.specs.TableValues.{IsCurveAt};
+ghost use Rattle.cell_numbers.specs.TableValues.{IsCurveAt};
 
 use crate::curve_sums::{Partial, flows_sum, nothing};
-use crate::reading::curve_at;
 use crate::sharing::{again, copied, shared};
-use crate::{Pick, longest_at, rate};
 use arrayvec::ArrayVec;
+use cell_numbers::{Pick, curve_at, link_bucket, longest_at, rate};
 use curve_call::intact;
-use curve_library::{CurveFault, bucket};
 use fraction128::Frac;
 use net_cells::cell_table::{Table, Value};
 use net_model::Network;
 use outcomes::Steps;
 use plain_operators::running::{min, sum};
-use run_laws::whole;
 use std::alloc::Global;
 use std::sync::ledger::Ledger;
 use upp_curve::Curve;
@@ -64,28 +59,6 @@ fn curve_of<'a, T: Table<Value>>(table: &'a T, part: &'a Partial) -> &'a Curve
 }
 
 // ---- one part
-// The fault of a bucket that is wanting memory.
-fn wanting(fault: CurveFault) -> OpFault
-    requires { fault ≡ CurveFault.NoMemory }
-    ensures { result ≡ OpFault.NoMemory }
-{
-    match fault {
-        CurveFault::NoMemory => OpFault::NoMemory,
-        _ => unreachable!(),
-    }
-}
-
-// What may come over a link: of a rate from 0 on no bucket is refused, so that only memory can be wanting.
-fn link_bucket(alloc: Global, bits: u32, rate: Frac) -> Result<Curve, OpFault>
-    requires { zero_q ≤ℚ rate }
-    ensures { IsAgain (bucket (whole bits) rate) result }
-{
-    match bucket(alloc, whole(bits), rate) {
-        Ok(made) => Ok(made),
-        Err(fault) => Err(wanting(fault)),
-    }
-}
-
 // A curve, cut by a link.
 fn cut<L: Ledger>(
     alloc: Global,

@@ -13,13 +13,12 @@ ghost use Rattle.net_cells.specs.Refusals.{RefusedAt, Stops};
 ghost use Rattle.net_cells.specs.cell_table.Gives.{Gives};
 ghost use Rattle.net_cells.specs.cell_table.Values.{answer_of, meaning_of};
 ghost use Rattle.outcomes.specs.Spending.{Counts};
-ghost use Rattle.cell_eval.specs.Shapes.{Serving};
-ghost use Rattle.cell_eval.specs.TableValues.{HasCurve};
+ghost use Rattle.cell_numbers.specs.Shapes.{Serving};
+ghost use Rattle.cell_numbers.specs.TableValues.{HasCurve};
 
 use crate::nodes::in_packets;
-use crate::packet;
-use crate::reading::curve_at;
 use crate::sharing::{again, shared};
+use cell_numbers::{curve_at, packet};
 use curve_call::intact;
 use curve_conv::convolve;
 use net_cells::cell_table::{Table, Value};

@@ -18,12 +18,11 @@ ghost use Rattle.residuals.specs.calls.InTurn.{DrrRefused};
 ghost use Rattle.residuals.specs.left.Left.{EachBefore, left_work};
 ghost use Rattle.net_cells.specs.cell_table.Values.{answer_of, meaning_of};
 ghost use Rattle.outcomes.specs.Spending.{Counts};
-ghost use Rattle.cell_eval.specs.TableValues.{IsCurveAt};
+ghost use Rattle.cell_numbers.specs.TableValues.{IsCurveAt};
 
-use crate::reading::curve_at;
 use crate::sharing::{copied, shared};
-use crate::{Pick, longest_at};
 use arrayvec::ArrayVec;
+use cell_numbers::{Pick, curve_at, longest_at};
 use net_cells::cell_table::{Table, Value};
 use net_cells::{Cell, Kind, Leaving, leaves, server};
 use net_model::Network;

@@ -5,9 +5,9 @@ ghost use Rattle.net_cells.specs.Formulas.{value_of};
 ghost use Rattle.net_cells.specs.cell_table.Gives.{Gives};
 ghost use Rattle.net_cells.specs.cell_table.Values.{answer_of, meaning_of};
 ghost use Rattle.cell_eval.specs.Sharing.{IsShared};
-ghost use Rattle.cell_eval.specs.TableValues.{IsCurveAt};
+ghost use Rattle.cell_numbers.specs.TableValues.{IsCurveAt};
 
-use crate::reading::curve_at;
+use cell_numbers::curve_at;
 use net_cells::Cell;
 use net_cells::cell_table::{Table, Value};
 use std::alloc::Global;

@@ -11,10 +11,10 @@ use Rattle.net_cells.specs.Visits.{visit, visits, is_at, hops_at, others, longes
 use Rattle.net_cells.specs.QueueParts.{in_part}
 use Rattle.net_cells.proofs.Growing.{filter_mapped}
 use Rattle.net_cells.proofs.Lists.{Has, at_has, map_has, filter_has, flat_has, range_has}
-use Rattle.cell_eval.specs.declared.found.Pick.{Pick}
-use Rattle.cell_eval.specs.declared.found.Pick.TheVariants.{InQueue, AfterQueue, InPart}
-use Rattle.cell_eval.specs.Chosen.{flow_visits, picks, picked, all_picked}
-use Rattle.cell_eval.proofs.Choosing.{picked_are, part_picked}
+use Rattle.cell_numbers.specs.declared.found.Pick.{Pick}
+use Rattle.cell_numbers.specs.declared.found.Pick.TheVariants.{InQueue, AfterQueue, InPart}
+use Rattle.cell_numbers.specs.Chosen.{flow_visits, picks, picked, all_picked}
+use Rattle.cell_numbers.proofs.Choosing.{picked_are, part_picked}
 use Rattle.cell_rules.specs.Sites.{passes}
 use Rattle.cell_rules.proofs.Found.{any_none}
 use Rattle.cell_rules.proofs.SameHops.{IsBlankFrom, same_flat}

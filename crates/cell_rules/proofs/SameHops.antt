@@ -16,10 +16,10 @@ use Rattle.net_cells.specs.CellFormulas.{sum_of_cells, sum_of_hops}
 use Rattle.net_cells.proofs.Growing.{flat_more, flat_below}
 use Rattle.net_cells.proofs.LeavesOf.{sum_leaves}
 use Rattle.net_cells.proofs.Lists.{Has, map_has, filter_has, has_flat, flat_has, has_range}
-use Rattle.cell_eval.specs.declared.found.Pick.{Pick}
-use Rattle.cell_eval.specs.declared.found.Pick.TheVariants.{InQueue, AfterQueue}
-use Rattle.cell_eval.specs.Chosen.{visit_list, picks, is_other, picked, chosen, flow_visits, all_chosen, all_picked}
-use Rattle.cell_eval.proofs.Choosing.{queue_visits, other_visits, picked_are, all_chosen_more}
+use Rattle.cell_numbers.specs.declared.found.Pick.{Pick}
+use Rattle.cell_numbers.specs.declared.found.Pick.TheVariants.{InQueue, AfterQueue}
+use Rattle.cell_numbers.specs.Chosen.{visit_list, picks, is_other, picked, chosen, flow_visits, all_chosen, all_picked}
+use Rattle.cell_numbers.proofs.Choosing.{queue_visits, other_visits, picked_are, all_chosen_more}
 use Rattle.cell_rules.specs.Rules.{TellsSame, TellsFormula}
 use Rattle.cell_rules.proofs.Tells.{tells_by, tells_of}
 

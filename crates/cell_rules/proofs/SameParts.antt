@@ -20,10 +20,10 @@ use Rattle.net_cells.specs.CellFormulas.{part_sum, with_part, parts_sum, total, 
 use Rattle.net_cells.proofs.LeavesOf.{sum_leaves}
 use Rattle.net_cells.proofs.Lists.{Has, map_has, filter_has, flat_has, range_has}
 use Rattle.net_cells.proofs.PartCounts.{part_small}
-use Rattle.cell_eval.specs.declared.found.Pick.{Pick}
-use Rattle.cell_eval.specs.declared.found.Pick.TheVariants.{InPart}
-use Rattle.cell_eval.specs.Chosen.{all_chosen, all_picked}
-use Rattle.cell_eval.proofs.Choosing.{part_visits, part_picked}
+use Rattle.cell_numbers.specs.declared.found.Pick.{Pick}
+use Rattle.cell_numbers.specs.declared.found.Pick.TheVariants.{InPart}
+use Rattle.cell_numbers.specs.Chosen.{all_chosen, all_picked}
+use Rattle.cell_numbers.proofs.Choosing.{part_visits, part_picked}
 use Rattle.cell_rules.specs.Rules.{TellsSame, TellsFormula, link_of, one_part}
 use Rattle.cell_rules.proofs.Tells.{tells_by, tells_of}
 use Rattle.cell_rules.proofs.SameHops.{same_visits}

@@ -20,9 +20,9 @@ use Rattle.net_cells.specs.Formulas.{given, cut, part, no_part}
 use Rattle.net_cells.specs.CellFormulas.{formula_of, value, left_formula, sum_of_cells, sum_of_hops, with_part, parts_sum, total, served_to, link_delays}
 use Rattle.net_cells.proofs.Lists.{Has}
 use Rattle.net_cells.proofs.LeftOf.{left_same}
-use Rattle.cell_eval.specs.declared.found.Pick.TheVariants.{InQueue, AfterQueue, InPart}
-use Rattle.cell_eval.specs.Chosen.{all_chosen}
-use Rattle.cell_eval.proofs.Choosing.{part_visits}
+use Rattle.cell_numbers.specs.declared.found.Pick.TheVariants.{InQueue, AfterQueue, InPart}
+use Rattle.cell_numbers.specs.Chosen.{all_chosen}
+use Rattle.cell_numbers.proofs.Choosing.{part_visits}
 use Rattle.cell_rules.specs.cell_changes.Changes.{HasSameRule}
 use Rattle.cell_rules.specs.declared.site.Site.TheVariants.{Anywhere, Server, Flow}
 use Rattle.cell_rules.specs.Rules.{TellsSame, hop_queue}

@@ -3,3 +3,5 @@ pub mod Sites
 pub mod Finding
 pub mod Marks
 pub mod cell_changes
+pub mod cell_values
+pub mod edit_sites

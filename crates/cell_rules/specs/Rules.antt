@@ -8,8 +8,8 @@ use Rattle.net_cells.specs.CellFormulas.{formula_of, with_part}
 use Rattle.net_cells.specs.Numbered.{server_of_hop, queue_of_hop, rate}
 use Rattle.net_cells.specs.Visits.{longest_of}
 use Rattle.net_cells.specs.QueueParts.{in_part}
-use Rattle.cell_eval.specs.declared.found.Pick.{Pick}
-use Rattle.cell_eval.specs.Chosen.{all_picked}
+use Rattle.cell_numbers.specs.declared.found.Pick.{Pick}
+use Rattle.cell_numbers.specs.Chosen.{all_picked}
 
 -- yes where two things are one, and no where they differ
 abbrev pub TellsSame : {X : Type 0} → X → X → Bool → Type 0

@@ -1,8 +1,10 @@
 //! Which cells two networks make of the same, and which are touched where the one came of the other: found without the
-//! value of any cell.
+//! value of any cell. And the values of cells in versions, of which the touched ones are made anew, and what an edit replaces.
 #![tactic(auto)]
 
 pub mod cell_changes;
+pub mod cell_values;
+pub mod edit_sites;
 mod finding;
 mod lists;
 mod marks;

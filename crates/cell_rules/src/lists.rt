@@ -6,11 +6,11 @@ ghost use Rattle.net_cells.specs.declared.cell.Kind.TheVariants.{Cross, Total};
 ghost use Rattle.net_cells.specs.Visits as visiting;
 ghost use Rattle.net_cells.specs.QueueParts.{part_numbers};
 ghost use Rattle.net_cells.specs.CellFormulas.{parts_sum};
-ghost use Rattle.cell_eval.specs.Chosen.{all_chosen};
+ghost use Rattle.cell_numbers.specs.Chosen.{all_chosen};
 ghost use Rattle.cell_rules.specs.Rules.{TellsSame, TellsFormula, link_of, one_part};
 
 use crate::reads::same_number;
-use cell_eval::{Pick, chosen_at, longest_at, rate};
+use cell_numbers::{Pick, chosen_at, longest_at, rate};
 use net_cells::{queue_of_hop, server_of_hop};
 use net_model::Network;
 

@@ -6,7 +6,7 @@ ghost use Rattle.net_cells.specs.CellFormulas.{link_delays};
 ghost use Rattle.net_cells.specs.Numbered as at;
 ghost use Rattle.cell_rules.specs.Rules.{TellsSame, hop_queue};
 
-use cell_eval::{link, packet};
+use cell_numbers::{link, packet};
 use fraction128::Frac;
 use net_cells::{hops, live_flow, queue_of_hop, server_of_hop};
 use net_model::Network;

@@ -6,12 +6,12 @@ ghost use Rattle.cell_rules.specs.Sites as spec;
 ghost use Rattle.cell_rules.specs.Sites.{OthersKeepTheirRule};
 
 use crate::lists::{is_by_links, is_unused};
-use cell_eval::Pick;
+use cell_numbers::Pick;
 use net_cells::{Cell, Kind, live_flow, server_of_hop};
 use net_model::Network;
 
 /// Where two networks differ: at one server or one flow, by its number, or anywhere.
-#[derive(Debug, Clone, Copy)]
+#[derive(Clone, Copy)]
 pub enum Site {
     Anywhere,
     Server(u32),

@@ -1,6 +1,5 @@
 pub mod Steps
 pub mod Begun
 pub mod Outcomes
-pub mod OneSite
 pub mod PutBack
 pub mod Lost

@@ -1,5 +1,4 @@
 pub mod Stored
 pub mod Faults
 pub mod Applied
-pub mod Replaced
-pub mod Sites
+pub mod Kept

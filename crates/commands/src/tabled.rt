@@ -8,7 +8,7 @@ ghost use Rattle.command_replies.specs.View.{reply_of};
 ghost use Rattle.command_replies.specs.run_findings.CellCounts.{CountsOnCells};
 ghost use Rattle.commands.specs.Tabled.{HasTable, IsStopped};
 
-use cell_store::flow_analysis::analyse;
+use cell_eval::flow_analysis::analyse;
 use command_replies::{Answer, cell_too_many, cell_too_wide, goes_round};
 use net_cells::cell_table::{Analysis, AnalysisFault, Table, Value};
 use net_model::Network;

@@ -17,3 +17,4 @@ pub mod Searching
 pub mod PeriodsFound
 pub mod SoonerLags
 pub mod HorizontalCall
+pub mod Lesser

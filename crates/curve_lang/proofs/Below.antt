@@ -1,27 +1,17 @@
 -- Whether a curve is nowhere below another, by a call on both.
 use Rattle.std.specs.Prelude.{◌≡◌, ◌↔◌}
-use Rattle.std.proofs.Common.{arith, sym, subst, ◌∙◌, inl, inr}
+use Rattle.std.proofs.Common.{arith, sym, subst, inl, inr}
 use Rattle.rational.specs.Rational.{ℚ, ◌≤ℚ◌}
 use Rattle.rational.specs.Extended.{Ext, ◌≤ₑ◌, ◌<ₑ◌, ◌-ₑ◌}
 use Rattle.rational.specs.declared.Extended.TheVariants.{Fin}
 use Rattle.rational.proofs.Linear.{with1}
 use Rattle.rational.proofs.Bounds.{smallest}
-use Rattle.rational.proofs.ExtendedOrder.{le_ext_trans, le_or_lt_ext, lt_ext_not_le, min_right, min_ext_of_le}
+use Rattle.rational.proofs.ExtendedOrder.{le_ext_trans, le_or_lt_ext, lt_ext_not_le}
 use Rattle.min_plus.specs.Functions.{zero_q, IsFinite, IsNonnegative, FiniteTime}
-use Rattle.min_plus.specs.Pointwise.{IsMinimum}
 use Rattle.min_plus.specs.Deviations.{IsVerticalDeviation}
-use Rattle.upp_curve.specs.Curve.{SpecCurve, value_at, HasSameValues}
-use Rattle.curve_lang.specs.Meaning.{FromZero}
+use Rattle.upp_curve.specs.Curve.{SpecCurve, value_at}
 use Rattle.curve_lang.specs.Finding.{zero_curve}
 use Rattle.curve_lang.proofs.Meant.{zero_value}
-
--- ---- f is at most g everywhere exactly where it is their minimum
-pub lesser_is : (f g c : SpecCurve) → FromZero (λ t. IsMinimum (value_at f) (value_at g) t (value_at c t))
-    → HasSameValues c f ↔ FromZero (λ t. value_at f t ≤ₑ value_at g t)
-lesser_is f g c min = (
-  λ same t n. subst (λ x. x ≤ₑ value_at g t) (sym (min t n) ∙ same t n) (min_right (value_at f t) (value_at g t)),
-  λ below t n. min t n ∙ min_ext_of_le (value_at f t) (value_at g t) (below t n),
-)
 
 -- ---- the zero curve is nowhere above f exactly where f is nowhere below 0
 below_level : (x : ℚ) → Fin zero_q -ₑ x ≤ₑ Fin zero_q → zero_q ≤ℚ x

@@ -1,7 +1,6 @@
 //! Answers of questions about curves.
 
-ghost use Rattle.std.specs.Prelude.{◌≡◌, ◌↔◌, ℕ, Ok, IsTrue};
-ghost use Rattle.upp_curve.specs.Curve.{HasSameValues};
+ghost use Rattle.std.specs.Prelude.{◌≡◌, ℕ, Ok};
 ghost use Rattle.upp_limits.specs.declared.op_kind.OpKind.TheVariants as calls;
 ghost use Rattle.input_texts.specs.declared.curve_script.keyword.TwoAsked.TheVariants as asked;
 ghost use Rattle.curve_lang.specs.Answers.{one_answer};
@@ -12,7 +11,7 @@ ghost use Rattle.curve_lang.specs.Views.{answer_view, told};
 use crate::answer::{Answer, Word};
 use crate::sharing::told_call;
 use crate::values::value_found;
-use curve_deviation::{horizontal, vertical};
+use curve_deviation::{horizontal, is_below, vertical};
 use fraction128::{Frac, is_less};
 use input_texts::curve_script::{LangKind, OneAsked, TwoAsked};
 use outcomes::Steps;
@@ -104,14 +103,6 @@ fn equal_told(f: &Curve, g: &Curve) -> Result<Answer, LangKind>
     })
 }
 
-// Whether a curve has the values of the lesser of it and another.
-fn is_lesser(f: &Curve, lesser: &Curve) -> bool
-    ensures { IsTrue result ↔ HasSameValues lesser.now f.now }
-{
-    equal(lesser, f)
-}
-
-// A curve is nowhere above another exactly where it is the lesser of the two everywhere.
 fn below_told<L: Ledger>(
     alloc: Global,
     f: &Curve,
@@ -123,7 +114,7 @@ fn below_told<L: Ledger>(
     match min(alloc, f, g, steps) {
         Ok(lesser) => Ok(Answer::Truth {
             word: Word::Below,
-            holds: is_lesser(f, &lesser),
+            holds: is_below(f, &lesser),
         }),
         Err(fault) => Err(told_call(fault)),
     }

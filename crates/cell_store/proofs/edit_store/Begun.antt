@@ -16,8 +16,8 @@ use Rattle.net_cells.proofs.Lists.{Has, contains_has}
 use Rattle.net_cells.proofs.Members.{order_has}
 use Rattle.version_table.specs.Histories.{History}
 use Rattle.cell_rules.specs.cell_changes.Changes.{TouchedOf, changed, no_more, taken}
-use Rattle.cell_store.specs.Placed.{placed}
-use Rattle.cell_store.specs.Edits.{AllAnswered, IsEditOf, SameButAt}
+use Rattle.cell_rules.specs.cell_values.Placed.{placed}
+use Rattle.cell_rules.specs.cell_values.Edits.{AllAnswered, IsEditOf, SameButAt}
 use Rattle.cell_store.specs.edit_store.Stored.{IsStored}
 
 -- nothing: no server and no flow

@@ -14,7 +14,7 @@ use Rattle.cell_rules.specs.Finding.{AreCellsOf, HaveSameCellsBut, gone_of}
 use Rattle.cell_rules.specs.Sites.{IsSameBut}
 use Rattle.cell_rules.proofs.OfNumber.{same_but_server, same_but_flow}
 use Rattle.cell_store.specs.edit_store.Stored.{AreLost}
-use Rattle.cell_store.specs.edit_store.Replaced.{IsMadeAt}
+use Rattle.cell_rules.specs.edit_sites.Replaced.{IsMadeAt}
 
 -- ---- by where an edit changes a network
 pub server_shares : (site : Site) (s : ℕ) (old net : Net) → site ≡ Server s → IsSameBut site old net

@@ -19,8 +19,8 @@ use Rattle.net_edits.specs.declared.fault.EditFault.TheVariants.{UnknownName, Na
 use Rattle.net_edits.specs.Edited.{edited}
 use Rattle.net_edits.specs.Replies.{IsReply, IsOverNone}
 use Rattle.net_edits.proofs.OverNone.{within_none}
-use Rattle.cell_store.specs.Edits.{IsFirstTouched, RefusesFor}
-use Rattle.cell_store.proofs.Fronts.{are_touched}
+use Rattle.cell_rules.specs.cell_values.Edits.{IsFirstTouched, RefusesFor}
+use Rattle.cell_rules.proofs.cell_values.Fronts.{are_touched}
 use Rattle.cell_store.specs.edit_store.Stored.{Stored, AreTouched, IsAdvanced, IsBack}
 use Rattle.cell_store.specs.edit_store.Applied.{Gives, IsTaken, IsTakenBack, IsCellOver, IsRefused, IsEvaluated, IsHidden, IsUnplanned}
 use Rattle.cell_store.specs.edit_store.Faults.{graph_fault, analysis_fault}

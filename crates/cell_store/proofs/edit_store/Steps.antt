@@ -16,9 +16,9 @@ use Rattle.net_cells.proofs.Tables.{answered_meets}
 use Rattle.version_table.specs.Histories.{History}
 use Rattle.cell_rules.specs.cell_changes.Changes.{TouchedOf}
 use Rattle.cell_rules.proofs.cell_changes.CarriedOver.{touched_has, one_touched_list}
-use Rattle.cell_store.specs.Placed.{placed}
-use Rattle.cell_store.specs.Edits.{IsEditedTable}
-use Rattle.cell_store.proofs.Fronts.{are_touched}
+use Rattle.cell_rules.specs.cell_values.Placed.{placed}
+use Rattle.cell_rules.specs.cell_values.Edits.{IsEditedTable}
+use Rattle.cell_rules.proofs.cell_values.Fronts.{are_touched}
 use Rattle.cell_store.specs.edit_store.Stored.{Stored, HoldsTable, IsStored, AreTouched, AreLost}
 use Rattle.cell_store.specs.edit_store.Applied.{Gives}
 

@@ -15,14 +15,11 @@ use Rattle.net_cells.specs.Meanings.{CellTable}
 use Rattle.net_edits.specs.declared.fault.EditFault.{EditFault}
 use Rattle.net_edits.specs.declared.fault.EditFault.TheVariants.{UnknownName, NameTaken, BadValue, LimitReached, Cycle, TooMany, TooWide, NothingToUndo, NoMemory}
 use Rattle.net_edits.specs.Edited.{edited}
-use Rattle.net_edits.specs.Replies.{Refuses, IsEdited, IsEditOver, IsOverNone}
+use Rattle.net_edits.specs.Replies.{Refuses, IsEditOver, IsOverNone}
 pub use Rattle.cell_rules.specs.cell_changes.Changes.{Touched}
-use Rattle.cell_store.specs.Edits.{EditEnds}
+pub use Rattle.cell_rules.specs.edit_sites.Sites.{Gives}
+use Rattle.cell_rules.specs.cell_values.Edits.{EditEnds}
 use Rattle.cell_store.specs.edit_store.Stored.{Stored, networks, AreTouched}
-
--- an edit gives this network: what it makes of the present one, where the curve that it makes is over no limit
-abbrev pub Gives : Net → Edit → Net → Type 0
-Gives present edit net = IsEdited (edited present edit) net
 
 -- ---- an edit that is taken
 -- one network more, and so many touched cells

@@ -10,8 +10,8 @@ use Rattle.net_cells.specs.Order.{evaluation_order}
 use Rattle.version_table.specs.Histories.{History}
 use Rattle.cell_rules.specs.cell_changes.Slots.{HasSlot}
 use Rattle.cell_rules.specs.cell_changes.Changes.{TouchedOf}
-use Rattle.cell_store.specs.Placed.{placed}
-use Rattle.cell_store.specs.Edits.{AllAnswered}
+use Rattle.cell_rules.specs.cell_values.Placed.{placed}
+use Rattle.cell_rules.specs.cell_values.Edits.{AllAnswered}
 
 -- the networks before the present one, the first one first, and the versions of the values
 pub record Stored (V : Type 0) : Type 0 where

@@ -8,11 +8,12 @@ ghost use Rattle.net_edits.specs.Replies.{IsOverNone};
 ghost use Rattle.cell_rules.specs.Finding.{HaveSameCellsBut};
 ghost use Rattle.cell_store.specs.edit_store.Stored.{AreTouched, AreLost};
 ghost use Rattle.cell_store.specs.edit_store.Applied.{Gives, IsPlanned, IsUnplanned};
-ghost use Rattle.cell_store.specs.edit_store.Replaced.{put_back};
+ghost use Rattle.cell_rules.specs.edit_sites.Replaced.{put_back};
 
 use crate::edit_store::faults::graph_fault;
-use crate::edit_store::replaced::{Replaced, replaced_by};
-use crate::edit_store::site::{edits_are_made_at_one_site, edits_have_one_site, site_of};
+use cell_rules::edit_sites::{
+    Replaced, edits_are_made_at_one_site, edits_have_one_site, replaced_by, site_of,
+};
 use cell_rules::{Site, cells_of, gone_cells, touched_cells};
 use net_cells::Cell;
 use net_edits::{EditFault, edited_network};

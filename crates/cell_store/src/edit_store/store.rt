@@ -2,8 +2,8 @@
 
 use crate::edit_store::faults::analysis_fault;
 use crate::edit_store::plan::{Planned, plan};
-use crate::edit_store::replaced::{Replaced, no_network, put_back};
-use crate::{Values, edited_values, made_anew};
+use cell_rules::cell_values::{Values, edited_values, made_anew};
+use cell_rules::edit_sites::{Replaced, no_network, put_back};
 use net_cells::cell_table::{AnalysisFault, CellValue, Evaluator, Table};
 use net_cells::{Cell, cells};
 use net_edits::{EditFault, edited_network};
@@ -25,7 +25,8 @@ pub struct Store<V: CellValue + Drop> {
 
 impl<V: CellValue + Drop> Model for Store<V> {
     ghost use Rattle.cell_store.specs.edit_store.Stored.{Stored};
-    ghost use Rattle.cell_store.specs.edit_store.Replaced.{networks_before, IsKept};
+    ghost use Rattle.cell_rules.specs.edit_sites.Replaced.{networks_before};
+    ghost use Rattle.cell_store.specs.edit_store.Kept.{IsKept};
 
     ghost Value = { Stored V };
 
@@ -39,7 +40,7 @@ impl<V: CellValue + Drop> Model for Store<V> {
 }
 
 impl<V: CellValue + Drop> Table<V> for Store<V> {
-    ghost use Rattle.cell_store.specs.Placed.{placed};
+    ghost use Rattle.cell_rules.specs.cell_values.Placed.{placed};
 
     ghost at = { λ s. placed V.meaning s.values.newest };
 
@@ -60,9 +61,9 @@ impl<V: CellValue + Drop> Store<V> {
     ghost use Rattle.net_cells.specs.Work.{work};
     ghost use Rattle.net_cells.specs.MemoryEnds.{MemoryEnds};
     ghost use Rattle.cell_rules.specs.cell_changes.Slots.{slots};
-    ghost use Rattle.cell_store.specs.Edits.{IsFirst, IsFirstTouched, RefusesFor, EditEnds};
+    ghost use Rattle.cell_rules.specs.cell_values.Edits.{IsFirst, IsFirstTouched, RefusesFor, EditEnds};
     ghost use Rattle.cell_store.specs.edit_store.Stored.{AreTouched, AreLost, IsStored, IsAdvanced, IsBack};
-    ghost use Rattle.cell_store.specs.edit_store.Replaced.{put_back};
+    ghost use Rattle.cell_rules.specs.edit_sites.Replaced.{put_back};
     ghost use Rattle.cell_store.specs.edit_store.Applied.{Gives, IsApplied, IsTaken, IsRefused, IsEvaluated, IsShown, IsHidden};
     ghost use Rattle.cell_store.specs.edit_store.Applied.{EndsInEdit};
     ghost use Rattle.cell_store.specs.edit_store.Faults.{EditWants};

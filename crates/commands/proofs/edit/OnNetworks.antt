@@ -13,8 +13,8 @@ use Rattle.net_cells.specs.FirstOver.{FirstOver}
 use Rattle.net_cells.specs.Equations.{MeetsEquations}
 use Rattle.net_cells.specs.Meanings.{Meaning, CellTable}
 use Rattle.input_texts.specs.table_text.EditRows.{edit_view}
-use Rattle.cell_store.specs.Edits.{IsFirst}
-use Rattle.cell_store.specs.Placed.{placed}
+use Rattle.cell_rules.specs.cell_values.Edits.{IsFirst}
+use Rattle.cell_rules.specs.cell_values.Placed.{placed}
 use Rattle.cell_store.specs.edit_store.Stored.{Stored, IsStored}
 use Rattle.net_cells.proofs.Tables.{answers_meet}
 use Rattle.report_text.specs.declared.json_report.form.Form.{Form}

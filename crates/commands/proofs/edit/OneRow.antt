@@ -12,7 +12,7 @@ use Rattle.net_cells.specs.Order.{evaluation_order}
 use Rattle.net_cells.proofs.Lists.{contains_has}
 use Rattle.net_cells.proofs.Members.{order_has}
 use Rattle.net_edits.specs.declared.fault.EditFault.{EditFault}
-use Rattle.cell_store.specs.Placed.{placed}
+use Rattle.cell_rules.specs.cell_values.Placed.{placed}
 use Rattle.cell_store.specs.edit_store.Stored.{Stored, HoldsTable, IsStored}
 use Rattle.cell_store.specs.edit_store.Applied.{IsApplied}
 use Rattle.commands.specs.edit_report.Said.{EditSaid, Made, said_of}

@@ -13,7 +13,7 @@ ghost use Rattle.commands.specs.edit.EditCounts.{WorkOfEdits, CountsOnEdits};
 
 use crate::edit::rows::all_answered;
 use crate::edit_report::edit_text_in;
-use cell_store::Counted;
+use cell_eval::Counted;
 use cell_store::edit_store::Store;
 use command_replies::{Answer, Status, cell_too_many, cell_too_wide, goes_round};
 use net_cells::cell_table::{AnalysisFault, Evaluator, Value};

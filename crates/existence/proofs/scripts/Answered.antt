@@ -24,7 +24,7 @@ use Rattle.curve_lang.specs.Finding.{Still, Once, Then, Gives, CallFinds, ValueF
 use Rattle.curve_lang.specs.Finding.{MayWait}
 use Rattle.curve_lang.specs.Found as script
 use Rattle.curve_lang.specs.Found.{Let, curve_named, Finds, Added, AddsName, AddsAnswer, IsDelay, IsBacklog, IsBelow, TwoFinds, TellsValue, TimeFinds, AsksTime, AsksOf, AsksBoth, Kept, NewName, StatementFinds, fault_at, Told, ScriptFinds}
-use Rattle.curve_lang.proofs.Below.{lesser_is}
+use Rattle.curve_deviation.proofs.Lesser.{lesser_is}
 use Rattle.existence.proofs.curves.Deciding.{on_parts, both}
 use Rattle.existence.proofs.curves.Horizontals.{horizontal_answered}
 use Rattle.existence.proofs.curves.Lattices.{lower_answered}

@@ -38,8 +38,9 @@ use Rattle.net_cells.proofs.Lists.{map_has}
 use Rattle.net_cells.proofs.LeavesOf.{parts_leaves}
 use Rattle.net_cells.proofs.LeftOf.{before_is}
 use Rattle.net_cells.proofs.Precedes.{some_hop}
-use Rattle.cell_eval.specs.Shapes.{Rises, Serving, Grows}
-use Rattle.cell_eval.proofs.Meeting.{Meets, curve_map, curve_holds, has_curve, number_from, sum_leaf, served_leaf}
+use Rattle.cell_numbers.specs.Shapes.{Rises, Serving, Grows}
+use Rattle.cell_numbers.proofs.OnCells.{curve_holds}
+use Rattle.cell_eval.proofs.Meeting.{Meets, curve_map, has_curve, number_from, sum_leaf, served_leaf}
 use Rattle.cell_eval.proofs.Shapes.{in_rises, cross_rises, total_rises, higher_rises, queue_served, hop_served, residual_grows, path_grows, queue_delay_ahead, hop_delay_ahead, IsServerAt, server_there, service_grows}
 use Rattle.plain_operators.specs.pointwise.Shifting.{IsAhead}
 use Rattle.existence.proofs.curves.Lattices.{lower_answered, above_answered}

@@ -5,9 +5,9 @@ use Rattle.std.proofs.lemmas.List.{map-append, length-map}
 use Rattle.net_model.specs.Views.{flow_of}
 use Rattle.net_cells.specs.declared.cell.Kind.TheVariants.{In}
 use Rattle.net_cells.specs.Order.{at_visit}
-use Rattle.cell_eval.specs.Chosen.{chosen, all_chosen}
+use Rattle.cell_numbers.specs.Chosen.{chosen, all_chosen}
 use Rattle.cell_eval.specs.Partial.{Adds}
-use Rattle.cell_eval.proofs.Choosing.{all_chosen_more, flat_front}
+use Rattle.cell_numbers.proofs.Choosing.{all_chosen_more, flat_front}
 use Rattle.cell_eval.proofs.SumSteps.{adds_then, adds_rest}
 use Rattle.cell_eval.proofs.curve_sums.flows_sum.Goals as goal
 

@@ -2,7 +2,7 @@ use Rattle.std.proofs.Common.{[], map}
 use Rattle.std.specs.Prelude.{Ok}
 use Rattle.net_cells.specs.declared.cell.Kind.TheVariants.{In}
 use Rattle.net_cells.specs.Order.{at_visit}
-use Rattle.cell_eval.specs.Chosen.{all_chosen}
+use Rattle.cell_numbers.specs.Chosen.{all_chosen}
 use Rattle.cell_eval.specs.Partial.{IsReady, Adds}
 use Rattle.cell_eval.proofs.curve_sums.flows_sum.Given as goal
 

@@ -7,7 +7,7 @@ use Rattle.net_cells.specs.declared.cell.Kind.TheVariants.{Total}
 use Rattle.net_cells.specs.Cells.{cell_of}
 use Rattle.cell_eval.specs.declared.curve_sums.Partial.{Partial}
 use Rattle.cell_eval.specs.Partial.{Adds}
-use Rattle.cell_eval.proofs.Choosing.{map_front}
+use Rattle.cell_numbers.proofs.Choosing.{map_front}
 use Rattle.cell_eval.proofs.SumSteps.{adds_then, adds_rest}
 use Rattle.cell_eval.proofs.curve_sums.queues_sum.Given.{Over}
 use Rattle.cell_eval.proofs.curve_sums.queues_sum.Goals.{After-added}

@@ -2,7 +2,7 @@ use Rattle.std.proofs.Common.{sym, ap, ◌∙◌, subst, map}
 use Rattle.std.specs.Prelude.{Ok}
 use Rattle.net_cells.specs.declared.cell.Kind.TheVariants.{In}
 use Rattle.net_cells.specs.Order.{at_visit}
-use Rattle.cell_eval.specs.Chosen.{visit_list}
+use Rattle.cell_numbers.specs.Chosen.{visit_list}
 use Rattle.cell_eval.specs.Partial.{Adds}
 use Rattle.cell_eval.proofs.SumSteps.{adds_none}
 use Rattle.cell_eval.proofs.curve_sums.with_flow.Goals as goal

@@ -7,10 +7,10 @@ use Rattle.net_cells.specs.declared.visit.Visit.{Visit}
 use Rattle.net_cells.specs.Visits.{others}
 use Rattle.net_cells.specs.Order.{at_visit}
 use Rattle.net_cells.specs.cell_table.Values.{answer_of, meaning_of}
-use Rattle.cell_eval.specs.declared.found.Pick.TheVariants.{InQueue}
-use Rattle.cell_eval.specs.Chosen.{all_chosen}
+use Rattle.cell_numbers.specs.declared.found.Pick.TheVariants.{InQueue}
+use Rattle.cell_numbers.specs.Chosen.{all_chosen}
 use Rattle.cell_eval.specs.Partial.{Adds}
-use Rattle.cell_eval.proofs.Choosing.{other_visits}
+use Rattle.cell_numbers.proofs.Choosing.{other_visits}
 use Rattle.outcomes.specs.Spending.{Counts}
 use Rattle.cell_eval.proofs.Arms.{cross_ready}
 use Rattle.cell_eval.proofs.curves.cross.Goals as goal

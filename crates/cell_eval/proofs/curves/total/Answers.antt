@@ -8,7 +8,7 @@ use Rattle.net_cells.specs.Visits.{visits_in}
 use Rattle.net_cells.specs.Order.{at_visit}
 use Rattle.net_cells.specs.cell_table.Values.{answer_of, meaning_of}
 use Rattle.cell_eval.specs.Partial.{Adds}
-use Rattle.cell_eval.proofs.Choosing.{queue_visits}
+use Rattle.cell_numbers.proofs.Choosing.{queue_visits}
 use Rattle.outcomes.specs.Spending.{Counts}
 use Rattle.cell_eval.proofs.Arms.{total_ready, parts_ready, total_evaluates}
 use Rattle.net_cells.specs.CellFormulas.{parts_sum}

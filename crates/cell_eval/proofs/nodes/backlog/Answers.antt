@@ -10,7 +10,8 @@ use Rattle.net_cells.specs.CellFormulas.{less}
 use Rattle.net_cells.specs.Refusals.{RefusedAt}
 use Rattle.net_cells.specs.cell_table.Values.{answer_of}
 use Rattle.outcomes.proofs.Spending.{counts_all}
-use Rattle.cell_eval.proofs.Handing.{deviates, backlog_made, backlog_refused}
+use Rattle.cell_numbers.proofs.OnCells.{deviates}
+use Rattle.cell_eval.proofs.Handing.{backlog_made, backlog_refused}
 use Rattle.cell_eval.proofs.OperatorStopping.{backlog_first, backlog_second}
 use Rattle.cell_eval.proofs.nodes.backlog.Given.{Over}
 use Rattle.cell_eval.proofs.nodes.backlog.Goals.{After-deref, After-vertical}

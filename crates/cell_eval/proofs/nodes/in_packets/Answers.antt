@@ -10,8 +10,8 @@ use Rattle.net_cells.specs.Meanings.{curve}
 use Rattle.net_cells.specs.Formulas.{value_of}
 use Rattle.net_cells.specs.CellFormulas.{less}
 use Rattle.net_cells.specs.Refusals.{RefusedAt}
-use Rattle.cell_eval.specs.Shapes.{Serving}
-use Rattle.cell_eval.proofs.Meeting.{curve_holds}
+use Rattle.cell_numbers.specs.Shapes.{Serving}
+use Rattle.cell_numbers.proofs.OnCells.{curve_holds}
 use Rattle.cell_eval.proofs.Handing.{packets_finite}
 use Rattle.cell_eval.proofs.PathSteps.{less_answer}
 use Rattle.cell_eval.proofs.OperatorStopping.{less_refused}

@@ -5,9 +5,9 @@ use Rattle.curve_call.specs.Calls.{Applies}
 use Rattle.net_cells.specs.Meanings.{curve}
 use Rattle.net_cells.specs.Answers.{MakesCurve}
 use Rattle.net_cells.specs.cell_table.Values.{answer_of, meaning_of}
-use Rattle.cell_eval.specs.Shapes.{Serving}
-use Rattle.cell_eval.proofs.Meeting.{curve_holds}
-use Rattle.cell_eval.proofs.Handing.{applies_out, shared_makes, on_cell, on_number_cell}
+use Rattle.cell_numbers.specs.Shapes.{Serving}
+use Rattle.cell_numbers.proofs.OnCells.{curve_holds, on_cell}
+use Rattle.cell_eval.proofs.Handing.{applies_out, shared_makes, on_number_cell}
 use Rattle.cell_eval.proofs.nodes.left_over.Goals as goal
 
 pub fifo_service-made-requires-clause-finite : goal.fifo_service-made-requires-clause-finite

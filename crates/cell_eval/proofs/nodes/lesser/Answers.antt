@@ -6,7 +6,8 @@ use Rattle.curve_call.proofs.Applied.{applied_seen}
 use Rattle.net_cells.specs.Meanings.{curve}
 use Rattle.net_cells.specs.Answers.{MakesCurve}
 use Rattle.net_cells.specs.cell_table.Values.{answer_of, meaning_of}
-use Rattle.cell_eval.proofs.Handing.{applies_out, shared_makes, on_cell}
+use Rattle.cell_numbers.proofs.OnCells.{on_cell}
+use Rattle.cell_eval.proofs.Handing.{applies_out, shared_makes}
 use Rattle.cell_eval.proofs.nodes.lesser.Goals as goal
 
 pub returns-clause-answer : goal.returns-clause-answer

@@ -4,7 +4,7 @@ use Rattle.net_cells.specs.Cells.{cell_of}
 use Rattle.net_cells.specs.Formulas.{value_of, horizontal}
 use Rattle.outcomes.proofs.Spending.{counts_all}
 use Rattle.cell_eval.proofs.Arms.{hop_comes, hop_served_by, hop_queue}
-use Rattle.cell_eval.proofs.PathSums.{smaller_answer, smaller_refused}
+use Rattle.cell_numbers.proofs.OnCells.{smaller_answer, smaller_refused}
 use Rattle.cell_eval.proofs.Stopping.{ok_stops}
 use Rattle.net_cells.proofs.OneOperator.{horizontal_refused}
 use Rattle.cell_eval.proofs.numbers.hop_delay.Goals as goal

@@ -4,8 +4,8 @@ use Rattle.net_cells.specs.Formulas.{value_of, vertical}
 use Rattle.net_cells.specs.Meanings.{number}
 use Rattle.cell_eval.proofs.Arms.{backlog_comes, backlog_served_by}
 use Rattle.net_cells.specs.Visits.{longest_of}
-use Rattle.cell_eval.specs.declared.found.Pick.TheVariants.{InQueue}
-use Rattle.cell_eval.proofs.Choosing.{picked_are}
+use Rattle.cell_numbers.specs.declared.found.Pick.TheVariants.{InQueue}
+use Rattle.cell_numbers.proofs.Choosing.{picked_are}
 use Rattle.net_cells.specs.declared.cell.Kind.TheVariants.{Total, QueueService, QueueBacklog}
 use Rattle.net_cells.specs.Cells.{cell_of}
 use Rattle.net_cells.specs.CellFormulas.{less, formula}

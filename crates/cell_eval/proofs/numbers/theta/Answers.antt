@@ -10,22 +10,19 @@ use Rattle.net_cells.specs.cell_table.Values.{answer_of, meaning_of}
 use Rattle.net_cells.proofs.OneOperator.{horizontal_never}
 use Rattle.cell_eval.proofs.numbers.theta.Goals as goal
 
-pub delay_between-requires-clause-rises : goal.delay_between-requires-clause-rises
-delay_between-requires-clause-rises g c = theta_cross c.args.net.now (g.T.Table.at c.args.table.now) c.args.flow c.args.hop c.requires
+pub theta_of-requires-clause-rises : goal.theta_of-requires-clause-rises
+theta_of-requires-clause-rises g c = theta_cross c.args.net.now (g.T.Table.at c.args.table.now) c.args.flow c.args.hop c.requires
 
-pub delay_between-requires-clause-serves : goal.delay_between-requires-clause-serves
-delay_between-requires-clause-serves g c =
-    rw (c.place_of-place.ensures.server, c.place_of-place.ensures.queue)
-    (theta_service c.args.net.now (g.T.Table.at c.args.table.now) c.args.flow c.args.hop c.requires)
+pub theta_of-requires-clause-serves : goal.theta_of-requires-clause-serves
+theta_of-requires-clause-serves g c = theta_service c.args.net.now (g.T.Table.at c.args.table.now) c.args.flow c.args.hop c.requires
 
 pub returns : goal.returns
 returns g c = record {
-  answer = rw c.numbered.ensures (rw (c.place_of-place.ensures.server, c.place_of-place.ensures.queue) at c.delay_between.ensures.answer);
-  counts = counts_all 1 c.args.steps.now _ _ c.delay_between.ensures.count;
+  answer = c.theta_of.ensures.answer;
+  counts = counts_all 1 c.args.steps.now _ _ c.theta_of.ensures.count;
   memory = λ is. let at = g.T.Table.at c.args.table.now in
       let from = cell_of Cross c.args.flow c.args.hop in
       let by = cell_of QueueService (server_of_hop c.args.net.now c.args.flow c.args.hop) (queue_of_hop c.args.net.now c.args.flow c.args.hop) in
-      let answer : Answers at (horizontal (value_of from) (value_of by)) (answer_of meaning_of c.numbered.result) =
-      rw c.numbered.ensures (rw (c.place_of-place.ensures.server, c.place_of-place.ensures.queue) at c.delay_between.ensures.answer) in
+      let answer : Answers at (horizontal (value_of from) (value_of by)) (answer_of meaning_of c.theta_of.result) = c.theta_of.ensures.answer in
       absurd (horizontal_never at from by (subst (λ r. Answers at (horizontal (value_of from) (value_of by)) r) is answer));
 }

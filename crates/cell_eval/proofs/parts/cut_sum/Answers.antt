@@ -7,11 +7,11 @@ use Rattle.net_cells.specs.CellFormulas.{sum_of_hops}
 use Rattle.net_cells.specs.Answers.{Answers}
 use Rattle.net_cells.specs.Formulas.{cut}
 use Rattle.net_cells.specs.cell_table.Values.{answer_of}
-use Rattle.cell_eval.proofs.Choosing.{part_picked}
+use Rattle.cell_numbers.proofs.Choosing.{part_picked}
 use Rattle.outcomes.specs.Spending.{Counts}
 use Rattle.rational.specs.Rational.{◌≤ℚ◌}
 use Rattle.min_plus.specs.Functions.{zero_q}
-use Rattle.cell_eval.proofs.LinkRates.{rate_low}
+use Rattle.cell_numbers.proofs.LinkRates.{rate_low}
 use Rattle.cell_eval.proofs.PartSteps.{cut_is}
 use Rattle.std.specs.Prelude.{IfErr}
 use Rattle.net_cells.specs.Meanings.{CellTable}

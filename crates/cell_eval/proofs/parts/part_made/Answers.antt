@@ -11,7 +11,7 @@ use Rattle.cell_eval.specs.declared.curve_sums.Partial.{Partial}
 use Rattle.outcomes.specs.Spending.{Counts}
 use Rattle.cell_eval.specs.Partial.{Adds}
 use Rattle.cell_eval.specs.Parts.{MakesPart, part_answer, part_work}
-use Rattle.cell_eval.proofs.Choosing.{part_visits}
+use Rattle.cell_numbers.proofs.Choosing.{part_visits}
 use Rattle.outcomes.proofs.Spending.{counts_all}
 use Rattle.cell_eval.proofs.OperatorStopping.{err_map}
 use Rattle.cell_eval.proofs.SumSteps.{failed_at}

@@ -9,7 +9,7 @@ use Rattle.net_cells.specs.Meanings.{curve}
 use Rattle.net_cells.specs.Formulas.{value_of}
 use Rattle.net_cells.specs.CellFormulas.{packets_to}
 use Rattle.net_cells.specs.cell_table.Values.{answer_of, meaning_of}
-use Rattle.cell_eval.specs.Shapes.{Serving}
+use Rattle.cell_numbers.specs.Shapes.{Serving}
 use Rattle.cell_eval.proofs.Meeting.{curve_map}
 use Rattle.cell_eval.proofs.Handing.{applies_out, shared_makes}
 use Rattle.cell_eval.proofs.PathSteps.{joined_answer, first_fails}

@@ -3,7 +3,7 @@ use Rattle.net_cells.specs.declared.cell.Kind.TheVariants.{Residual}
 use Rattle.net_cells.specs.Numbered.{hops}
 use Rattle.net_cells.specs.Cells.{cell_of}
 use Rattle.net_cells.specs.cell_table.Values.{answer_of, meaning_of}
-use Rattle.cell_eval.specs.Shapes.{Serving}
+use Rattle.cell_numbers.specs.Shapes.{Serving}
 use Rattle.cell_eval.proofs.Meeting.{curve_map}
 use Rattle.cell_eval.proofs.PathSteps.{last_served, only_served}
 use Rattle.std.specs.Prelude.{IfErr}

@@ -8,9 +8,10 @@ use Rattle.net_cells.specs.Meanings.{curve}
 use Rattle.net_cells.specs.Formulas.{value_of, priority}
 use Rattle.net_cells.specs.Answers.{Answers, MakesCurve}
 use Rattle.net_cells.specs.cell_table.Values.{answer_of, meaning_of}
-use Rattle.cell_eval.proofs.Handing.{priority_out, shared_makes, on_cell}
-use Rattle.cell_eval.specs.declared.found.Pick.TheVariants.{AfterQueue}
-use Rattle.cell_eval.proofs.Choosing.{picked_are}
+use Rattle.cell_numbers.proofs.OnCells.{on_cell}
+use Rattle.cell_eval.proofs.Handing.{priority_out, shared_makes}
+use Rattle.cell_numbers.specs.declared.found.Pick.TheVariants.{AfterQueue}
+use Rattle.cell_numbers.proofs.Choosing.{picked_are}
 use Rattle.cell_eval.proofs.SharedCounts.{shared_counts}
 use Rattle.std.specs.Prelude.{IfErr}
 use Rattle.net_cells.specs.Refusals.{RefusedAt}

@@ -2,8 +2,8 @@ use Rattle.std.proofs.Common.{sym, ap, ◌∙◌, arith, map, [], ◌∷◌, ◌
 use Rattle.std.specs.List.{range_with_len}
 use Rattle.std.proofs.lemmas.List.FromFn.{map-range_with_len_more}
 use Rattle.net_cells.specs.Visits.{longest, longest_of}
-use Rattle.cell_eval.specs.declared.found.Pick.TheVariants.{InQueue}
-use Rattle.cell_eval.proofs.Choosing.{picked_are}
+use Rattle.cell_numbers.specs.declared.found.Pick.TheVariants.{InQueue}
+use Rattle.cell_numbers.proofs.Choosing.{picked_are}
 use Rattle.cell_eval.proofs.services.longest_each.Goals as goal
 
 pub loop-queue-preserved : goal.loop-queue-preserved

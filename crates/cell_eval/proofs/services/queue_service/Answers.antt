@@ -18,7 +18,7 @@ use Rattle.net_cells.specs.cell_table.Values.{answer_of, meaning_of}
 use Rattle.net_cells.proofs.LeftOf.{left_fits}
 use Rattle.outcomes.specs.Spending.{Counts}
 use Rattle.outcomes.proofs.Spending.{counts_none}
-use Rattle.cell_eval.specs.TableValues.{IsCurveAt}
+use Rattle.cell_numbers.specs.TableValues.{IsCurveAt}
 use Rattle.cell_eval.proofs.Handing.{again_out, shared_makes}
 use Rattle.cell_eval.proofs.services.queue_service.Given.{Over}
 use Rattle.cell_eval.proofs.services.queue_service.Goals.{In-Some, After-shared}

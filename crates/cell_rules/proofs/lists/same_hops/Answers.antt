@@ -1,5 +1,5 @@
 use Rattle.std.proofs.Common.{length, arith}
-use Rattle.cell_eval.specs.Chosen.{chosen}
+use Rattle.cell_numbers.specs.Chosen.{chosen}
 use Rattle.cell_rules.proofs.Tells.{tells_no}
 use Rattle.cell_rules.proofs.SameHops.{same_flat, other_flat, chosen_blank, chosen_own}
 use Rattle.cell_rules.proofs.lists.same_hops.Goals as goal

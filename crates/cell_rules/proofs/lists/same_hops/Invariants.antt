@@ -1,5 +1,5 @@
 use Rattle.std.proofs.Common.{◌≡◌, ℕ, ◌<◌}
-use Rattle.cell_eval.specs.Chosen.{chosen}
+use Rattle.cell_numbers.specs.Chosen.{chosen}
 use Rattle.cell_rules.proofs.lists.same_hops.Given as goal
 
 abbrev pub invariant-loop-flow : goal.invariant-loop-flow

@@ -1,7 +1,7 @@
 use Rattle.std.proofs.Common.{◌≡◌, suc, ◌-◌, [], length, arith}
 use Rattle.std.specs.Prelude.{None}
-use Rattle.cell_eval.specs.declared.found.Pick.TheVariants.{InPart}
-use Rattle.cell_eval.specs.Chosen.{all_chosen}
+use Rattle.cell_numbers.specs.declared.found.Pick.TheVariants.{InPart}
+use Rattle.cell_numbers.specs.Chosen.{all_chosen}
 use Rattle.cell_rules.proofs.Tells.{tells_yes, tells_no}
 use Rattle.cell_rules.proofs.SameParts.{part_differs, entering_same, unused_same, cut_tells}
 use Rattle.cell_rules.proofs.lists.same_part.Goals as goal

@@ -6,19 +6,16 @@ use Rattle.min_plus.specs.Pointwise.{IsMinimum}
 use Rattle.upp_curve.specs.Curve.{SpecCurve, value_at}
 use Rattle.upp_limits.specs.Outcome.{KeepsLimits}
 use Rattle.upp_limits.specs.declared.op_kind.OpKind.TheVariants as calls
-use Rattle.curve_lang.proofs.Below.{lesser_is}
 use Rattle.curve_lang.proofs.questions.below_told.Goals as goal
 
 pub returns-in-Ok : goal.returns-in-Ok
 returns-in-Ok g c =
     let f = c.args.f.now in
     let h = c.args.g.now in
-    let k = c.in-Ok.lesser in
-    let least = subst (λ x. IfOk x (λ (d : SpecCurve). (t : ℚ) → zero_q ≤ℚ t → IsMinimum (value_at f) (value_at h) t (value_at d t))) c.in-Ok.is c.min.ensures.value in
-    let both = lesser_is f h k least in (
+    let least = subst (λ x. IfOk x (λ (d : SpecCurve). (t : ℚ) → zero_q ≤ℚ t → IsMinimum (value_at f) (value_at h) t (value_at d t))) c.in-Ok.is c.min.ensures.value in (
       (
         subst (λ x. KeepsLimits calls.Min f h x) c.in-Ok.is c.min.ensures.limits,
-        (c.is_lesser.result, (λ e. both.0 (c.is_lesser.ensures.0 e), λ below. c.is_lesser.ensures.1 (both.1 below)), refl),
+        (c.is_below.result, c.is_below.ensures h least, refl),
       ),
       c.min.ensures.count,
     )

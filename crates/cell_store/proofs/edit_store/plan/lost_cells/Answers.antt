@@ -1,5 +1,5 @@
 use Rattle.std.proofs.Common.{sym, ◌∙◌}
-use Rattle.cell_store.specs.edit_store.Sites.{site_of}
+use Rattle.cell_rules.specs.edit_sites.Sites.{site_of}
 use Rattle.cell_store.proofs.edit_store.Lost.{server_shares, flow_shares, never_anywhere}
 use Rattle.cell_store.proofs.edit_store.plan.lost_cells.Goals as goal
 

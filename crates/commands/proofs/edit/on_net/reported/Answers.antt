@@ -1,7 +1,7 @@
 use Rattle.std.proofs.Common.{List, ℕ, map, ap, ◌∙◌, subst}
 use Rattle.net_model.specs.Accepted.{IsAccepted}
 use Rattle.net_model.specs.Networks.{Net}
-use Rattle.cell_store.specs.Placed.{placed}
+use Rattle.cell_rules.specs.cell_values.Placed.{placed}
 use Rattle.net_cells.specs.cell_table.Values.{meaning_of}
 use Rattle.commands.specs.edit_report.EditReport.{edit_report_in}
 use Rattle.commands.specs.edit_report.Said.{EditSaid, said_view}

@@ -2,14 +2,14 @@ use Rattle.std.proofs.Common.{◌≡◌, ℕ, ◌<◌, ◌^◌, length, ◌++◌
 use Rattle.std.specs.Prelude.{Result, IfErr, OnErr}
 use Rattle.std.proofs.lemmas.Result.{IfOk-from_err, err_from_is_err_and}
 use Rattle.net_model.specs.Networks.{Net}
-use Rattle.cell_store.specs.Placed.{placed}
+use Rattle.cell_rules.specs.cell_values.Placed.{placed}
 use Rattle.net_cells.specs.Order.{evaluation_order}
 use Rattle.cell_rules.specs.cell_changes.Changes.{TouchedOf}
-use Rattle.cell_store.specs.Edits.{EditEnds, at_none, RefusesFor, IsFirstTouched}
+use Rattle.cell_rules.specs.cell_values.Edits.{EditEnds, at_none, RefusesFor, IsFirstTouched}
 use Rattle.version_table.specs.Histories.{History}
-use Rattle.cell_store.specs.declared.edit_store.replaced.Replaced.{Replaced}
+use Rattle.cell_rules.specs.declared.edit_sites.replaced.Replaced.{Replaced}
 use Rattle.cell_store.specs.edit_store.Stored.{Stored, AreTouched, AreLost}
-use Rattle.cell_store.specs.edit_store.Replaced.{put_back, networks_before}
+use Rattle.cell_rules.specs.edit_sites.Replaced.{put_back, networks_before}
 use Rattle.cell_store.proofs.edit_store.Steps.{holds_edited}
 use Rattle.cell_store.proofs.edit_store.PutBack.{kept_more, advanced}
 use Rattle.cell_store.proofs.edit_store.store.Store.advance.Goals as goal

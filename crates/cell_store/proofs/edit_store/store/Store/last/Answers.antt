@@ -3,8 +3,8 @@ use Rattle.std.specs.Prelude.{slice_get}
 use Rattle.std.proofs.lemmas.Option.{slice_get-get_or}
 use Rattle.std.proofs.lemmas.Result.{IfOk-from_err}
 use Rattle.net_model.specs.Accepted.{IsAccepted}
-use Rattle.cell_store.specs.declared.edit_store.replaced.Replaced.{Replaced}
-use Rattle.cell_store.specs.edit_store.Replaced.{put_back, networks_before}
+use Rattle.cell_rules.specs.declared.edit_sites.replaced.Replaced.{Replaced}
+use Rattle.cell_rules.specs.edit_sites.Replaced.{put_back, networks_before}
 use Rattle.cell_store.proofs.edit_store.PutBack.{split_last, last_accepted, before_more}
 use Rattle.cell_store.proofs.edit_store.store.Store.last.Given.{Over}
 use Rattle.cell_store.proofs.edit_store.store.Store.last.Goals.{In-Some}

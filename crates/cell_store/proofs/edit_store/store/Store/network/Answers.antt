@@ -1,4 +1,4 @@
-use Rattle.cell_store.specs.edit_store.Replaced.{networks_before}
+use Rattle.cell_rules.specs.edit_sites.Replaced.{networks_before}
 use Rattle.cell_store.proofs.edit_store.Steps.{meets_of}
 use Rattle.cell_store.proofs.edit_store.store.Store.network.Goals as goal
 

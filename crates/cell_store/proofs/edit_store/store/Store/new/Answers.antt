@@ -1,8 +1,8 @@
 use Rattle.std.proofs.Common.{◌∙◌, List, sym, subst, arith}
 use Rattle.net_cells.specs.MemoryEnds.{at_none}
-use Rattle.cell_store.specs.Placed.{placed}
-use Rattle.cell_store.specs.declared.edit_store.replaced.Replaced.{Replaced}
-use Rattle.cell_store.specs.edit_store.Replaced.{IsKept}
+use Rattle.cell_rules.specs.cell_values.Placed.{placed}
+use Rattle.cell_rules.specs.declared.edit_sites.replaced.Replaced.{Replaced}
+use Rattle.cell_store.specs.edit_store.Kept.{IsKept}
 use Rattle.cell_store.proofs.edit_store.Begun.{first_edit, first_stored}
 use Rattle.cell_store.proofs.edit_store.PutBack.{first_kept}
 use Rattle.cell_store.proofs.edit_store.store.Store.new.Goals as goal

@@ -9,7 +9,7 @@ use Rattle.net_edits.specs.Edited.{edited}
 use Rattle.net_edits.specs.Replies.{IsOverNone}
 use Rattle.net_edits.specs.declared.fault.EditFault.{EditFault}
 use Rattle.net_edits.specs.declared.fault.EditFault.TheVariants.{UnknownName, NameTaken, BadValue, LimitReached, Cycle, TooMany, TooWide, NothingToUndo, NoMemory}
-use Rattle.cell_store.specs.Placed.{placed}
+use Rattle.cell_rules.specs.cell_values.Placed.{placed}
 use Rattle.cell_store.specs.edit_store.Stored.{AreTouched, AreLost}
 use Rattle.cell_store.specs.edit_store.Applied.{Gives, IsPlanned, IsUnplanned, IsRefused, EndsInEdit, before_cells, in_cells}
 use Rattle.net_cells.specs.declared.cell_table.fault.AnalysisFault.{AnalysisFault}

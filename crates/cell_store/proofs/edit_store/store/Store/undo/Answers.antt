@@ -3,7 +3,8 @@ use Rattle.std.proofs.lemmas.List.{length_push}
 use Rattle.net_model.specs.Networks.{Net}
 use Rattle.net_model.specs.Accepted.{IsAccepted}
 use Rattle.version_table.specs.Histories.{IsUndone}
-use Rattle.cell_store.specs.edit_store.Replaced.{put_back, IsKept}
+use Rattle.cell_rules.specs.edit_sites.Replaced.{put_back}
+use Rattle.cell_store.specs.edit_store.Kept.{IsKept}
 use Rattle.cell_store.proofs.edit_store.Steps.{was_undone}
 use Rattle.cell_store.proofs.edit_store.PutBack.{last_accepted, kept_less, count_before, then_back, gone_back}
 use Rattle.cell_store.proofs.edit_store.store.Store.undo.Given.{Over}

@@ -1,0 +1,120 @@
+use Rattle.std.proofs.Common.{◌≡◌, ◌+◌, ◌-◌, List, ◌∷◌, [], ◌++◌, take, drop, sym, ap, ◌∙◌, subst, arith, Err}
+use Rattle.std.proofs.lemmas.List.{take_all, take_more}
+use Rattle.std.proofs.lemmas.List.Sums.{sum_by_more, sum_by_more_le}
+use Rattle.net_cells.specs.declared.cell.Cell.{Cell}
+use Rattle.net_cells.specs.contracts.cell.CellOrd.TheImpl as order
+use Rattle.net_cells.specs.Meanings.{CellTable}
+use Rattle.net_cells.specs.Order.{evaluation_order}
+use Rattle.net_cells.specs.FirstOver.{AnswersAll}
+use Rattle.net_cells.specs.Work.{work}
+use Rattle.net_cells.proofs.Precedes.{in_front}
+use Rattle.net_cells.proofs.Tables.{answers_meet, front_meets_below}
+use Rattle.net_cells.specs.cell_table.Values.{held}
+use Rattle.cell_eval.specs.flow_analysis.Analyses.{HasNothingElse}
+use Rattle.net_cells.proofs.cell_table.Fronts.{no_cell, cell_at, at_place, grown}
+use Rattle.cell_eval.proofs.flow_analysis.Fronts.{still_nothing, refused, wants_memory, ends_here}
+use Rattle.net_cells.specs.CellFormulas.{formula}
+use Rattle.net_cells.specs.MemoryEnds.{MemoryEnds, making, keeping}
+use Rattle.net_cells.proofs.Works.{work_is}
+use Rattle.net_cells.proofs.cell_table.GivesAnswers.{gives_ok}
+use Rattle.cell_eval.proofs.flow_analysis.each_cell.analysed.Goals as goal
+
+pub eval-requires-clause-cell : goal.eval-requires-clause-cell
+eval-requires-clause-cell g c =
+    let cells = c.args.cells.now in
+    let i = c.loop-cell.cell-index in
+    in_front c.args.net.now c.requires.order (take i cells) (cell_at cells i) (drop (i + 1) cells)
+    (sym c.requires.are ∙ at_place cells i (omega arith))
+
+pub eval-requires-clause-below : goal.eval-requires-clause-below
+eval-requires-clause-below g c =
+    let cells = c.args.cells.now in
+    let i = c.loop-cell.cell-index in
+    let at : CellTable = held order.ghosts.cmp g.V.CellValue.meaning c.loop-cell.table.values in
+    front_meets_below c.args.net.now c.requires.order at c.keeps.ensures c.requires.servers (take i cells)
+    (drop (i + 1) cells) (cell_at cells i) (sym c.requires.are ∙ at_place cells i (omega arith))
+    c.loop-cell.invariant.answers
+
+pub returns-in-Err-clause-refused : goal.returns-in-Err-clause-refused
+returns-in-Err-clause-refused g c =
+    let cells = c.args.cells.now in
+    let i = c.loop-cell.cell-index in
+    let at : CellTable = held order.ghosts.cmp g.V.CellValue.meaning c.loop-cell.table.values in
+    refused c.args.net.now cells at (take i cells) (cell_at cells i) (drop (i + 1) cells) c.in-Err.fault
+    c.refusal.result c.refusal.ensures (at_place cells i (omega arith)) c.loop-cell.invariant.answers
+    c.in-Err.ensures.answer
+
+pub returns-in-Err-clause-within : goal.returns-in-Err-clause-within
+returns-in-Err-clause-within g c =
+    let cells = c.args.cells.now in
+    let i = c.loop-cell.cell-index in
+    let more = sum_by_more_le (work c.args.net.now) cells i no_cell (omega arith) in
+    omega (arith, more, c.in-Err.ensures.within, c.loop-cell.invariant.cost)
+
+pub returns-in-Err-put-clause-within : goal.returns-in-Err-put-clause-within
+returns-in-Err-put-clause-within g c =
+    let cells = c.args.cells.now in
+    let i = c.loop-cell.cell-index in
+    let more = sum_by_more_le (work c.args.net.now) cells i no_cell (omega arith) in
+    omega (arith, more, c.in-Ok.ensures.within, c.loop-cell.invariant.cost)
+
+pub loop-cell-preserved : goal.loop-cell-preserved
+loop-cell-preserved g c =
+    let net = c.args.net.now in
+    let cells = c.args.cells.now in
+    let i = c.loop-cell.cell-index in
+    let at : CellTable = held order.ghosts.cmp g.V.CellValue.meaning c.loop-cell.table.values in
+    let next : CellTable = held order.ghosts.cmp g.V.CellValue.meaning c.put.new.self.values in
+    let whole : evaluation_order net c.requires.order ≡ take i cells ++ cell_at cells i ∷ drop (i + 1) cells =
+    sym c.requires.are ∙ at_place cells i (omega arith) in
+    let longer : take (i + 1) cells ≡ take i cells ++ cell_at cells i ∷ [] = take_more cells i no_cell (omega arith) in
+    let all : AnswersAll net next (take i cells ++ cell_at cells i ∷ []) =
+    grown net c.requires.order at next (take i cells) (cell_at cells i) (drop (i + 1) cells)
+    (g.V.CellValue.meaning c.in-Ok.value) c.keeps.ensures c.requires.servers whole c.loop-cell.invariant.answers
+    c.in-Ok.ensures.answer c.in_default.ensures.put c.in_default.ensures.others in
+    let none : HasNothingElse next (take i cells ++ cell_at cells i ∷ []) =
+    still_nothing at next (take i cells) (cell_at cells i) c.loop-cell.invariant.nothing c.in_default.ensures.others in
+    record {
+      answers = subst (λ (xs : List Cell). AnswersAll net next xs) (sym longer) all;
+      nothing = subst (λ (xs : List Cell). HasNothingElse next xs) (sym longer) none;
+      cost = let more = sum_by_more (work net) cells i no_cell (omega arith) in
+          omega (arith, more, c.in-Ok.ensures.exact, c.loop-cell.invariant.cost);
+      same = c.in-Ok.ensures.same ∙ c.loop-cell.invariant.same;
+    }
+
+pub returns-clause-meets : goal.returns-clause-meets
+returns-clause-meets g c =
+    let net = c.args.net.now in
+    let at : CellTable = held order.ghosts.cmp g.V.CellValue.meaning c.loop-cell.table.values in
+    answers_meet net c.requires.order at c.keeps.ensures c.requires.servers
+    (subst (λ (xs : List Cell). AnswersAll net at xs)
+    (take_all c.loop-cell.cell-index c.args.cells.now (omega arith) ∙ c.requires.are) c.loop-cell.invariant.answers)
+
+pub returns-in-Err-clause-memory : goal.returns-in-Err-clause-memory
+returns-in-Err-clause-memory g c =
+    let net = c.args.net.now in
+    let cells = c.args.cells.now in
+    let i = c.loop-cell.cell-index in
+    let at : CellTable = held order.ghosts.cmp g.V.CellValue.meaning c.loop-cell.table.values in
+    let mid = g.E.Evaluator.count c.loop-cell.eval in
+    let new = g.E.Evaluator.count c.eval.new.self in
+    let cost = c.loop-cell.invariant.cost in
+    let rises = c.in-Err.ensures.rises in
+    wants_memory (MemoryEnds net cells (new - g.E.Evaluator.count c.args.eval.now)) (cell_at cells i) c.in-Err.fault c.refusal.result
+    c.refusal.ensures
+    (λ lack. ends_here net cells at i (new - mid) (new - g.E.Evaluator.count c.args.eval.now) (omega arith) c.loop-cell.invariant.answers
+    (making (c.in-Err.ensures.memory (ap Err lack))) (omega (arith, cost, rises)))
+
+pub returns-in-Err-put-clause-memory : goal.returns-in-Err-put-clause-memory
+returns-in-Err-put-clause-memory g c =
+    let net = c.args.net.now in
+    let cells = c.args.cells.now in
+    let i = c.loop-cell.cell-index in
+    let at : CellTable = held order.ghosts.cmp g.V.CellValue.meaning c.loop-cell.table.values in
+    let cost = c.loop-cell.invariant.cost in
+    let exact = c.in-Ok.ensures.exact in
+    ends_here net cells at i (work net (cell_at cells i)) (g.E.Evaluator.count c.eval.new.self - g.E.Evaluator.count c.args.eval.now)
+    (omega arith) c.loop-cell.invariant.answers
+    (keeping (g.V.CellValue.meaning c.in-Ok.value)
+    (gives_ok at (formula net (cell_at cells i)) (g.V.CellValue.meaning c.in-Ok.value) c.in-Ok.ensures.answer)
+    (work_is net (cell_at cells i))) (omega (arith, cost, exact))

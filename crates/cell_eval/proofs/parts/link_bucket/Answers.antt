@@ -1,7 +1,0 @@
-use Rattle.cell_eval.proofs.LinkRates.{only_memory}
-use Rattle.cell_eval.proofs.parts.link_bucket.Goals as goal
-
-pub wanting-requires : goal.wanting-requires
-wanting-requires c =
-    only_memory c.args.bits c.whole.result c.args.rate c.in-Err.fault c.whole.ensures c.requires c.in-Err.ensures.negative
-    c.in-Err.ensures.refused

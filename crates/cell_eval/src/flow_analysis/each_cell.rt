@@ -1,0 +1,48 @@
+//! All cells, one after the other.
+
+ghost use Rattle.std.specs.Prelude.{◌≡◌, ◌+◌, ◌-◌, ◌≤◌, sum_by, IfOk, IfErr, OnOk};
+ghost use Rattle.net_cells.specs.Equations.{MeetsEquations};
+ghost use Rattle.net_cells.specs.FirstOver.{AnswersAll};
+ghost use Rattle.net_cells.specs.Work.{work};
+ghost use Rattle.net_cells.specs.MemoryEnds.{MemoryEnds};
+ghost use Rattle.cell_eval.specs.flow_analysis.Analyses.{AreAllCells, HasNothingElse, IsFirstOver, IsRefusal, WantsMemory};
+
+use net_cells::Cell;
+use net_cells::cell_table::{Analysis, AnalysisFault, CellValue, Evaluator, Table, refusal};
+use net_model::Network;
+use std::alloc::Global;
+
+/// The values of all cells of a network, each made once, in their order, by the values before it. Refused for the first
+/// cell with an operator over a limit, and then the fault names it and which limit that is, or where there is no
+/// memory, and then each operator that is counted is within its limits. It counts the work of all cells, and no more than
+/// that where it is refused.
+pub fn analysed<V: CellValue + Drop, E: Evaluator<V>>(
+    alloc: Global,
+    net: &Network,
+    cells: &[Cell],
+    eval: &mut E,
+) -> Result<Analysis<V>, AnalysisFault>
+    requires { AreAllCells net.now cells.now }
+    ensures meets { IfOk result (λ t. MeetsEquations net.now (⟦<Analysis<V> as Table<V>>⟧.at t)) }
+    ensures answers { IfOk result (λ t. AnswersAll net.now (⟦<Analysis<V> as Table<V>>⟧.at t) cells.now) }
+    ensures nothing { IfOk result (λ t. HasNothingElse (⟦<Analysis<V> as Table<V>>⟧.at t) cells.now) }
+    ensures refused { IfErr result (IsRefusal (IsFirstOver net.now cells.now)) }
+    ensures memory { IfErr result (WantsMemory (MemoryEnds net.now cells.now (E.count eval.new - E.count eval.old))) }
+    ensures exact { OnOk result (E.count eval.new ≡ E.count eval.old + sum_by (work net.now) cells.now) }
+    ensures rises { E.count eval.old ≤ E.count eval.new }
+    ensures within { E.count eval.new ≤ E.count eval.old + sum_by (work net.now) cells.now }
+    ensures same { E.counter eval.new ≡ E.counter eval.old }
+{
+    net.keeps();
+    let mut table = Analysis::new(alloc);
+    for cell in cells {
+        let value = match eval.eval(*cell, net, &table) {
+            Ok(value) => value,
+            Err(fault) => return Err(refusal(*cell, fault)),
+        };
+        if let Err(_) = table.put(*cell, value) {
+            return Err(AnalysisFault::NoMemory);
+        }
+    }
+    Ok(table)
+}

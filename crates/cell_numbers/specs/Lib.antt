@@ -1,0 +1,3 @@
+pub mod TableValues
+pub mod Shapes
+pub mod Chosen

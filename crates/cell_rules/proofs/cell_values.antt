@@ -1,0 +1,4 @@
+pub mod Others
+pub mod Fronts
+pub mod Cleared
+pub mod Wanting

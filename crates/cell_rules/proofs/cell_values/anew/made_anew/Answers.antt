@@ -1,0 +1,140 @@
+use Rattle.std.proofs.Common.{◌≡◌, ◌<◌, ◌-◌, length, Some, Err, ◌∙◌, ap, arith}
+use Rattle.std.proofs.lemmas.List.{drop_all}
+use Rattle.std.proofs.lemmas.List.Sums.{sum_by_more, sum_by_more_le}
+use Rattle.net_cells.specs.Meanings.{CellTable}
+use Rattle.net_cells.specs.CellFormulas.{formula}
+use Rattle.net_cells.specs.Work.{work}
+use Rattle.net_cells.specs.MemoryEnds.{making, keeping}
+use Rattle.net_cells.proofs.Tables.{answered_meets}
+use Rattle.net_cells.proofs.Works.{work_is}
+use Rattle.net_cells.proofs.cell_table.Fronts.{no_cell, cell_at}
+use Rattle.net_cells.proofs.cell_table.GivesAnswers.{gives_ok}
+use Rattle.cell_rules.specs.cell_values.Placed.{placed}
+use Rattle.cell_rules.specs.cell_values.Edits.{EndsAtTouched}
+use Rattle.cell_rules.proofs.cell_values.Fronts.{next_of, next_is_cell, next_below, next_has_slot, made_at, all_answered, refused, same_untouched, still_others, ends_at}
+use Rattle.cell_rules.proofs.cell_values.Wanting.{wants_memory}
+use Rattle.cell_rules.proofs.cell_values.anew.made_anew.Given.{Over}
+use Rattle.cell_rules.proofs.cell_values.anew.made_anew.Goals.{In-Ok}
+use Rattle.cell_rules.proofs.cell_values.anew.made_anew.Goals as goal
+
+pub eval-requires-clause-cell : goal.eval-requires-clause-cell
+eval-requires-clause-cell g c =
+    let within : c.loop-cell.cell-index < length c.args.touched.now = omega arith in
+    next_is_cell c.keeps.ensures c.requires.servers
+    (next_of c.requires within c.loop-cell.invariant.others (c.loop-cell.invariant.reached c.requires))
+
+pub eval-requires-clause-below : goal.eval-requires-clause-below
+eval-requires-clause-below g c =
+    let within : c.loop-cell.cell-index < length c.args.touched.now = omega arith in
+    next_below c.keeps.ensures c.requires.servers
+    (next_of c.requires within c.loop-cell.invariant.others (c.loop-cell.invariant.reached c.requires))
+
+pub put-requires : goal.put-requires
+put-requires g c =
+    let within : c.loop-cell.cell-index < length c.args.touched.now = omega arith in
+    next_has_slot c.keeps.ensures c.requires.servers
+    (next_of c.requires within c.loop-cell.invariant.others (c.loop-cell.invariant.reached c.requires))
+
+pub returns-in-Err-clause-refused : goal.returns-in-Err-clause-refused
+returns-in-Err-clause-refused g c =
+    let edit = c.requires in
+    let within : c.loop-cell.cell-index < length c.args.touched.now = omega arith in
+    refused edit.old c.args.net.now edit.order (placed g.V.CellValue.meaning c.loop-cell.values.versions.newest) c.args.touched.now
+    c.loop-cell.cell-index c.in-Err.fault c.refusal.result c.refusal.ensures within edit.servers
+    (next_of edit within c.loop-cell.invariant.others (c.loop-cell.invariant.reached edit)) c.in-Err.ensures.answer
+
+pub returns-in-Err-clause-within : goal.returns-in-Err-clause-within
+returns-in-Err-clause-within g c =
+    let more = sum_by_more_le (work c.args.net.now) c.args.touched.now c.loop-cell.cell-index no_cell (omega arith) in
+    omega (arith, more, c.in-Err.ensures.within, c.loop-cell.invariant.cost)
+
+pub returns-in_default-clause-within : goal.returns-in_default-clause-within
+returns-in_default-clause-within g c =
+    let more = sum_by_more_le (work c.args.net.now) c.args.touched.now c.loop-cell.cell-index no_cell (omega arith) in
+    omega (arith, more, c.in-Ok.ensures.within, c.loop-cell.invariant.cost)
+
+pub returns-in-Err-put-clause-within : goal.returns-in-Err-put-clause-within
+returns-in-Err-put-clause-within g c =
+    let more = sum_by_more_le (work c.args.net.now) c.args.touched.now c.loop-cell.cell-index no_cell (omega arith) in
+    omega (arith, more, c.in-Ok.ensures.within, c.loop-cell.invariant.cost)
+
+-- ---- want of memory
+pub returns-in-Err-clause-memory : goal.returns-in-Err-clause-memory
+returns-in-Err-clause-memory g c =
+    let net = c.args.net.now in
+    let touched = c.args.touched.now in
+    let i = c.loop-cell.cell-index in
+    let before : CellTable = placed g.V.CellValue.meaning c.args.values.now.versions.newest in
+    let at : CellTable = placed g.V.CellValue.meaning c.loop-cell.values.versions.newest in
+    let within : i < length touched = omega arith in
+    let next = next_of c.requires within c.loop-cell.invariant.others (c.loop-cell.invariant.reached c.requires) in
+    let cost = c.loop-cell.invariant.cost in
+    let rises = c.in-Err.ensures.rises in
+    let mid = g.E.Evaluator.count c.loop-cell.eval in
+    let new = g.E.Evaluator.count c.eval.new.self in
+    let counted = new - g.E.Evaluator.count c.args.eval.now in
+    λ told. wants_memory (EndsAtTouched net touched before counted) (cell_at touched i) c.in-Err.fault c.refusal.result c.refusal.ensures
+    (λ lack. ends_at c.requires.old net c.requires.order before at touched i (new - mid) counted within c.loop-cell.invariant.others next
+    (making (c.in-Err.ensures.memory (ap Err lack))) (omega (arith, cost, rises))) (cc told)
+
+-- a value that cannot be kept: the next cell's work is counted
+not_kept : (g : Over) (c : In-Ok g)
+    → EndsAtTouched c.args.net.now c.args.touched.now (placed g.V.CellValue.meaning c.args.values.now.versions.newest)
+    (g.E.Evaluator.count c.eval.new.self - g.E.Evaluator.count c.args.eval.now)
+not_kept g c =
+    let net = c.args.net.now in
+    let next = cell_at c.args.touched.now c.loop-cell.cell-index in
+    let at : CellTable = placed g.V.CellValue.meaning c.loop-cell.values.versions.newest in
+    let value = g.V.CellValue.meaning c.in-Ok.value in
+    let cost = c.loop-cell.invariant.cost in
+    let exact = c.in-Ok.ensures.exact in
+    let within : c.loop-cell.cell-index < length c.args.touched.now = omega arith in
+    ends_at c.requires.old net c.requires.order (placed g.V.CellValue.meaning c.args.values.now.versions.newest) at c.args.touched.now
+    c.loop-cell.cell-index (work net next) (g.E.Evaluator.count c.eval.new.self - g.E.Evaluator.count c.args.eval.now) within
+    c.loop-cell.invariant.others (next_of c.requires within c.loop-cell.invariant.others (c.loop-cell.invariant.reached c.requires))
+    (keeping value (gives_ok at (formula net next) value c.in-Ok.ensures.answer) (work_is net next)) (omega (arith, cost, exact))
+
+pub returns-in_default-clause-memory : goal.returns-in_default-clause-memory
+returns-in_default-clause-memory g c = λ told. not_kept g (goal.at.returns-in_default-clause-memory g c).In-Ok
+
+pub returns-in-Err-put-clause-memory : goal.returns-in-Err-put-clause-memory
+returns-in-Err-put-clause-memory g c = λ told. not_kept g (goal.at.returns-in-Err-put-clause-memory g c).In-Ok
+
+-- ---- the cells that are made
+pub loop-cell-preserved : goal.loop-cell-preserved
+loop-cell-preserved g c =
+    let net = c.args.net.now in
+    let touched = c.args.touched.now in
+    let i = c.loop-cell.cell-index in
+    let meaning = g.V.CellValue.meaning in
+    let before : CellTable = placed meaning c.args.values.now.versions.newest in
+    let at : CellTable = placed meaning c.loop-cell.values.versions.newest in
+    let next : CellTable = placed meaning c.put.new.self.versions.newest in
+    let within : i < length touched = omega arith in
+    let put : next (cell_at touched i) ≡ Some (meaning c.in-Ok.value) =
+    c.in_default-put.ensures.put ∙ ap (λ v. Some (meaning v)) c.in-Ok-new.ensures.ok in
+    record {
+      reached = λ edit.
+          made_at edit.old net edit.order at next touched i (meaning c.in-Ok.value) c.keeps.ensures edit.servers within
+          (next_of edit within c.loop-cell.invariant.others (c.loop-cell.invariant.reached edit)) c.in-Ok.ensures.answer put
+          c.in_default-put.ensures.others;
+      others = still_others touched i before at next within c.loop-cell.invariant.others c.in_default-put.ensures.others;
+      before = c.put.ensures.before ∙ c.loop-cell.invariant.before;
+      cost = let more = sum_by_more (work net) touched i no_cell (omega arith) in
+          omega (arith, more, c.in-Ok.ensures.exact, c.loop-cell.invariant.cost);
+      same = c.in-Ok.ensures.same ∙ c.loop-cell.invariant.same;
+    }
+
+pub returns-clause-answers : goal.returns-clause-answers
+returns-clause-answers g c =
+    let net = c.args.net.now in
+    let touched = c.args.touched.now in
+    let edit = c.requires in
+    let before : CellTable = placed g.V.CellValue.meaning c.args.values.now.versions.newest in
+    let at : CellTable = placed g.V.CellValue.meaning c.loop-cell.values.versions.newest in
+    let same = same_untouched edit.old net _ touched before at edit.are c.loop-cell.invariant.others in
+    all_answered edit.old net edit.order before at touched c.loop-cell.cell-index c.keeps.ensures edit.servers edit.answered same (drop_all c.loop-cell.cell-index touched (omega arith)) (c.loop-cell.invariant.reached edit)
+
+pub returns-clause-meets : goal.returns-clause-meets
+returns-clause-meets g c = λ d h.
+    answered_meets c.args.net.now (placed g.V.CellValue.meaning c.loop-cell.values.versions.newest) d (returns-clause-answers g c d h)

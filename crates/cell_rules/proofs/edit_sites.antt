@@ -1,0 +1,2 @@
+pub mod OneSite
+pub mod PutBack
