@@ -11,6 +11,7 @@ use fraction128::{Ext, Frac, difference, product, sum};
 use rational::Extended;
 
 /// A value, risen.
+#[inline(always)]
 pub(crate) fn raised(v: Ext, by: Frac) -> Ext
     requires { SumFitsAt v by }
     ensures { result ≡ v +ₑ Extended.Fin by }
@@ -22,6 +23,7 @@ pub(crate) fn raised(v: Ext, by: Frac) -> Ext
 }
 
 /// The line, `by` later and `rise` higher.
+#[inline(always)]
 pub fn line_later(by: Frac, rise: Frac, line: Option<Line>) -> Option<Line>
     requires { LineLaterFits by rise line }
     ensures { result ≡ line_later by rise line }
@@ -30,6 +32,13 @@ pub fn line_later(by: Frac, rise: Frac, line: Option<Line>) -> Option<Line>
         None => None,
         Some(l) => {
             let risen = sum(l.icept, rise);
+            // A level line, as of a stair, takes no product.
+            if l.slope == Frac::zero() {
+                return Some(Line {
+                    icept: risen,
+                    slope: l.slope,
+                });
+            }
             let back = product(l.slope, by);
             Some(Line {
                 icept: difference(risen, back),
@@ -40,6 +49,7 @@ pub fn line_later(by: Frac, rise: Frac, line: Option<Line>) -> Option<Line>
 }
 
 /// The piece, `by` later and `rise` higher.
+#[inline(always)]
 pub fn later(by: Frac, rise: Frac, p: &Piece) -> Piece
     requires { LaterFits by rise p.now }
     ensures { result ≡ later by rise p.now }

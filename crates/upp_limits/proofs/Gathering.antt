@@ -1,13 +1,15 @@
 -- One number more: how the sizes that are kept follow those of the numbers.
 use Rattle.std.specs.Prelude.{◌≡◌, ℕ, ◌+◌, ◌*◌, ◌/◌, ◌%◌, ◌<◌, ◌^◌, max, pos, ◌*ℤ◌, nat_abs, List, [], ◌∷◌, ◌++◌}
-use Rattle.std.proofs.Common.{arith, sym, ap, ◌∙◌, refl, subst, append-nil}
+use Rattle.std.proofs.Common.{arith, sym, ap, ◌∙◌, refl, subst, append-nil, inl, inr}
 use Rattle.std.proofs.Math.Nat.{le-max_left}
 use Rattle.rational.specs.Ints.{mul_comm_z}
 use Rattle.rational.specs.Rational.{ℚ, den, int, ◌*ℚ◌, frac}
 use Rattle.rational.specs.Fractions.{frac_self, abs-mul}
 use Rattle.rational.specs.Gauge.{Kept, cap, lcm, common_den, common_den_from, bound_of, size_up}
 use Rattle.rational.proofs.Integers.{mul_whole}
-use Rattle.rational.proofs.Gauges.{kept_one}
+use native.Mathlib.Nat.{div-mul_cancel, dvd_refl}
+use Rattle.fraction128.proofs.Coprime.{gcd_self}
+use Rattle.rational.proofs.Gauges.{kept_one, cap_cases, top}
 use Rattle.upp_limits.specs.declared.gathered.Gathered.{Gathered}
 use Rattle.upp_limits.specs.Limits.{Numbers, no_numbers, joined, twice, time_alone, value_alone, slope_alone}
 use Rattle.upp_limits.specs.Gathered.{Gathers}
@@ -38,6 +40,17 @@ kept_max a m s k h =
     let e = k.is in
     let some = k.some in
     record { is = omega arith; some = let l = le-max_left m s in omega arith }
+
+-- ---- a multiple of two equal numbers
+lcm_self : (n : ℕ) → lcm n n ≡ n
+lcm_self n = ap (λ g. n / g * n) (gcd_self n) ∙ div-mul_cancel n (dvd_refl n)
+
+pub same_lcm : (a b n : ℕ) → a ≡ b → (b ≡ top → ⊥) → Kept b n → Kept b (lcm a n)
+same_lcm a b n e h k =
+    let exact : cap n ≡ n = elim (cap_cases n) [ inl p ↦ p.0 | inr p ↦ absurd (h (k.is ∙ p.0)) ] in
+    let a_is : a ≡ n = e ∙ (k.is ∙ exact) in
+    let one : lcm a n ≡ n = ap (λ m. lcm m n) a_is ∙ lcm_self n in
+    record { is = k.is ∙ ap cap (sym one); some = rw one k.some }
 
 -- ---- twice a size
 twice_frac : (x : ℚ) → int (pos 2) *ℚ x ≡ frac (x.num *ℤ pos 2) x.pre

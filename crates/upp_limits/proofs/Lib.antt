@@ -7,6 +7,7 @@ pub mod PieceCounts
 pub mod LongProducts
 pub mod LongCrosses
 pub mod Rounding
+pub mod WholeCounts
 pub mod JoinedNumbers
 pub mod Gathering
 pub mod SpanNumbers

@@ -84,6 +84,7 @@ fn with_copies(
 }
 
 /// A piece more, where it starts before `end`.
+#[inline(always)]
 fn with_once(g: Gathered, piece: &Piece, next: &Option<Frac>, end: Frac) -> Option<Gathered>
     ensures value { let span : Span = record { piece = piece.now; next = next.now } in
         IfSome result (λ r. (n : Numbers) → Gathers g n → Gathers r (joined n (once_numbers end span))) }
@@ -97,8 +98,9 @@ fn with_once(g: Gathered, piece: &Piece, next: &Option<Frac>, end: Frac) -> Opti
     }
 }
 
-/// What of a piece starts before `end` more: itself, or from the rank of a periodic tail on its copies.
-pub(crate) fn with_below(
+// The same, also of a periodic tail: a call of its own, since the first copies alone never need it.
+#[inline(never)]
+fn with_repeated(
     g: Gathered,
     piece: &Piece,
     next: &Option<Frac>,
@@ -127,7 +129,30 @@ pub(crate) fn with_below(
     }
 }
 
+/// What of a piece starts before `end` more: itself, or from the rank of a periodic tail on its copies.
+#[inline(always)]
+pub(crate) fn with_below(
+    g: Gathered,
+    piece: &Piece,
+    next: &Option<Frac>,
+    tail: &Tail,
+    end: Frac,
+) -> Option<Gathered>
+    requires start { int (pos 0) ≤ℚ piece.now.x }
+    requires period { HasPeriod tail.now }
+    ensures value { let span : Span = record { piece = piece.now; next = next.now } in
+        IfSome result (λ r. (n : Numbers) → Gathers g n → Gathers r (joined n (closed_span tail.now end span))) }
+    ensures fits { let span : Span = record { piece = piece.now; next = next.now } in
+        Knows tail.now end span → IsSome result }
+{
+    match tail {
+        Tail::Periodic { .. } => with_repeated(g, piece, next, tail, end),
+        _ => with_once(g, piece, next, end),
+    }
+}
+
 /// A piece without a line that is read at no time.
+#[inline(always)]
 pub fn piece_read(piece: &Piece, tail: &Tail) -> Piece
     ensures { result ≡ piece_read tail.now piece.now }
 {
@@ -146,6 +171,7 @@ pub fn piece_read(piece: &Piece, tail: &Tail) -> Piece
 }
 
 /// Where the piece after number i starts, or `after` at the last one.
+#[inline(always)]
 pub fn next_start(pieces: &[Piece], i: usize, after: &Option<Frac>) -> Option<Frac>
     requires { i < length pieces.now }
     ensures { result ≡ start_after (drop (i + 1) pieces.now) after.now }
@@ -158,6 +184,7 @@ pub fn next_start(pieces: &[Piece], i: usize, after: &Option<Frac>) -> Option<Fr
 }
 
 /// Piece number i as it is read, and where the next one starts.
+#[inline(always)]
 pub(crate) fn span_at(of: &Listing, i: usize) -> (Piece, Option<Frac>)
     requires listed { IsListed of.now.pieces.now of.now.tail.now of.now.after }
     requires inside { i < length of.now.pieces.now }

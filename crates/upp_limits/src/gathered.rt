@@ -28,21 +28,36 @@ pub struct Gathered {
 }
 
 /// The least common multiple of a and what b stands for.
+#[inline(always)]
 pub fn common_multiple(a: u128, b: u128) -> u128
+    requires { 0 < a }
+    ensures { (n : ℕ) → Kept b n → Kept result (lcm a n) }
+{
+    // Most denominators are 1, and a division of 128 bits takes long.
+    if a == 1 {
+        return b;
+    }
+    multiple_apart(a, b)
+}
+
+// A call of its own, so that only what is done for a 1 is written out where it is called.
+#[inline(never)]
+fn multiple_apart(a: u128, b: u128) -> u128
     requires { 0 < a }
     ensures { (n : ℕ) → Kept b n → Kept result (lcm a n) }
 {
     if b == u128::MAX {
         return b;
     }
-    // Most denominators are 1, and a division of 128 bits takes long.
-    if a == 1 {
+    // On one grid most denominators are equal.
+    if a == b {
         return b;
     }
     (a / gcd_of(a, b)).saturating_mul(b)
 }
 
 /// The least whole number that is at least twice the size of x.
+#[inline(always)]
 fn twice_size_up(x: Frac) -> u128
     ensures { result ≡ size_up (int (pos 2) *ℚ x) }
 {
@@ -51,6 +66,16 @@ fn twice_size_up(x: Frac) -> u128
     if bottom == 1 {
         return double;
     }
+    twice_parts_up(x)
+}
+
+// The same of any fraction: a call of its own, as above.
+#[inline(never)]
+fn twice_parts_up(x: Frac) -> u128
+    ensures { result ≡ size_up (int (pos 2) *ℚ x) }
+{
+    let (top, bottom) = sizes(x);
+    let double = top * 2;
     if double % bottom == 0 {
         double / bottom
     } else {
@@ -73,6 +98,7 @@ impl Gathered {
     }
 
     /// A time more.
+    #[inline(always)]
     pub fn with_time(self, x: Frac) -> Gathered
         ensures { (n : Numbers) → Gathers self n → Gathers result (joined n (time_alone x)) }
     {
@@ -84,6 +110,7 @@ impl Gathered {
     }
 
     /// A value more.
+    #[inline(always)]
     pub fn with_value(self, x: Frac) -> Gathered
         ensures { (n : Numbers) → Gathers self n → Gathers result (joined n (value_alone x)) }
     {
@@ -96,6 +123,7 @@ impl Gathered {
     }
 
     /// A slope more.
+    #[inline(always)]
     pub fn with_slope(self, x: Frac) -> Gathered
         ensures { (n : Numbers) → Gathers self n → Gathers result (joined n (slope_alone x)) }
     {
@@ -108,6 +136,7 @@ impl Gathered {
     }
 
     /// A value more, where it is finite.
+    #[inline(always)]
     pub(crate) fn with_ext(self, v: Ext) -> Gathered
         ensures { (n : Numbers) → Gathers self n → Gathers result (joined n (values_alone (finite v))) }
     {
@@ -118,6 +147,7 @@ impl Gathered {
     }
 
     /// The slope of a line more, where there is one.
+    #[inline(always)]
     pub fn with_line(self, line: Option<Line>) -> Gathered
         ensures { (n : Numbers) → Gathers self n → Gathers result (joined n (slopes_alone (line_slope line))) }
     {

@@ -22,20 +22,31 @@ pub(crate) struct Seen {
 }
 
 /// The value of a line at t.
+#[inline(always)]
 pub(crate) fn line_value(line: Option<Line>, t: Frac) -> Option<Ext>
     ensures value { IfSome result (λ v. v ≡ line_value line t) }
     ensures fits { LineFitsAt t line → IsSome result }
 {
     match line {
         None => Some(Extended::Inf),
-        Some(l) => match value(&l, t) {
-            Ok(v) => Some(Extended::Fin(v)),
-            Err(_) => None,
-        },
+        Some(l) => {
+            // A level line takes no step, and none does at 0.
+            if l.slope == Frac::zero() {
+                return Some(Extended::Fin(l.icept));
+            }
+            if t == Frac::zero() {
+                return Some(Extended::Fin(l.icept));
+            }
+            match value(&l, t) {
+                Ok(v) => Some(Extended::Fin(v)),
+                Err(_) => None,
+            }
+        }
     }
 }
 
 /// The limit of a line just before the next start.
+#[inline(always)]
 fn limit_before(line: Option<Line>, next: &Option<Frac>) -> Option<Ext>
     ensures value { IfSome result (λ v. v ≡ limit_before line next.now) }
     ensures fits { NextFits line next.now → IsSome result }
@@ -47,6 +58,7 @@ fn limit_before(line: Option<Line>, next: &Option<Frac>) -> Option<Ext>
 }
 
 /// The values of a piece up to the next start.
+#[inline(always)]
 pub(crate) fn seen_values(piece: &Piece, next: &Option<Frac>) -> Option<Seen>
     ensures value { let span : Span = record { piece = piece.now; next = next.now } in
         IfSome result (λ s. s ≡ seen_of span) }

@@ -1,7 +1,7 @@
 //! How many copies of a piece start before a time.
 
-ghost use Rattle.std.specs.Prelude.{ℕ, ◌≡◌, ◌<◌, pos, IfSome};
-ghost use Rattle.rational.specs.Rational.{ℚ, int, ◌-ℚ◌, ◌/ℚ◌, ◌≤ℚ◌, ◌<ℚ◌};
+ghost use Rattle.std.specs.Prelude.{ℕ, ◌≡◌, ◌<◌, pos, nat_abs, IfSome};
+ghost use Rattle.rational.specs.Rational.{ℚ, den, int, ◌-ℚ◌, ◌/ℚ◌, ◌≤ℚ◌, ◌<ℚ◌};
 ghost use Rattle.rational.specs.Gauge.{cap};
 ghost use Rattle.min_plus.specs.WholeUp.{whole_up};
 
@@ -19,6 +19,26 @@ pub(crate) fn whole_up(x: Frac) -> u128
     }
 }
 
+// The quotient of two whole numbers, rounded up, and 0 below 0: in place of a fraction one division.
+fn whole_count(gap: Frac, period: Frac) -> u128
+    requires some { int (pos 0) <ℚ period }
+    requires size { 0 < nat_abs period.num }
+    requires whole { den gap ≡ 1 }
+    requires period { den period ≡ 1 }
+    ensures { result ≡ whole_up (gap /ℚ period) }
+{
+    if !is_less(Frac::zero(), gap) {
+        return 0;
+    }
+    let top = gap.numerator_size();
+    let bottom = period.numerator_size();
+    if top % bottom == 0 {
+        top / bottom
+    } else {
+        top / bottom + 1
+    }
+}
+
 /// How many of x, x + period, x + 2 period and so on are before `end`, where the steps of that quotient fit.
 fn quick_count(x: Frac, period: Frac, end: Frac) -> Option<u128>
     requires { int (pos 0) <ℚ period }
@@ -27,6 +47,11 @@ fn quick_count(x: Frac, period: Frac, end: Frac) -> Option<u128>
     let Ok(gap) = Frac::sub(end, x) else {
         return None;
     };
+    let d = gap.denominator();
+    let e = period.denominator();
+    if d == 1 && e == 1 {
+        return Some(whole_count(gap, period));
+    }
     match Frac::div(gap, period) {
         Ok(ratio) => Some(whole_up(ratio)),
         Err(_) => None,

@@ -7,20 +7,26 @@ ghost use Rattle.upp_curve.specs.affine_segment.Pieces.{StartsAtZero};
 ghost use Rattle.upp_curve.specs.affine_segment.Reading.{piece_in, piece_value, read, next_in};
 ghost use Rattle.upp_curve.specs.affine_segment.Fits.{LineFits, LineFitsAt, ReadFits};
 
-use crate::affine_segment::line::{Line, Piece, value};
-use fraction128::{Ext, Frac};
+use crate::affine_segment::line::{Line, Piece};
+use fraction128::{Ext, Frac, product, sum};
 use rational::Extended;
 use std::cmp::Ordering;
 
 /// The value of a line at t.
+#[inline]
 pub fn line_at(line: &Line, t: Frac) -> Frac
     requires { LineFits t line.now }
     ensures { result ≡ line_at line.now t }
 {
-    value(line, t).unwrap()
+    // A level line, as of a stair, takes no product.
+    if line.slope == Frac::zero() {
+        return line.icept;
+    }
+    sum(line.icept, product(line.slope, t))
 }
 
 /// The value at t of a line that may be missing: no line is infinity.
+#[inline(always)]
 pub fn line_value(line: Option<Line>, t: Frac) -> Ext
     requires { LineFitsAt t line }
     ensures { result ≡ line_value line t }
@@ -60,6 +66,7 @@ pub fn next_start(pieces: &[Piece], t: Frac, after: Option<Frac>) -> Option<Frac
 }
 
 /// The value at t of a piece that starts at t or before.
+#[inline]
 pub fn piece_value(p: &Piece, t: Frac) -> Ext
     requires { p.now.x <ℚ t → LineFitsAt t p.now.line }
     ensures { result ≡ piece_value p.now t }
