@@ -13,10 +13,8 @@ use Rattle.run_laws.specs.Cards.{whole}
 use Rattle.min_plus.specs.Deviations.{IsHorizontalDeviation, IsVerticalDeviation}
 use Rattle.upp_limits.specs.Outcome.{IsWithin, IsCauseOf}
 use Rattle.min_plus.proofs.Unambiguous.{deviations_are_unique}
-use Rattle.curve_call.specs.Again.{IsAgain, again_determined}
-use Rattle.curve_call.specs.Calls.{Applies, AppliesTo}
-use Rattle.curve_call.specs.Determined.{IsDetermined}
-use Rattle.curve_call.proofs.InTurn.{applies_determined}
+use Rattle.residuals.specs.CurveCalls.{IsAgain, again_determined, Applies, AppliesTo, IsDetermined}
+use Rattle.residuals.proofs.CurveCalls.{applies_determined}
 use Rattle.outcomes.proofs.Calls.{then_determined}
 use Rattle.residuals.specs.calls.PriorityCalls.{MakesPriority}
 use Rattle.residuals.proofs.calls.PriorityCalls as priority_calls

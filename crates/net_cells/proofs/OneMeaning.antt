@@ -10,8 +10,8 @@ use Rattle.upp_curve.proofs.OneForm.{normal_unique}
 use Rattle.min_plus.proofs.Unambiguous.{deviations_are_unique}
 use Rattle.upp_curve.specs.Kinds.{bucket}
 use Rattle.run_laws.specs.Cards.{whole}
-use Rattle.curve_call.specs.Answers.{IsMadeBy}
-use Rattle.curve_call.proofs.SameAnswers.{made_unique}
+use Rattle.residuals.specs.CurveCalls.{IsMadeBy}
+use Rattle.residuals.proofs.CurveCalls.{made_unique}
 use Rattle.net_cells.specs.declared.cell.Cell.{Cell}
 use Rattle.net_cells.specs.Numbered.{zero_curve}
 use Rattle.net_cells.specs.Meanings.{Meaning, curve, number, CellTable, IsCurveIn, IsNumberIn}

@@ -9,8 +9,7 @@ use Rattle.upp_curve.specs.Curve.{SpecCurve}
 use Rattle.upp_curve.specs.Kinds.{bucket}
 use Rattle.run_laws.specs.Cards.{whole}
 use Rattle.min_plus.specs.Deviations.{IsHorizontalDeviation, IsVerticalDeviation}
-use Rattle.curve_call.specs.Again.{IsAgain, again_determined}
-use Rattle.curve_call.specs.Calls.{Applies, AppliesTo}
+use Rattle.residuals.specs.CurveCalls.{IsAgain, again_determined, Applies, AppliesTo}
 use Rattle.residuals.specs.calls.PriorityCalls.{MakesPriority}
 use Rattle.residuals.specs.calls.DrrCalls.{MakesDrr}
 use Rattle.residuals.specs.calls.InTurn.{AtCall, InTurn, IsPlaced, PriorityRefused, DrrRefused}

@@ -7,9 +7,7 @@ use Rattle.upp_curve.specs.Curve.{SpecCurve, value_at}
 use Rattle.upp_curve.specs.Kinds.{bucket}
 use Rattle.run_laws.specs.Cards.{whole}
 use Rattle.min_plus.specs.Deviations.{IsHorizontalDeviation, IsVerticalDeviation}
-use Rattle.curve_call.specs.Again.{IsAgain}
-use Rattle.curve_call.specs.Answers.{IsMadeBy}
-use Rattle.curve_call.specs.Calls.{Applies, AppliesTo}
+use Rattle.residuals.specs.CurveCalls.{IsAgain, IsMadeBy, Applies, AppliesTo}
 use Rattle.outcomes.specs.Calls.{goes_on, stops}
 use Rattle.residuals.specs.calls.PriorityCalls.{MakesPriority}
 use Rattle.net_cells.specs.declared.cell.Cell.{Cell}

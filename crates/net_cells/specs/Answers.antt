@@ -11,8 +11,7 @@ use Rattle.upp_curve.specs.Curve.{SpecCurve, value_at}
 use Rattle.upp_curve.specs.Kinds.{bucket}
 use Rattle.min_plus.specs.Deviations.{IsHorizontalDeviation, IsVerticalDeviation}
 use Rattle.upp_limits.specs.Outcome.{IsWithin, IsCauseOf}
-use Rattle.curve_call.specs.Again.{IsAgain}
-use Rattle.curve_call.specs.Calls.{Applies, AppliesTo}
+use Rattle.residuals.specs.CurveCalls.{IsAgain, Applies, AppliesTo}
 use Rattle.outcomes.specs.Calls.{Then}
 use Rattle.residuals.specs.calls.PriorityCalls.{MakesPriority}
 use Rattle.residuals.specs.calls.DrrCalls.{MakesDrr}

@@ -4,7 +4,7 @@ use Rattle.upp_limits.specs.declared.op_kind.OpFault.{OpFault}
 use Rattle.net_model.specs.Networks.{Net}
 use Rattle.net_model.specs.Accepted.{IsAccepted}
 use Rattle.net_model.specs.Orders.{IsOrder}
-use Rattle.curve_call.specs.Determined.{IsDetermined}
+use Rattle.residuals.specs.CurveCalls.{IsDetermined}
 use Rattle.residuals.specs.calls.InTurn.{IsPlaced}
 use Rattle.net_cells.specs.declared.cell.Cell.{Cell}
 use Rattle.net_cells.specs.Cells.{has_cell}

@@ -9,7 +9,7 @@ use Rattle.upp_curve.specs.Curve.{SpecCurve, value_at}
 use Rattle.upp_curve.specs.Curves.{IsCurve}
 use Rattle.upp_curve.specs.Kinds.{bucket}
 use Rattle.min_plus.specs.Deviations.{IsHorizontalDeviation, IsVerticalDeviation}
-use Rattle.curve_call.specs.Answers.{IsMadeBy}
+use Rattle.residuals.specs.CurveCalls.{IsMadeBy}
 use Rattle.residual_laws.specs.PriorityLaws.{IsPriorityService}
 use Rattle.residual_laws.specs.DrrLaws.{IsDrrService}
 use Rattle.run_laws.specs.Cards.{whole}

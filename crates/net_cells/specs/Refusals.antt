@@ -9,8 +9,7 @@ use Rattle.upp_limits.specs.declared.op_kind.OpFault.TheVariants.{NoMemory}
 use Rattle.upp_curve.specs.Curve.{SpecCurve}
 use Rattle.upp_curve.specs.Kinds.{bucket}
 use Rattle.min_plus.specs.Deviations.{IsHorizontalDeviation, IsVerticalDeviation}
-use Rattle.curve_call.specs.Again.{IsAgain}
-use Rattle.curve_call.specs.Calls.{Applies, AppliesTo}
+use Rattle.residuals.specs.CurveCalls.{IsAgain, Applies, AppliesTo}
 use Rattle.residuals.specs.calls.InTurn.{AtCall, InTurn, PriorityRefused, DrrRefused}
 use Rattle.run_laws.specs.Cards.{whole}
 use Rattle.net_cells.specs.declared.cell.Cell.{Cell}

@@ -1,2 +1,3 @@
 pub mod pointwise
 pub mod running
+pub mod CurveCalls

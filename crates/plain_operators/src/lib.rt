@@ -4,3 +4,5 @@
 
 pub mod pointwise;
 pub mod running;
+
+pub use curve_call::intact;

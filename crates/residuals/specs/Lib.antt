@@ -2,3 +2,4 @@ pub mod packetiser
 pub mod calls
 pub mod fifo
 pub mod left
+pub mod CurveCalls

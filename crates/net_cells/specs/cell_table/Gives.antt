@@ -1,6 +1,6 @@
 -- What making the value of a cell may answer. Own choice.
 use Rattle.std.specs.Prelude.{◌≡◌, Some}
-use Rattle.curve_call.specs.Again.{IsAgain}
+use Rattle.residuals.specs.CurveCalls.{IsAgain}
 use Rattle.net_cells.specs.Meanings.{CellTable}
 use Rattle.net_cells.specs.Formulas.{Formula, value_of, given, empty_sum, made, made_of, moved, cut, part, no_part, leftover, priority, deficit, horizontal, vertical, smaller, along, delayed}
 use Rattle.net_cells.specs.Answers.{Answer, Answers, IsOnly, MakesCurve, ThenCurve}

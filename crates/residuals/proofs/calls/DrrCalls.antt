@@ -11,10 +11,9 @@ use Rattle.upp_curve.specs.Curve.{SpecCurve, value_at}
 use Rattle.upp_curve.specs.Curves.{IsCurve}
 use Rattle.min_plus.specs.Functions.{IsFinite}
 use Rattle.min_plus.specs.Pointwise.{excess, scaled}
-use Rattle.curve_call.specs.Answers.{IsMadeBy}
-use Rattle.curve_call.specs.Calls.{AppliesTo}
+use Rattle.plain_operators.specs.CurveCalls.{IsMadeBy, AppliesTo}
 use Rattle.outcomes.specs.Calls.{goes_on, stops}
-use Rattle.curve_call.proofs.InTurn.{applies_determined}
+use Rattle.plain_operators.proofs.CurveCalls.{applies_determined}
 use Rattle.outcomes.proofs.Calls.{then_determined}
 use Rattle.residuals.specs.calls.DrrCalls.{IsQuantum, share_in, owed_in, MakesDrr, DrrCurveServes, DrrIsDetermined}
 use Rattle.residual_laws.specs.DrrLaws.{IsDrrService}

@@ -9,8 +9,8 @@ use Rattle.upp_limits.specs.declared.op_kind.OpKind.TheVariants.{Scale, PosMinus
 use Rattle.upp_curve.specs.Curve.{value_at}
 use Rattle.min_plus.specs.Functions.{zero_q}
 use Rattle.min_plus.specs.Pointwise.{scaled}
-use Rattle.curve_call.specs.Growth.{GrowsFromZero}
-use Rattle.curve_call.proofs.GrowingAnswers.{growing_answers}
+use Rattle.plain_operators.specs.CurveCalls.{GrowsFromZero}
+use Rattle.plain_operators.proofs.CurveCalls.{growing_answers}
 use Rattle.residuals.specs.calls.DrrCalls.{IsQuantum}
 use Rattle.residuals.specs.calls.DrrGrowth.{DrrServiceGrows, DrrCurveGrows}
 use Rattle.residual_laws.specs.DrrLaws.{share, owed, drr_left}

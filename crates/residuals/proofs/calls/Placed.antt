@@ -8,10 +8,9 @@ use Rattle.upp_limits.specs.declared.op_kind.OpFault.TheVariants.{TooMany, TooWi
 use Rattle.upp_limits.specs.Outcome.{IsWithin, IsCauseOf}
 use Rattle.upp_curve.specs.Curve.{SpecCurve}
 use Rattle.run_laws.specs.Cards.{whole}
-use Rattle.curve_call.specs.Calls.{Applies, AppliesTo}
+use Rattle.plain_operators.specs.CurveCalls.{Applies, AppliesTo, IsDetermined}
 use Rattle.outcomes.specs.Calls.{Then, goes_on, stops}
-use Rattle.curve_call.specs.Determined.{IsDetermined}
-use Rattle.curve_call.proofs.InTurn.{applies_determined}
+use Rattle.plain_operators.proofs.CurveCalls.{applies_determined}
 use Rattle.outcomes.proofs.Calls.{then_determined}
 use Rattle.residuals.specs.calls.PriorityCalls.{LeavesPriority}
 use Rattle.residuals.specs.calls.DrrCalls.{share_in, owed_in}

@@ -14,11 +14,9 @@ use Rattle.upp_curve.specs.Curves.{IsCurve}
 use Rattle.min_plus.specs.Functions.{zero_q, UpTo, IsFinite, IsNonnegative}
 use Rattle.min_plus.specs.Pointwise.{excess}
 use Rattle.run_laws.specs.Cards.{whole}
-use Rattle.curve_call.specs.Answers.{IsMadeBy}
-use Rattle.curve_call.specs.Calls.{Applies, AppliesTo}
+use Rattle.plain_operators.specs.CurveCalls.{IsMadeBy, Applies, AppliesTo}
 use Rattle.outcomes.specs.Calls.{goes_on, stops}
-use Rattle.curve_call.proofs.Excesses.{finite_excess, excess_nonneg}
-use Rattle.curve_call.proofs.InTurn.{applies_determined}
+use Rattle.plain_operators.proofs.CurveCalls.{finite_excess, excess_nonneg, applies_determined}
 use Rattle.outcomes.proofs.Calls.{then_determined}
 use Rattle.residuals.specs.calls.PriorityCalls.{LeavesPriority, MakesPriority, PriorityCurveServes, PriorityIsDetermined}
 use Rattle.residual_laws.specs.PriorityLaws.{priority_left, IsPriorityService}

@@ -11,9 +11,8 @@ use Rattle.min_plus.specs.Functions.{zero_q, IsNonnegative}
 use Rattle.min_plus.specs.Pointwise.{excess}
 use Rattle.run_laws.specs.Cards.{whole}
 use Rattle.run_laws.proofs.Sizes.{whole_nonneg}
-use Rattle.curve_call.specs.Growth.{GrowsFromZero, IsBoundedFromZero}
-use Rattle.curve_call.proofs.Excesses.{excess_nonneg, excess_nothing, excess_most}
-use Rattle.curve_call.proofs.GrowingAnswers.{supremum_grows}
+use Rattle.plain_operators.specs.CurveCalls.{GrowsFromZero, IsBoundedFromZero}
+use Rattle.plain_operators.proofs.CurveCalls.{excess_nonneg, excess_nothing, excess_most, supremum_grows}
 use Rattle.residuals.specs.calls.PriorityGrowth.{PriorityServiceGrows, PriorityCurveGrows}
 use Rattle.residual_laws.specs.PriorityLaws.{priority_left}
 use Rattle.residuals.proofs.calls.PriorityCalls.{made_curve, service_is}

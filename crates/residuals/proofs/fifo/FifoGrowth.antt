@@ -1,7 +1,7 @@
 -- What first in, first out leaves of a finite service grows from zero.
 use Rattle.upp_limits.specs.declared.op_kind.OpKind.TheVariants.{FifoLeft}
 use Rattle.upp_curve.specs.Curve.{value_at}
-use Rattle.curve_call.proofs.GrowingAnswers.{growing_answers}
+use Rattle.plain_operators.proofs.CurveCalls.{growing_answers}
 use Rattle.residuals.specs.fifo.Growth.{FifoServiceGrows, FifoCurveGrows}
 
 pub service_grows : FifoServiceGrows

@@ -26,7 +26,7 @@ use Rattle.run_laws.proofs.Orders.{left_worked}
 use Rattle.run_laws.proofs.Sizes.{size_pos}
 use Rattle.run_laws.proofs.Oldest.{oldest, Oldest}
 use Rattle.residuals.specs.fifo.Laws.{IsResidual}
-use Rattle.curve_call.proofs.FiniteAnswers.{late_left}
+use Rattle.plain_operators.proofs.CurveCalls.{late_left}
 
 -- ---- the parts
 left_is_part : (Q f g : Class) → AreAlwaysParts Q f g → IsAlwaysPart f Q

@@ -7,7 +7,7 @@ use Rattle.rational.specs.Extended.{Ext}
 use Rattle.run_laws.specs.Cards.{of_queue}
 use Rattle.run_laws.specs.Serves.{Serves}
 use Rattle.run_laws.proofs.FifoQueue.{fifo_queue_is_served}
-use Rattle.curve_call.specs.Growth.{GrowsFromZero}
+use Rattle.plain_operators.specs.CurveCalls.{GrowsFromZero}
 use Rattle.residual_laws.proofs.PriorityLaw.{priority_serves}
 use Rattle.residual_laws.proofs.DrrLaw.{drr_serves}
 use Rattle.residuals.specs.calls.DrrCalls.{IsQuantum, AreQueues}

@@ -1,7 +1,7 @@
 -- What a service is worth to whole packets grows from zero where the service does.
 use Rattle.upp_limits.specs.declared.op_kind.OpKind.TheVariants.{PosMinus}
 use Rattle.upp_curve.specs.Curve.{value_at}
-use Rattle.curve_call.proofs.GrowingAnswers.{growing_answers}
+use Rattle.plain_operators.proofs.CurveCalls.{growing_answers}
 use Rattle.residuals.specs.packetiser.Growth.{PacketServiceGrows, PacketCurveGrows}
 
 pub service_grows : PacketServiceGrows

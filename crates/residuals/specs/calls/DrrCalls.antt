@@ -11,9 +11,8 @@ use Rattle.run_laws.specs.Servers.{Drr, Server}
 use Rattle.run_laws.specs.Allows.{IsLawfulView}
 use Rattle.run_laws.specs.Premises.{KeepsService, KeepsSizes, IsZeroAtStart}
 use Rattle.run_laws.specs.Serves.{Serves}
-use Rattle.curve_call.specs.Calls.{AppliesTo}
+use Rattle.plain_operators.specs.CurveCalls.{AppliesTo, IsDetermined}
 use Rattle.outcomes.specs.Calls.{Then}
-use Rattle.curve_call.specs.Determined.{IsDetermined}
 use Rattle.residual_laws.specs.DrrLaws.{share, owed}
 
 -- ---- quanta

@@ -4,7 +4,7 @@ use Rattle.std.specs.Prelude.{◌≡◌, ◌≤◌, ◌<◌, ℕ, List, length, 
 use Rattle.rational.specs.Rational.{ℚ}
 use Rattle.rational.specs.Extended.{Ext}
 use Rattle.upp_curve.specs.Curve.{SpecCurve, value_at}
-use Rattle.curve_call.specs.Growth.{GrowsFromZero, IsGrowingCurve}
+use Rattle.plain_operators.specs.CurveCalls.{GrowsFromZero, IsGrowingCurve}
 use Rattle.residuals.specs.calls.DrrCalls.{AreQueues, MakesDrr}
 use Rattle.residual_laws.specs.DrrLaws.{IsDrrService}
 

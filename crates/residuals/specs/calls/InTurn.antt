@@ -6,7 +6,7 @@ use Rattle.upp_limits.specs.declared.op_kind.OpFault.{OpFault}
 use Rattle.upp_limits.specs.declared.op_kind.OpFault.TheVariants.{NoMemory}
 use Rattle.upp_curve.specs.Curve.{SpecCurve}
 use Rattle.run_laws.specs.Cards.{whole}
-use Rattle.curve_call.specs.Calls.{Applies, AppliesTo}
+use Rattle.plain_operators.specs.CurveCalls.{Applies, AppliesTo}
 use Rattle.residuals.specs.calls.PriorityCalls.{LeavesPriority, MakesPriority}
 use Rattle.residuals.specs.calls.DrrCalls.{share_in, owed_in, MakesDrr}
 

@@ -11,9 +11,8 @@ use Rattle.run_laws.specs.Servers.{Priority, Server}
 use Rattle.run_laws.specs.Allows.{IsLawfulView}
 use Rattle.run_laws.specs.Premises.{KeepsArrivals, KeepsService, KeepsSizes, IsZeroAtStart}
 use Rattle.run_laws.specs.Serves.{Serves}
-use Rattle.curve_call.specs.Calls.{Applies, AppliesTo}
+use Rattle.plain_operators.specs.CurveCalls.{Applies, AppliesTo, IsDetermined}
 use Rattle.outcomes.specs.Calls.{Then}
-use Rattle.curve_call.specs.Determined.{IsDetermined}
 
 -- the first two calls
 abbrev pub LeavesPriority : SpecCurve → SpecCurve → ℕ → Result SpecCurve OpFault → Type 0

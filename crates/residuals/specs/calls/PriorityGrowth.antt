@@ -5,7 +5,7 @@ use Rattle.rational.specs.Rational.{ℚ}
 use Rattle.rational.specs.Extended.{Ext}
 use Rattle.upp_curve.specs.Curve.{SpecCurve, value_at}
 use Rattle.min_plus.specs.Functions.{IsNonnegative}
-use Rattle.curve_call.specs.Growth.{GrowsFromZero, IsGrowingCurve}
+use Rattle.plain_operators.specs.CurveCalls.{GrowsFromZero, IsGrowingCurve}
 use Rattle.residuals.specs.calls.PriorityCalls.{MakesPriority}
 use Rattle.residual_laws.specs.PriorityLaws.{IsPriorityService}
 

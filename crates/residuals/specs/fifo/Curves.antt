@@ -11,7 +11,7 @@ use Rattle.run_laws.specs.Servers.{Server}
 use Rattle.run_laws.specs.Allows.{IsLawfulView}
 use Rattle.run_laws.specs.Premises.{KeepsArrivals}
 use Rattle.run_laws.specs.Serves.{Serves}
-use Rattle.curve_call.specs.Calls.{Applies}
+use Rattle.plain_operators.specs.CurveCalls.{Applies}
 
 -- the queue Q is the flow f and the others, which keep the curve `cross`; beta serves Q: the curve c that the call
 -- makes of beta and cross serves f

@@ -7,8 +7,7 @@ use Rattle.rational.specs.declared.Extended.TheVariants.{Fin}
 use Rattle.upp_limits.specs.declared.op_kind.OpKind.TheVariants.{FifoLeft}
 use Rattle.upp_curve.specs.Curve.{SpecCurve, value_at}
 use Rattle.min_plus.specs.Functions.{zero_q, IsFinite}
-use Rattle.curve_call.specs.Calls.{Applies}
-use Rattle.curve_call.specs.Growth.{GrowsFromZero, IsGrowingCurve}
+use Rattle.plain_operators.specs.CurveCalls.{Applies, GrowsFromZero, IsGrowingCurve}
 use Rattle.residuals.specs.fifo.Laws.{IsResidual}
 
 -- R is what β leaves of the others' curve

@@ -6,8 +6,7 @@ use Rattle.upp_limits.specs.declared.op_kind.OpKind.TheVariants.{PosMinus}
 use Rattle.upp_curve.specs.Curve.{SpecCurve, value_at}
 use Rattle.min_plus.specs.Functions.{zero_q}
 use Rattle.min_plus.specs.Pointwise.{IsPositiveMinus}
-use Rattle.curve_call.specs.Calls.{AppliesTo}
-use Rattle.curve_call.specs.Growth.{GrowsFromZero, IsGrowingCurve}
+use Rattle.plain_operators.specs.CurveCalls.{AppliesTo, GrowsFromZero, IsGrowingCurve}
 
 -- R is β less l bits
 abbrev pub PacketServiceGrows : Type 0

@@ -8,7 +8,7 @@ use Rattle.run_laws.specs.Servers.{Server}
 use Rattle.run_laws.specs.Allows.{IsLawfulView}
 use Rattle.run_laws.specs.Premises.{KeepsSizes}
 use Rattle.run_laws.specs.Serves.{Serves, ServesPackets}
-use Rattle.curve_call.specs.Calls.{AppliesTo}
+use Rattle.plain_operators.specs.CurveCalls.{AppliesTo}
 
 -- where β serves a class whose packets have at most so many bits, the curve c that the call makes of β and that
 -- number serves its whole packets: for each time t up to the run's end there is an s at t or before with at least

@@ -9,8 +9,8 @@ ghost use Rattle.residuals.specs.calls.InTurn.{DrrRefused};
 ghost use Rattle.outcomes.specs.Spending.{Counts};
 
 use crate::drr::turn::turn_of;
-use curve_call::intact;
 use outcomes::Steps;
+use plain_operators::intact;
 use plain_operators::pointwise::{pos_minus, scale};
 use std::alloc::Global;
 use std::sync::ledger::Ledger;

@@ -5,12 +5,12 @@ ghost use Rattle.upp_limits.specs.declared.op_kind.OpKind.TheVariants.{FifoLeft}
 ghost use Rattle.upp_curve.specs.Curve.{value_at};
 ghost use Rattle.min_plus.specs.Deviations.{IsHorizontalDeviation};
 ghost use Rattle.min_plus.specs.Functions.{IsFinite, IsRising, IsNonnegative};
-ghost use Rattle.curve_call.specs.Calls.{Applies};
+ghost use Rattle.plain_operators.specs.CurveCalls.{Applies};
 ghost use Rattle.residuals.specs.fifo.Laws.{IsResidual};
 
-use curve_call::intact;
 use fraction128::Ext;
 use outcomes::Steps;
+use plain_operators::intact;
 use plain_operators::running::fifo_left;
 use std::alloc::Global;
 use std::sync::ledger::Ledger;

@@ -6,11 +6,11 @@ ghost use Rattle.upp_limits.specs.declared.op_kind.OpKind.TheVariants.{PosMinus}
 ghost use Rattle.upp_curve.specs.Curve.{value_at};
 ghost use Rattle.min_plus.specs.Functions.{zero_q, IsFinite};
 ghost use Rattle.min_plus.specs.Pointwise.{IsPositiveMinus};
-ghost use Rattle.curve_call.specs.Calls.{AppliesTo};
+ghost use Rattle.plain_operators.specs.CurveCalls.{AppliesTo};
 
-use curve_call::intact;
 use fraction128::Frac;
 use outcomes::Steps;
+use plain_operators::intact;
 use plain_operators::pointwise::pos_minus;
 use std::alloc::Global;
 use std::sync::ledger::Ledger;

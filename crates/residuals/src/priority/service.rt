@@ -8,8 +8,8 @@ ghost use Rattle.residual_laws.specs.PriorityLaws.{IsPriorityService};
 ghost use Rattle.residuals.specs.calls.InTurn.{LeftRefused, PriorityRefused};
 ghost use Rattle.outcomes.specs.Spending.{Counts};
 
-use curve_call::intact;
 use outcomes::Steps;
+use plain_operators::intact;
 use plain_operators::pointwise::{pos_diff, pos_minus};
 use plain_operators::running::run_sup;
 use run_laws::whole;

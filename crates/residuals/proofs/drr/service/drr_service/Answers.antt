@@ -1,9 +1,9 @@
 use Rattle.std.proofs.Common.{◌≡◌, ◌+◌, ◌-◌, Ok, Err, refl, subst, arith}
 use Rattle.std.proofs.lemmas.Result.{err_from_is_err_and}
 use Rattle.upp_limits.specs.declared.op_kind.OpKind.TheVariants.{Scale, PosMinus}
-use Rattle.curve_call.specs.Calls.{AppliesTo}
+use Rattle.plain_operators.specs.CurveCalls.{AppliesTo}
 use Rattle.outcomes.specs.Calls.{stops}
-use Rattle.curve_call.proofs.Applied.{applied_seen}
+use Rattle.plain_operators.proofs.CurveCalls.{applied_seen}
 use Rattle.residuals.specs.calls.DrrCalls.{owed_in}
 use Rattle.residuals.specs.calls.InTurn.{on_the_way, past, DrrRefused}
 use Rattle.outcomes.proofs.Spending.{counts_all, counts_refused}

@@ -1,5 +1,5 @@
 use Rattle.upp_limits.specs.declared.op_kind.OpKind.TheVariants.{FifoLeft}
-use Rattle.curve_call.proofs.Applied.{applied_seen}
+use Rattle.plain_operators.proofs.CurveCalls.{applied_seen}
 use Rattle.residuals.proofs.fifo.service.fifo_service.Goals as goal
 
 pub returns-clause-answer : goal.returns-clause-answer
