@@ -30,6 +30,19 @@ fn cut_at(pieces: &[Piece], t: Frac) -> Piece
     }
 }
 
+/// The pieces, with room for so many more.
+pub(crate) fn with_room(
+    alloc: Global,
+    pieces: &[Piece],
+    more: usize,
+) -> Result<Vec<Piece>, AllocError>
+    ensures items { IfOk result (λ v. v.items ≡ pieces.now) }
+{
+    let mut kept = Vec::from_slice(alloc, pieces)?;
+    kept.reserve_exact(more)?;
+    Ok(kept)
+}
+
 /// The pieces of a periodic curve below rank + 2 period: those given, and a second copy of what is read from the rank
 /// on.
 pub(crate) fn two_periods(
@@ -48,8 +61,9 @@ pub(crate) fn two_periods(
         → IfOk result (λ v. v.items ≡ p ∷ (ps ++ second_copy p ps rank period rise)) }
 {
     let cut = cut_at(given, rank);
-    let mut pieces = Vec::from_slice(alloc, given)?;
-    pieces.push(later(period, rise, &cut))?;
+    let first = later(period, rise, &cut);
+    let mut pieces = with_room(alloc, given, given.len().saturating_add(1))?;
+    pieces.push(first)?;
     for p in given {
         match p.x.cmp(&rank) {
             Ordering::Greater => pieces.push(later(period, rise, p))?,

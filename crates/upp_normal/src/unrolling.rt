@@ -12,7 +12,7 @@ ghost use Rattle.upp_limits.specs.Gauges.{gauge_over, tally_over};
 ghost use Rattle.upp_normal.specs.Unrolling.{IsOperandTo, TurnFits, TurnsFit};
 
 use crate::least_period::turn_of;
-use crate::two_periods::count_before;
+use crate::two_periods::{count_before, with_room};
 use fraction128::{Frac, difference, is_less, product};
 use std::alloc::{AllocError, Global};
 use upp_curve::affine_segment::Piece;
@@ -75,8 +75,12 @@ fn with_copies(
     ensures { IfOk result (λ v. v.items ≡ unrolled pieces.now (Periodic rank period rise) end) }
 {
     let turn = from_start(pieces, rank);
-    let mut kept = Vec::from_slice(alloc, before(before(pieces, rank), end))?;
-    for n in 0..start_counts::count_before(rank, period, end) {
+    let copies = start_counts::count_before(rank, period, end);
+    let room = turn
+        .len()
+        .saturating_mul(copies.min(u64::MAX as u128) as usize);
+    let mut kept = with_room(alloc, before(before(pieces, rank), end), room)?;
+    for n in 0..copies {
         push_copies(&mut kept, turn, n, period, rise, end)?;
     }
     Ok(kept)

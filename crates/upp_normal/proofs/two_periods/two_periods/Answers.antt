@@ -12,8 +12,8 @@ pub loop-p-init : goal.loop-p-init
 loop-p-init c = λ p ps e.
     let d = c.args.period in
     let h = c.args.rise in
-    copy_begins c.args.rank d h c.later.result (cut_at p ps c.args.rank) c.args.given.now c.in_ok-pieces.pieces.items c.push.new.self.items
-    (c.later.ensures ∙ ap (later d h) (c.cut_at-cut.ensures p ps e)) c.in_ok-pieces.ensures.items c.in_ok-push.ensures.items
+    copy_begins c.args.rank d h c.later-first.result (cut_at p ps c.args.rank) c.args.given.now c.in_ok-pieces.pieces.items c.push.new.self.items
+    (c.later-first.ensures ∙ ap (later d h) (c.cut_at-cut.ensures p ps e)) c.in_ok-pieces.ensures.items c.in_ok-push.ensures.items
 
 pub loop-p-preserved : goal.loop-p-preserved
 loop-p-preserved c = λ first rest is.
@@ -27,8 +27,8 @@ loop-p-preserved c = λ first rest is.
     let all = ps ++ each_later d e (cut_at first rest r ∷ past r ps) in
     elim c.match-cmp.branch [
       | in-Greater+in_ok-push-in-Greater w ↦
-          copy_more r d e p w.later-in-Greater.result _ (drop (i + 1) ps) c.loop-p.pieces.items c.match-cmp.pieces.items all c.cmp.result
-          left c.cmp.ensures.is w.in-Greater.is w.later-in-Greater.ensures (ap (λ v. v.items) w.pieces-is ∙ w.in_ok-push-in-Greater.ensures.items) (c.loop-p.invariant first rest is)
+          copy_more r d e p w.later.result _ (drop (i + 1) ps) c.loop-p.pieces.items c.match-cmp.pieces.items all c.cmp.result
+          left c.cmp.ensures.is w.in-Greater.is w.later.ensures (ap (λ v. v.items) w.pieces-is ∙ w.in_ok-push-in-Greater.ensures.items) (c.loop-p.invariant first rest is)
       | in_default w ↦
           copy_skips r d e p _ (drop (i + 1) ps) c.loop-p.pieces.items c.match-cmp.pieces.items all c.cmp.result
           left c.cmp.ensures.is w.in_default.not-Greater (ap (λ v. v.items) w.pieces-is) (c.loop-p.invariant first rest is)

@@ -19,7 +19,7 @@ push_copies-requires c =
     let a = c.args in
     let n = c.loop-n.n in
     subst (TurnFits n a.period a.rise a.end) (sym c.from_start-turn.ensures)
-    (c.requires.fits n (counted_in a.rank a.period a.end n c.count_before-n-end.result c.requires.tail.some c.count_before-n-end.ensures c.loop-n-test.true))
+    (c.requires.fits n (counted_in a.rank a.period a.end n c.count_before-copies.result c.requires.tail.some c.count_before-copies.ensures c.loop-n-test.true))
 
 pub loop-n-preserved : goal.loop-n-preserved
 loop-n-preserved c =
@@ -27,7 +27,7 @@ loop-n-preserved c =
     let n = c.loop-n.n in
     let ps = a.pieces.now in
     let next : suc n ≡ n + 1 = omega arith in
-    let inside = counted_in a.rank a.period a.end n c.count_before-n-end.result c.requires.tail.some c.count_before-n-end.ensures c.loop-n-test.true in
+    let inside = counted_in a.rank a.period a.end n c.count_before-copies.result c.requires.tail.some c.count_before-copies.ensures c.loop-n-test.true in
     subst (λ k. c.push_copies.new.kept.items ≡ upto a.end (upto a.rank ps ++ copies k a.period a.rise (from a.rank ps))) next
     (one_turn_more n a.end a.rank a.period a.rise c.loop-n.kept.items c.push_copies.new.kept.items (upto a.rank ps) (from a.rank ps) c.requires.tail.some inside
     (upto_early a.rank ps) (each_from (λ p. p.x <ℚ a.rank +ℚ a.period) a.rank ps c.requires.tail.starts) c.loop-n.invariant
@@ -38,7 +38,7 @@ returns c =
     let a = c.args in
     let ps = a.pieces.now in
     let n = c.loop-n.n in
-    let all : n ≡ c.count_before-n-end.result = omega arith in
+    let all : n ≡ c.count_before-copies.result = omega arith in
     let late = from_late a.rank (int (pos 0) -ℚ int (pos 1)) ps (low_start ps c.requires.starts) in
     c.loop-n.invariant ∙ counted_copies n (upto a.rank ps) (from a.rank ps) a.rank a.period a.rise a.end c.requires.tail.some late
-    (counted_out a.rank a.period a.end n c.requires.tail.some (all ∙ c.count_before-n-end.ensures) (λ k inside. (c.requires.fits k inside).number))
+    (counted_out a.rank a.period a.end n c.requires.tail.some (all ∙ c.count_before-copies.ensures) (λ k inside. (c.requires.fits k inside).number))
