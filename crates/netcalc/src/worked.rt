@@ -63,7 +63,7 @@ fn ask(
 }
 
 /// That the words of a case give what it tells. Its parts are separated by `|`.
-fn check(rt: &impl Abort, alloc: Global, case: &str) -> Result<(), Fail> {
+pub(crate) fn check(rt: &impl Abort, alloc: Global, case: &str) -> Result<(), Fail> {
     let parts: Vec<&str> = case.split('|').collect(alloc)?;
     let [name, fetches, puts, line, status, wanted, files @ ..] = parts.as_slice() else {
         return Err(Fail::from("a case of too few parts"));

@@ -60,17 +60,28 @@ fn one_flow_over_two_servers_has_25_cells(rt: HostRuntime) -> Result<(), Fail> {
     Ok(())
 }
 
-// Sums go by flow; the second flow's place is empty. A path of three hops takes four operators.
+// The same network in version 2.
+fn paced(net: Network) -> Network {
+    let (servers, flows) = net.into_parts();
+    Network::of_version(2, servers, flows)
+}
+
+// Sums go by flow; the second flow's place is empty. A path of three hops takes four operators. In version 2 a sum goes by links: the flow that enters,
+// those from a, and the one from b; two of these parts are cut.
 #[test]
 fn what_cells_are_made_of(rt: HostRuntime) -> Result<(), Fail> {
     let alloc = rt.alloc();
     let sums = plain_network(alloc, 2, &[&[0], &[], &[1, 0], &[0]])?;
     let path = plain_network(alloc, 3, &[&[2, 0, 1]])?;
+    let links = paced(plain_network(alloc, 3, &[&[0, 2], &[2], &[1, 2], &[0, 2]])?);
+    let comes = "in b 0\nin a 1\nin d 1\nin c 1\n";
     let along = "residual a 0\nresidual a 1\nresidual a 2\n";
     for (net, kind, a, b, wanted, operators) in [
         (&sums, Kind::Total, 0, 0, "in a 0\nin c 1\nin d 0\n", 2),
         (&sums, Kind::Cross, 2, 1, "in a 0\nin d 0\n", 1),
         (&sums, Kind::Cross, 2, 0, "", 0),
+        (&links, Kind::Total, 2, 0, comes, 5),
+        (&links, Kind::Cross, 0, 1, "in b 0\nin c 1\nin d 1\n", 2),
         (&path, Kind::PathService, 0, 0, along, 4),
         (&path, Kind::In, 0, 2, "out a 1\n", 0),
         (

@@ -10,13 +10,12 @@ ghost use Rattle.command_replies.specs.simulated_findings.Found.{IsFound, IsRepo
 ghost use Rattle.exercise_load.specs.exercise_report.Summary.{summary_of};
 
 use command_replies::run_findings::status_by;
-use command_replies::simulated_findings::find;
+use command_replies::simulated_findings::{SimFault, find};
 use command_replies::{Answer, sim_too_wide};
 use exercise_load::exercise_report::summary_text;
 use net_cells::cell_table::{Analysis, Table, Value};
 use net_model::{Network, Trace};
 use report_text::RunFound;
-use simulator::net_simulator::SimFault;
 use std::alloc::{AllocError, Global};
 
 // The summary of what was found, beside the numbers of a table.

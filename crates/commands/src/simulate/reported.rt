@@ -10,12 +10,11 @@ ghost use Rattle.command_replies.specs.simulated_findings.Found.{IsFound, IsRepo
 ghost use Rattle.commands.specs.simulate.OnTraces.{IsSimulationReply};
 
 use command_replies::run_findings::status_by;
-use command_replies::simulated_findings::find;
+use command_replies::simulated_findings::{SimFault, find};
 use command_replies::{Answer, sim_too_wide};
 use net_cells::cell_table::{Analysis, Table, Value};
 use net_model::{Network, Trace};
 use report_text::{RunFound, run_text};
-use simulator::net_simulator::SimFault;
 use std::alloc::{AllocError, Global};
 
 // The report on what was found, beside the numbers of a table.
