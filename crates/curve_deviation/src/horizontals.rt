@@ -213,18 +213,19 @@ fn deviation_in(f: &Curve, g: &Curve, periods: &Periods, frame: &Frame) -> Ext
     Extended::Fin(longest_lag(f, g, end, frame.end))
 }
 
-/// Whether f has left the level after `first` periods and not after fewer, in a call that is not too wide.
-fn leaves_at(f: &Curve, g: &Curve, level: Frac, numbers: &Guess) -> bool
+/// Whether f has left the level after `first` periods, with which the window is, and not after fewer, in a call that is
+/// not too wide.
+fn leaves_at(f: &Curve, g: &Curve, level: Frac, numbers: &Guess, window: &CallWindow) -> bool
     requires both { AreFinite f.now g.now }
     requires narrow { gauge_at OpKind.Horizontal f.now g.now numbers.now.first numbers.now.second < 2 ^ 120 }
+    requires window { IsNarrowWindow f.now g.now numbers.now.first 0 window.now }
     ensures below { IsTrue result → (i : ℕ) → i < numbers.now.first → ¬ (HasLeft level f.now g.now i) }
     ensures left { IsTrue result → HasLeft level f.now g.now numbers.now.first }
 {
     f.keeps();
     g.keeps();
     let first = numbers.first;
-    let window = known_window(f, g, first, 0);
-    if !has_left(f, g, level, &window) {
+    if !has_left(f, g, level, window) {
         return false;
     }
     if first == 0 {
@@ -238,10 +239,11 @@ fn leaves_at(f: &Curve, g: &Curve, level: Frac, numbers: &Guess) -> bool
     }
 }
 
-/// Whether the first number is right.
-fn is_first(f: &Curve, g: &Curve, numbers: &Guess) -> bool
+/// Whether the first number is right, with which the window is.
+fn is_first(f: &Curve, g: &Curve, numbers: &Guess, window: &CallWindow) -> bool
     requires both { AreFinite f.now g.now }
     requires narrow { gauge_at OpKind.Horizontal f.now g.now numbers.now.first numbers.now.second < 2 ^ 120 }
+    requires window { IsNarrowWindow f.now g.now numbers.now.first 0 window.now }
     ensures { IsTrue result → IsFirst f.now g.now numbers.now.first }
 {
     f.keeps();
@@ -251,14 +253,15 @@ fn is_first(f: &Curve, g: &Curve, numbers: &Guess) -> bool
     }
     match late_level(g) {
         None => false,
-        Some(level) => leaves_at(f, g, level, numbers),
+        Some(level) => leaves_at(f, g, level, numbers, window),
     }
 }
 
-/// Whether g has reached the level after `second` periods more, and not after fewer.
-fn reaches_at(f: &Curve, g: &Curve, level: Frac, numbers: &Guess) -> bool
+/// Whether g has reached the level after `second` periods more, with which the window is, and not after fewer.
+fn reaches_at(f: &Curve, g: &Curve, level: Frac, numbers: &Guess, window: &CallWindow) -> bool
     requires both { AreFinite f.now g.now }
     requires narrow { gauge_at OpKind.Horizontal f.now g.now numbers.now.first numbers.now.second < 2 ^ 120 }
+    requires window { IsNarrowWindow f.now g.now numbers.now.first numbers.now.second window.now }
     ensures below { IsTrue result → (i : ℕ) → i < numbers.now.second
         → ¬ (HasReached numbers.now.first level f.now g.now i) }
     ensures reached { IsTrue result → HasReached numbers.now.first level f.now g.now numbers.now.second }
@@ -266,8 +269,7 @@ fn reaches_at(f: &Curve, g: &Curve, level: Frac, numbers: &Guess) -> bool
     f.keeps();
     g.keeps();
     let second = numbers.second;
-    let window = known_window(f, g, numbers.first, second);
-    if is_below(f, g, level, &window) {
+    if is_below(f, g, level, window) {
         return false;
     }
     if second == 0 {
@@ -293,12 +295,17 @@ fn guessed_call(f: &Curve, g: &Curve) -> Option<FoundCall>
     let Ok(frame) = within_both(&OpKind::Horizontal, f, g, numbers.first, numbers.second) else {
         return None;
     };
-    if !is_first(f, g, &numbers) {
+    let settled = known_window(f, g, numbers.first, 0);
+    if !is_first(f, g, &numbers, &settled) {
         return None;
     }
-    let settled = known_window(f, g, numbers.first, 0);
     let turn = turn_in(f, g, &settled);
-    if !reaches_at(f, g, turn.level, &numbers) {
+    let whole = CallWindow {
+        start: frame.start,
+        period: frame.period,
+        end: frame.end,
+    };
+    if !reaches_at(f, g, turn.level, &numbers, &whole) {
         return None;
     }
     let periods = Periods {

@@ -3,9 +3,9 @@
 use Rattle.std.specs.Prelude.{◌≡◌, Option, Some, None, MatchOption, ℕ, suc, ◌+◌, ◌*◌, ◌-◌, ◌/◌, ◌<◌, ◌≤◌, ◌^◌, ℤ, pos, negsuc, ◌+ℤ◌, ◌*ℤ◌, unsigned_abs}
 use Rattle.std.proofs.Common.{arith, sym, ap, ap₂, ◌∙◌, subst, refl, ◌⊎◌, inl, inr}
 use Rattle.std.proofs.lemmas.Bool.{cases_lt}
-use Rattle.std.proofs.lemmas.Int.{ints}
+use Rattle.std.proofs.lemmas.Int.{ints, unsigned_abs-mul}
 use Prim.Native.Nat.{◌∣◌}
-use native.Mathlib.Nat.{div-mul_cancel, mul-pos, mul_assoc, dvd_trans, dvd-mul_left, dvd_refl, dvd-add, dvd-sub, div-le_self, mul-le-mul_left, mul-div_cancel}
+use native.Mathlib.Nat.{div-mul_cancel, mul-pos, mul_assoc, dvd_trans, dvd-mul_left, dvd_refl, dvd-add, dvd-sub, div-le_self, mul-le-mul_left, mul-le-mul_right, mul-div_cancel}
 use Rattle.rational.specs.Gcd.{gcd}
 use Rattle.rational.specs.Euclid.{gcd_is, gcd_pos, lowest_after}
 use Rattle.rational.specs.Rational.{ℚ, int, ◌+ℚ◌}
@@ -126,6 +126,36 @@ pub sum_parts : (a b : ℤ) (d e common share other : ℕ) (left right sum : ℤ
     → SumParts a d b e common share other left right sum again size rest → IsSum a d b e sum size (share * rest)
 sum_parts a b d e common share other left right sum again size rest p q c =
     rw (c.size_is, c.rest_is) (sum_sizes a b d e share other common again sum p q c.common_is c.share_is c.other_is (c.sum_is ∙ ap₂ (λ (x y : ℤ). x +ℤ y) c.left_is c.right_is) c.again_is)
+
+-- ---- numbers below 2 ^ 63: their cross products and the sum of these fit
+times_small : (a : ℤ) (v : ℕ) → unsigned_abs a < 2 ^ 63 → v < 2 ^ 63 → unsigned_abs (a *ℤ pos v) < 2 ^ 126
+times_small a v p q =
+    let m = unsigned_abs a in
+    let less : v ≤ 2 ^ 63 - 1 = omega arith in
+    let other : m ≤ 2 ^ 63 - 1 = omega arith in
+    let one : m * v ≤ m * (2 ^ 63 - 1) = mul-le-mul_left m less in
+    let two : m * (2 ^ 63 - 1) ≤ (2 ^ 63 - 1) * (2 ^ 63 - 1) = mul-le-mul_right (2 ^ 63 - 1) other in
+    rw (unsigned_abs-mul a (pos v)) (omega (arith, one, two))
+
+abs_sum : (x y : ℤ) (k : ℕ) → unsigned_abs x < k → unsigned_abs y < k → unsigned_abs (x +ℤ y) < k + k
+abs_sum (pos m) (pos n) k p q = omega (arith, ints, p, q)
+abs_sum (pos m) (negsuc n) k p q = elim (cases_lt m (suc n)) [
+  | inl h ↦ omega (arith, ints, p, q, h)
+  | inr h ↦ omega (arith, ints, p, q, h)
+]
+abs_sum (negsuc m) (pos n) k p q = elim (cases_lt m n) [
+  | inl h ↦ omega (arith, ints, p, q, h)
+  | inr h ↦ omega (arith, ints, p, q, h)
+]
+abs_sum (negsuc m) (negsuc n) k p q = omega (arith, ints, p, q)
+
+pub short_parts_small : (a b : ℤ) (v u : ℕ) → unsigned_abs a < 2 ^ 63 → v < 2 ^ 63 → unsigned_abs b < 2 ^ 63 → u < 2 ^ 63
+    → (unsigned_abs (a *ℤ pos v) < 2 ^ 126) × (unsigned_abs (b *ℤ pos u) < 2 ^ 126) × (unsigned_abs (a *ℤ pos v +ℤ b *ℤ pos u) < 2 ^ 127)
+short_parts_small a b v u p q r s =
+    let x = times_small a v p q in
+    let y = times_small b u r s in
+    let sum = abs_sum (a *ℤ pos v) (b *ℤ pos u) (2 ^ 126) x y in
+    (x, y, omega (arith, sum))
 
 -- the sum of the cross products is too wide
 pub sum_wide : (a b left right sum : ℤ) (d e common share other : ℕ) → common ≡ gcd d e → share ≡ d / common → other ≡ e / common

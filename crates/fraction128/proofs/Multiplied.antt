@@ -66,7 +66,7 @@ product_lowest s t d e p q some_d some_e =
     let v_all : gcd v (x * y) ≡ 1 = coprime_mul v x y (coprime_turned x v xv) (coprime_turned y v yv) in
     coprime_mul (x * y) u v (coprime_turned u (x * y) u_all) (coprime_turned v (x * y) v_all)
 
-product_sizes : (a b : ℤ) (d e : ℕ) → AreLowest a d → AreLowest b e
+pub product_sizes : (a b : ℤ) (d e : ℕ) → AreLowest a d → AreLowest b e
     → IsProduct a d b e (unsigned_abs a / gcd (unsigned_abs a) e * (unsigned_abs b / gcd (unsigned_abs b) d)) (d / gcd (unsigned_abs b) d * (e / gcd (unsigned_abs a) e))
 product_sizes a b d e p q =
     let s = unsigned_abs a in

@@ -4,6 +4,8 @@ use Rattle.std.proofs.Common.{arith, sym, ap, ap₂, ◌∙◌, refl, subst, SFi
 use Rattle.std.proofs.lemmas.Bool.{cases_lt}
 use Rattle.std.proofs.lemmas.Int.{fits_signed_from_abs}
 use mir.Syntax.{w128}
+use native.Mathlib.Nat.{zero-lt-suc}
+use Rattle.rational.specs.Fractions.{frac_self}
 use Rattle.rational.specs.Gcd.{gcd}
 use Rattle.rational.specs.Rational.{ℚ, den, int, ◌<ℚ◌}
 use Rattle.rational.specs.Ratio.{ratio, with_sign, IsSmall}
@@ -29,6 +31,13 @@ small_of n d x h e =
 
 pub whole_lowest : (n : ℤ) → unsigned_abs n < 2 ^ 127 → AreLowest n 1
 whole_lowest n h = record { some = omega arith; top = h; bottom = omega arith; lowest = gcd_one (unsigned_abs n) }
+
+-- a value's numbers are in lowest terms, and make it
+pub parts_lowest : (x : ℚ) (n : ℤ) (d : ℕ) → n ≡ x.num → d ≡ den x → unsigned_abs n < 2 ^ 127 → d < 2 ^ 127 → AreLowest n d
+parts_lowest x n d e f p q = record { some = rw f (zero-lt-suc x.pre); top = p; bottom = q; lowest = rw (e, f) x.lowest }
+
+pub parts_value : (x : ℚ) (n : ℤ) (d : ℕ) → n ≡ x.num → d ≡ den x → ratio n (pos d) ≡ x
+parts_value x n d e f = ap₂ (λ (i : ℤ) (j : ℕ). ratio i (pos j)) e f ∙ sym (frac_self x)
 
 -- one value, one pair of numbers
 pub same_fields : (n m : ℤ) (d e : ℕ) (x y : ℚ) → AreLowest n d → AreLowest m e → ratio n (pos d) ≡ x → ratio m (pos e) ≡ y → ((n ≡ m) × (d ≡ e)) ↔ (x ≡ y)

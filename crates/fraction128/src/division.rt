@@ -63,6 +63,37 @@ pub fn least_common_multiple(a: u128, b: u128) -> Option<u128>
     quotient(a, gcd_of(a, b)).checked_mul(b)
 }
 
+/// The greatest common divisor of numbers of 64 bits.
+#[inline]
+pub(crate) fn short_divisor(a: u64, b: u64) -> u64
+    ensures { result ≡ gcd a b }
+{
+    if a == 1 || b == 1 {
+        return 1;
+    }
+    short_gcd(a, b)
+}
+
+/// The same, where both are often equal.
+#[inline]
+pub(crate) fn short_common(a: u64, b: u64) -> u64
+    ensures { result ≡ gcd a b }
+{
+    if a == b {
+        return a;
+    }
+    short_divisor(a, b)
+}
+
+/// The quotient of numbers of 64 bits.
+#[inline]
+pub(crate) fn short_quotient(n: u64, by: u64) -> u64
+    requires { 0 < by }
+    ensures { result ≡ n / by }
+{
+    if by == 1 { n } else { n / by }
+}
+
 fn short_gcd(a: u64, b: u64) -> u64
     ensures { result ≡ gcd a b }
 {

@@ -23,7 +23,19 @@ pub fn sum(a: Frac, b: Frac) -> Frac
         let right = b.numerator();
         return Frac::from_whole(left + right);
     }
-    sum_of_parts(a, b)
+    sum_apart(a, b)
+}
+
+// Its two numbers are taken from the call's answer, so that the sum of whole numbers needs no place in memory.
+#[inline(always)]
+fn sum_apart(a: Frac, b: Frac) -> Frac
+    requires { SumFits a b }
+    ensures { result ≡ a +ℚ b }
+{
+    let found = sum_of_parts(a, b);
+    let top = found.numerator();
+    let bottom = found.denominator();
+    Frac::from_lowest(top, bottom)
 }
 
 // A call of its own, so that only the sum of whole numbers is written out where it is called.
@@ -57,7 +69,19 @@ pub fn product(a: Frac, b: Frac) -> Frac
         let right = b.numerator();
         return Frac::from_whole(left * right);
     }
-    product_of_parts(a, b)
+    product_apart(a, b)
+}
+
+// As that of a sum.
+#[inline(always)]
+fn product_apart(a: Frac, b: Frac) -> Frac
+    requires { IsSmall (a *ℚ b) }
+    ensures { result ≡ a *ℚ b }
+{
+    let found = product_of_parts(a, b);
+    let top = found.numerator();
+    let bottom = found.denominator();
+    Frac::from_lowest(top, bottom)
 }
 
 // A call of its own, as that of a sum.

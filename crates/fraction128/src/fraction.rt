@@ -204,12 +204,21 @@ impl Frac {
     }
 
     /// The least whole number that is at least the fraction's size.
+    #[inline(always)]
     pub fn size_up(self) -> u128
         ensures { result ≡ size_up self }
     {
         if self.den == 1 {
             return self.num.unsigned_abs();
         }
+        self.parts_up()
+    }
+
+    // A call of its own, so that only the size of a whole number is written out where it is called.
+    #[inline(never)]
+    fn parts_up(self) -> u128
+        ensures { result ≡ size_up self }
+    {
         let (whole, rest) = divide(self.num.unsigned_abs(), self.den);
         if rest == 0 { whole } else { whole + 1 }
     }

@@ -13,6 +13,15 @@ known_window-settled-requires c =
 pub turn_in-turn-requires-clause-window : goal.turn_in-turn-requires-clause-window
 turn_in-turn-requires-clause-window c = (c.in_ok-numbers.numbers.first, c.known_window-settled.ensures.window)
 
+pub is_first-requires-clause-window : goal.is_first-requires-clause-window
+is_first-requires-clause-window c = c.known_window-settled.ensures.window
+
+-- the call's own window
+pub reaches_at-requires-clause-window : goal.reaches_at-requires-clause-window
+reaches_at-requires-clause-window c =
+    let r = c.in-Ok.ensures.frame in
+    record { window = record { start = r.start; period = r.period; end = r.end }; gauge = r.gauge }
+
 pub reaches_at-requires-clause-narrow : goal.reaches_at-requires-clause-narrow
 reaches_at-requires-clause-narrow c = c.in-Ok.ensures.frame.gauge
 

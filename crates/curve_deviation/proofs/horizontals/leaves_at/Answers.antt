@@ -3,18 +3,13 @@ use Rattle.curve_deviation.specs.declared.search.Stage.TheVariants.{First}
 use Rattle.curve_deviation.proofs.PeriodsFound.{narrow_with, unmet_all}
 use Rattle.curve_deviation.proofs.horizontals.leaves_at.Goals as goal
 
-pub known_window-window-requires : goal.known_window-window-requires
-known_window-window-requires c =
-    let n = c.args.numbers.now in
-    narrow_with c.args.f.now c.args.g.now n.first 0 n.first n.second c.keeps.ensures c.keeps-2.ensures (omega arith) (omega arith) c.requires.narrow
-
 pub known_window-before-requires : goal.known_window-before-requires
 known_window-before-requires c =
     let n = c.args.numbers.now in
     narrow_with c.args.f.now c.args.g.now (n.first - 1) 0 n.first n.second c.keeps.ensures c.keeps-2.ensures (omega arith) (omega arith) c.requires.narrow
 
 pub has_left-requires-clause-window : goal.has_left-requires-clause-window
-has_left-requires-clause-window c = (c.args.numbers.now.first, c.known_window-window.ensures.window)
+has_left-requires-clause-window c = (c.args.numbers.now.first, c.requires.window)
 
 pub has_left-requires-2-clause-window : goal.has_left-requires-2-clause-window
 has_left-requires-2-clause-window c = (c.args.numbers.now.first - 1, c.known_window-before.ensures.window)
@@ -23,10 +18,10 @@ pub returns-then-first-eq0-clause-below : goal.returns-then-first-eq0-clause-bel
 returns-then-first-eq0-clause-below c = λ yes i h. let none = c.if-first-eq0.true in absurd (omega (arith, h, none))
 
 pub returns-then-first-eq0-clause-left : goal.returns-then-first-eq0-clause-left
-returns-then-first-eq0-clause-left c = λ yes. c.has_left.ensures.left c.args.numbers.now.first c.known_window-window.ensures.window c.if-not-has_left.false
+returns-then-first-eq0-clause-left c = λ yes. c.has_left.ensures.left c.args.numbers.now.first c.requires.window c.if-not-has_left.false
 
 pub returns-else-has_left-clause-left : goal.returns-else-has_left-clause-left
-returns-else-has_left-clause-left c = λ yes. c.has_left.ensures.left c.args.numbers.now.first c.known_window-window.ensures.window c.if-not-has_left.false
+returns-else-has_left-clause-left c = λ yes. c.has_left.ensures.left c.args.numbers.now.first c.requires.window c.if-not-has_left.false
 
 pub returns-else-has_left-clause-below : goal.returns-else-has_left-clause-below
 returns-else-has_left-clause-below c = λ yes i h.

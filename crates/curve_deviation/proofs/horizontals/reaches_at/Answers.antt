@@ -9,7 +9,7 @@ known_window-before-requires c =
     narrow_with c.args.f.now c.args.g.now n.first (n.second - 1) n.first n.second c.keeps.ensures c.keeps-2.ensures (omega arith) (omega arith) c.requires.narrow
 
 pub is_below-requires-clause-window : goal.is_below-requires-clause-window
-is_below-requires-clause-window c = let n = c.args.numbers.now in (n.first, n.second, c.known_window-window.ensures.window)
+is_below-requires-clause-window c = let n = c.args.numbers.now in (n.first, n.second, c.requires.window)
 
 pub is_below-requires-2-clause-window : goal.is_below-requires-2-clause-window
 is_below-requires-2-clause-window c = let n = c.args.numbers.now in (n.first, n.second - 1, c.known_window-before.ensures.window)
@@ -18,10 +18,10 @@ pub returns-then-second-eq0-clause-below : goal.returns-then-second-eq0-clause-b
 returns-then-second-eq0-clause-below c = λ yes i h. let none = c.if-second-eq0.true in absurd (omega (arith, h, none))
 
 pub returns-then-second-eq0-clause-reached : goal.returns-then-second-eq0-clause-reached
-returns-then-second-eq0-clause-reached c = λ yes. let n = c.args.numbers.now in c.if-is_below.ensures.reached n.first n.second c.known_window-window.ensures.window (λ e. true≢false (sym e))
+returns-then-second-eq0-clause-reached c = λ yes. let n = c.args.numbers.now in c.if-is_below.ensures.reached n.first n.second c.requires.window (λ e. true≢false (sym e))
 
 pub returns-then-is_below-2-clause-reached : goal.returns-then-is_below-2-clause-reached
-returns-then-is_below-2-clause-reached c = λ yes. let n = c.args.numbers.now in c.if-is_below.ensures.reached n.first n.second c.known_window-window.ensures.window (λ e. true≢false (sym e))
+returns-then-is_below-2-clause-reached c = λ yes. let n = c.args.numbers.now in c.if-is_below.ensures.reached n.first n.second c.requires.window (λ e. true≢false (sym e))
 
 pub returns-then-is_below-2-clause-below : goal.returns-then-is_below-2-clause-below
 returns-then-is_below-2-clause-below c = λ yes i h.

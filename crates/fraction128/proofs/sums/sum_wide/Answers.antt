@@ -5,8 +5,8 @@ use Rattle.rational.specs.Euclid.{gcd_pos}
 use Rattle.rational.specs.Ratio.{ratio}
 use Rattle.fraction128.proofs.Values.{unfit_abs}
 use Rattle.fraction128.proofs.Added.{IsSum, sum_parts, sum_wide, sum_as_lowest}
-use Rattle.fraction128.proofs.sums.sum_over_both.Goals.{After-quotient, In_ok-right}
-use Rattle.fraction128.proofs.sums.sum_over_both.Goals as goal
+use Rattle.fraction128.proofs.sums.sum_wide.Goals.{After-quotient, In_ok-right}
+use Rattle.fraction128.proofs.sums.sum_wide.Goals as goal
 
 pub quotient-share-requires : goal.quotient-share-requires
 quotient-share-requires c = rw c.gcd_of-common.ensures (gcd_pos _ c.args.e c.requires.right.some)
