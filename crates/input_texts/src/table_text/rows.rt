@@ -1,6 +1,6 @@
 //! The rows of a text.
 
-ghost use Rattle.std.specs.Prelude.{◌≡◌, ◌<◌, ◌^◌, IfOk, IfErr, map, take, true};
+ghost use Rattle.std.specs.Prelude.{◌≡◌, ◌<◌, ◌^◌, ◌++◌, ◌∷◌, [], Ok, IfOk, IfErr, OnOk, map, take, true};
 ghost use Rattle.std.specs.List.{list_all};
 ghost use Rattle.csv.specs.Records.{fields_of};
 ghost use Rattle.input_texts.specs.table_text.Rows as spec;
@@ -9,6 +9,24 @@ ghost use Rattle.input_texts.specs.declared.table_text.fault.TableKind.TheVarian
 use crate::table_text::fault::TableKind;
 use csv::{ByteRecord, ReaderBuilder};
 use std::alloc::Global;
+
+/// Puts a row that was read behind others.
+fn push_row(
+    rows: &mut Vec<ByteRecord>,
+    row: Result<ByteRecord, csv::Error>,
+) -> Result<(), TableKind>
+    ensures pushed { OnOk result ((r : _) × (row ≡ Ok r) × (rows.new.items ≡ rows.old.items ++ r ∷ [])) }
+    ensures refused { IfErr result (λ kind. kind ≡ NoMemory) }
+{
+    match row {
+        Ok(row) => {
+            rows.push(row)?;
+            Ok(())
+        }
+        // Bytes in memory can always be read and no length of rows is asked for: what is left is want of memory.
+        Err(_) => Err(TableKind::NoMemory),
+    }
+}
 
 /// The first rows of a text, as many as there are up to a number.
 pub fn first_rows(alloc: Global, text: &[u8], most: usize) -> Result<Vec<ByteRecord>, TableKind>
@@ -24,11 +42,7 @@ pub fn first_rows(alloc: Global, text: &[u8], most: usize) -> Result<Vec<ByteRec
         if rows.len() == most {
             return Ok(rows);
         }
-        match row {
-            Ok(row) => rows.push(row)?,
-            // Bytes in memory can always be read and no length of rows is asked for: what is left is want of memory.
-            Err(_) => return Err(TableKind::NoMemory),
-        }
+        push_row(&mut rows, row)?;
     }
     Ok(rows)
 }

@@ -1,5 +1,6 @@
 use Rattle.std.proofs.Common.{Bor, List, ℕ, ◌≡◌, ◌≤◌, ◌∙◌, ap, sym, refl, rules, inl, inr, map, length, Some, ◌∷◌, [], arith, subst, ◌++◌}
 use Rattle.std.proofs.lemmas.List.{map-append, length_push, length-map}
+use Rattle.std.proofs.lemmas.Result.{err_from_is_err_and}
 use Rattle.csv.specs.Reading.{Reached, builder_config, builder_names_headers, builder_trim, default_config, strip_bom}
 use Rattle.csv.specs.Records.{fields_of}
 use Rattle.csv.specs.declared.parser.State.TheVariants as st
@@ -29,9 +30,9 @@ pub loop-row-preserved : goal.loop-row-preserved
 loop-row-preserved c =
     let inv = c.loop-row.invariant in
     let old = c.loop-row.rows.items in
-    let s = rw (c.in-Some.is, c.in-Ok.is) at ((c.next.ensures.steps inv.left inv.trims).0 inv.ready) in
-    let items : c.push.new.self.items ≡ old ++ c.in-Ok.row ∷ [] = c.in_ok-push-in-Ok.ensures.items in
-    let m = rows-more (λ (s : Bor (List ℕ)). Some s.now) c.loop-row.row-iterator.rdr c.next.new.self.rdr (fields_of c.in-Ok.row) default_config st.StartRecord (strip_bom c.args.text.now) inv.rest.0 (map fields_of old) inv.setup inv.rest.1 inv.rest.2 s.0 in
+    let (row, is, items) = c.in_ok-push_row.ensures.pushed in
+    let s = rw (c.in-Some.is, is) at ((c.next.ensures.steps inv.left inv.trims).0 inv.ready) in
+    let m = rows-more (λ (s : Bor (List ℕ)). Some s.now) c.loop-row.row-iterator.rdr c.next.new.self.rdr (fields_of row) default_config st.StartRecord (strip_bom c.args.text.now) inv.rest.0 (map fields_of old) inv.setup inv.rest.1 inv.rest.2 s.0 in
     let few : length old ≤ c.args.most = inv.few in
     let len : c.len.result ≡ length old = search rules in
     let not_full = c.if-len-most.false in
@@ -40,9 +41,14 @@ loop-row-preserved c =
       ready = inl s.1;
       left = s.2;
       setup = s.0.2 ∙ inv.setup;
-      few = rw items (omega (arith, few, len, not_full, length_push old c.in-Ok.row));
-      rest = (m.0, m.1, rw (items, map-append fields_of old (c.in-Ok.row ∷ [])) m.2);
+      few = rw items (omega (arith, few, len, not_full, length_push old row));
+      rest = (m.0, m.1, rw (items, map-append fields_of old (row ∷ [])) m.2);
     }
+
+pub returns-in_err-push_row-clause-refused : goal.returns-in_err-push_row-clause-refused
+returns-in_err-push_row-clause-refused c =
+    let p = err_from_is_err_and c.from_residual.result c.from_residual.ensures.1 in
+    rw (p.1, p.2) c.in_err-push_row.ensures.refused
 
 pub returns-then-len-most-clause-rows : goal.returns-then-len-most-clause-rows
 returns-then-len-most-clause-rows c =
