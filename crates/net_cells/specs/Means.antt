@@ -10,8 +10,7 @@ use Rattle.upp_curve.specs.Curves.{IsCurve}
 use Rattle.upp_curve.specs.Kinds.{bucket}
 use Rattle.min_plus.specs.Deviations.{IsHorizontalDeviation, IsVerticalDeviation}
 use Rattle.residuals.specs.CurveCalls.{IsMadeBy}
-use Rattle.residual_laws.specs.PriorityLaws.{IsPriorityService}
-use Rattle.residual_laws.specs.DrrLaws.{IsDrrService}
+use Rattle.residuals.specs.left.Laws.{IsPriorityService, IsDrrService}
 use Rattle.run_laws.specs.Cards.{whole}
 use Rattle.net_cells.specs.declared.cell.Cell.{Cell}
 use Rattle.net_cells.specs.Numbered.{zero_curve}

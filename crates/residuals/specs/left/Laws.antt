@@ -10,8 +10,8 @@ use Rattle.run_laws.specs.Allows.{IsLawfulView}
 use Rattle.run_laws.specs.Premises.{KeepsArrivals, KeepsService, KeepsSizes, IsZeroAtStart}
 use Rattle.run_laws.specs.Serves.{Serves}
 use Rattle.plain_operators.specs.CurveCalls.{GrowsFromZero}
-use Rattle.residual_laws.specs.PriorityLaws.{IsPriorityService}
-use Rattle.residual_laws.specs.DrrLaws.{IsDrrService}
+pub use Rattle.residual_laws.specs.PriorityLaws.{IsPriorityService}
+pub use Rattle.residual_laws.specs.DrrLaws.{IsDrrService}
 use Rattle.residuals.specs.left.Left.{Left, all, above, share, EachBefore, IsFit}
 
 -- R is what is left of β
