@@ -1,17 +1,17 @@
 //! Public calls that whole commands reach only from inside others, each for one row worked out by hand.
 
-ghost use Rattle.std.specs.Prelude.{◌≡◌, IsTrue, pos};
+ghost use Rattle.std.specs.Prelude.{◌≡◌, IsTrue};
 ghost use Rattle.curve_call.specs.Worked.{level_pieces, ramp_pieces};
-ghost use Rattle.rational.specs.Rational.{◌≤ℚ◌, int};
+ghost use Rattle.rational.specs.Rational.{◌≤ℚ◌};
 ghost use Rattle.upp_curve.specs.affine_segment.Elements.{IsProper};
 ghost use Rattle.upp_curve.specs.Curves.{IsCurve};
 ghost use Rattle.upp_curve.specs.Steady.{IsWholePeriods, steady};
 
-use crate::shapes::{bucket, line, line_piece, piece, ratio, repeating, value, whole};
+use crate::shapes::{bucket, curve, line, line_piece, piece, ratio, repeating, value, whole};
 use curve_call::{Both, least_periods, overlay, window_excess, window_max, window_min, window_sum};
 use curve_library::stair;
 use element_envelope::{cut, joined_window};
-use fraction128::{Frac, is_less};
+use fraction128::{Frac, Op, Wide, is_less};
 use rational::Extended;
 use std::alloc::{AllocError, Global};
 use std::test::Fail;
@@ -29,7 +29,16 @@ fn seen(e: &Element) -> (Frac, Option<Frac>, Frac, Frac) {
     }
 }
 
-// The line icept + slope t from one time up to another.
+// The line icept + slope t from one time on.
+fn onward(from: i128, icept: i128, slope: i128) -> Element {
+    Element::Open {
+        from: whole(from),
+        to: Extended::Inf,
+        line: line(icept, slope),
+    }
+}
+
+// The same up to another time.
 fn open(from: i128, to: i128, icept: i128, slope: i128) -> Element {
     Element::Open {
         from: whole(from),
@@ -47,13 +56,10 @@ fn is_proper(e: &Element) -> bool
     }
 }
 
-// What two segments make, where both have times and each step fits.
-fn made(a: &Element, b: &Element) -> Option<Joined> {
+// What two elements make, or the step that is too wide, where both have times.
+fn made(a: &Element, b: &Element) -> Option<Result<Joined, Wide>> {
     if is_proper(a) && is_proper(b) {
-        match element_conv(a, b) {
-            Ok(joined) => Some(joined),
-            Err(_) => None,
-        }
+        Some(element_conv(a, b))
     } else {
         None
     }
@@ -74,9 +80,12 @@ fn late_window(alloc: Global) -> Result<Vec<Piece>, AllocError> {
     joined_window(alloc, &late)
 }
 
-// The closure of the value 3 at 2.
-fn point(alloc: Global) -> Result<Curve, OpFault> {
-    point_closure(alloc, Frac::from_whole(2), Frac::from_whole(3))
+// The closure of the value 3 at a time from 0 on.
+fn point(alloc: Global, time: Frac) -> Result<Curve, OpFault> {
+    if is_less(time, Frac::zero()) {
+        return Err(OpFault::TooMany);
+    }
+    point_closure(alloc, time, Frac::from_whole(3))
 }
 
 // The closure of the value 1 between 2 and 3.
@@ -99,7 +108,7 @@ fn endless(alloc: Global) -> Result<Curve, OpFault> {
 }
 
 // The value 3 at 0, 1 + t from there to 2, and 5 after 2. The smaller slope of two segments comes first: 5 just after both starts; the falling
-// one gives up 3 until its end at 4, and the other then rises by 6 until 6. The time of two points may be too wide.
+// one gives up 3 until its end at 4, and the other then rises by 6 until 6.
 #[test]
 fn elements(rt: HostRuntime) -> Result<(), Fail> {
     let pieces = [
@@ -111,25 +120,55 @@ fn elements(rt: HostRuntime) -> Result<(), Fail> {
     assert!(rt; seen(&elements[0]) == (whole(0), Some(whole(0)), whole(3), whole(0)));
     assert!(rt; seen(&elements[1]) == (whole(0), Some(whole(2)), whole(1), whole(1)));
     assert!(rt; seen(&elements[2]) == (whole(2), None, whole(5), whole(0)));
-    let both = made(&open(0, 2, 1, 3), &open(1, 4, 5, -1)).ok_or("nothing is made")?;
+    let Some(Ok(both)) = made(&open(0, 2, 1, 3), &open(1, 4, 5, -1)) else {
+        return Err(Fail::from("nothing is made"));
+    };
     let join = both.join.ok_or("no join")?;
     let second = both.second.ok_or("no second part")?;
     assert!(rt; seen(&both.first) == (whole(1), Some(whole(4)), whole(6), whole(-1)));
     assert!(rt; seen(&join) == (whole(4), Some(whole(4)), whole(2), whole(0)));
     assert!(rt; seen(&second) == (whole(4), Some(whole(6)), whole(-10), whole(3)));
-    let far = Element::Point {
-        x: whole(i128::MAX),
-        v: Frac::zero(),
-    };
-    let near = Element::Point {
-        x: Frac::one(),
-        v: Frac::zero(),
-    };
-    assert!(rt; made(&far, &near).is_none());
     Ok(())
 }
 
-// A window is infinite up to a late line. A point repeats. Of 1 between 2 and 3 the sums are n between 2 n and 3 n; those of t - 1 after 1 are
+// A value at a time.
+fn dot(x: i128, v: i128) -> Element {
+    Element::Point {
+        x: whole(x),
+        v: whole(v),
+    }
+}
+
+// A point moves a segment. Two segments of one slope make one part, and so does one without an end, of the smaller slope. Of two points their time
+// may be too wide, of a moved segment the value at its start.
+#[test]
+fn elements_of_one_part(rt: HostRuntime) -> Result<(), Fail> {
+    for (a, b, to, icept, slope) in [
+        (dot(1, 2), open(0, 5, 3, 2), Some(whole(6)), 3, 2),
+        (open(0, 2, 1, 1), open(1, 4, 2, 1), Some(whole(6)), 3, 1),
+        (open(1, 2, 0, 3), onward(0, 1, 1), None, 3, 1),
+    ] {
+        let Some(Ok(joined)) = made(&a, &b) else {
+            return Err(Fail::from("nothing is made"));
+        };
+        assert!(rt; seen(&joined.first) == (whole(1), to, whole(icept), whole(slope)));
+        assert!(rt; joined.join.is_none() && joined.second.is_none());
+    }
+    let large = i128::MAX;
+    for (a, b, op, left, right) in [
+        (dot(large, 0), dot(1, 0), Op::Add, large, 1),
+        (dot(1, 0), onward(large - 1, 0, 2), Op::Mul, 2, large - 1),
+    ] {
+        let Some(Err(wide)) = made(&a, &b) else {
+            return Err(Fail::from("no step is too wide"));
+        };
+        assert!(rt; wide.op == op);
+        assert!(rt; wide.a == whole(left) && wide.b == whole(right));
+    }
+    Ok(())
+}
+
+// A window is infinite up to a late line. A point repeats, but one at 0. Of 1 between 2 and 3 the sums are n between 2 n and 3 n; those of t - 1 after 1 are
 // t - n after n.
 #[test]
 fn closures_of_elements(rt: HostRuntime) -> Result<(), Fail> {
@@ -138,9 +177,12 @@ fn closures_of_elements(rt: HostRuntime) -> Result<(), Fail> {
     assert!(rt; late[0].line.is_none());
     assert!(rt; late[1].x == Frac::one());
     assert!(rt; late[1].at.is_infinite());
-    let points = point(rt.alloc())?;
+    let points = point(rt.alloc(), whole(2))?;
     assert!(rt; value(&points, whole(10)) == Some(whole(15)));
     assert!(rt; value(&points, whole(5)).is_none());
+    let first = point(rt.alloc(), whole(0))?;
+    assert!(rt; value(&first, whole(0)) == Some(whole(3)));
+    assert!(rt; value(&first, whole(1)).is_none());
     let levels = segment(rt.alloc())?;
     assert!(rt; value(&levels, whole(100)) == Some(whole(34)));
     assert!(rt; value(&levels, whole(6)).is_none());
@@ -214,25 +256,39 @@ fn both(alloc: Global) -> Result<Vec<Both>, AllocError> {
     overlay(alloc, &level(), &ramp())
 }
 
-// Whether c repeats from 0 on each 1, since it is one line.
-fn is_straight(c: &Curve) -> bool
-    ensures { IsTrue result → (steady c.now ≤ℚ int (pos 0)) × IsWholePeriods c.now.tail (int (pos 1)) × IsCurve c.now }
+// Whether c repeats from a time on in this period.
+fn repeats(c: &Curve, from: Frac, period: Frac) -> bool
+    ensures { IsTrue result → (steady c.now ≤ℚ from) × IsWholePeriods c.now.tail period × IsCurve c.now }
 {
     let Some(steady) = steady_time(c) else {
         return false;
     };
-    if is_less(Frac::zero(), steady) {
+    if is_less(from, steady) {
         return false;
     }
     match *c.tail() {
-        Tail::Periodic { .. } => false,
+        Tail::Periodic { period: own, .. } => own == period,
         _ => true,
     }
 }
 
-// The number of periods of length 1 of two lines, where their gauge is below the limit.
-fn least(f: &Curve, g: &Curve) -> Option<Option<u128>> {
-    let (start, period) = (Frac::zero(), Frac::one());
+// The number of periods of two curves that repeat from a time on, where their gauge is below the limit.
+fn least(f: &Curve, g: &Curve, from: i128, period: Frac) -> Option<Option<u128>> {
+    let Ok(start) = Frac::new(from, 1) else {
+        return None;
+    };
+    if is_less(start, Frac::zero()) {
+        return None;
+    }
+    if !is_less(Frac::zero(), period) {
+        return None;
+    }
+    if !repeats(f, start, period) {
+        return None;
+    }
+    if !repeats(g, start, period) {
+        return None;
+    }
     let Ok(end) = Frac::add(start, period) else {
         return None;
     };
@@ -242,16 +298,10 @@ fn least(f: &Curve, g: &Curve) -> Option<Option<u128>> {
     if limit >= 1 << 120 {
         return None;
     }
-    if !is_straight(f) {
-        return None;
-    }
-    if !is_straight(g) {
-        return None;
-    }
     Some(least_periods(f, g, start, period))
 }
 
-// The level and the ramp meet at 1; 3 + t and 2 t meet at 3.
+// The level and the ramp meet at 1.
 #[test]
 fn windows(rt: HostRuntime) -> Result<(), Fail> {
     let (zero, one) = (Frac::zero(), Frac::one());
@@ -285,9 +335,34 @@ fn windows(rt: HostRuntime) -> Result<(), Fail> {
         assert!(rt; pieces.get(2).is_none());
     }
     assert!(rt; both(rt.alloc())?.len() == 1);
-    let f = bucket(rt.alloc(), 3, 1)?;
-    let g = bucket(rt.alloc(), 0, 2)?;
-    assert!(rt; least(&f, &g) == Some(Some(3)));
+    Ok(())
+}
+
+// 3 + t and 2 t meet at 3. Of curves that are infinite between, one that is finite at other times is never above; 2 n - 5 at 2 n comes above n after
+// 5 periods, of which one from 2 on is past.
+#[test]
+fn periods(rt: HostRuntime) -> Result<(), Fail> {
+    let alloc = rt.alloc();
+    let f = bucket(alloc, 3, 1)?;
+    let g = bucket(alloc, 0, 2)?;
+    assert!(rt; least(&f, &g, 0, whole(1)) == Some(Some(3)));
+    let slow = repeating(alloc, 0, None, 2, 1)?;
+    let late = [
+        piece(0, Extended::Inf, None),
+        piece(1, Extended::Fin(whole(5)), None),
+    ];
+    let between = curve(
+        alloc,
+        &late,
+        Tail::Periodic {
+            rank: whole(0),
+            period: whole(2),
+            rise: whole(2),
+        },
+    )?;
+    assert!(rt; least(&slow, &between, 0, whole(2)) == Some(None));
+    let above = repeating(alloc, -5, None, 2, 2)?;
+    assert!(rt; least(&slow, &above, 2, whole(2)) == Some(Some(4)));
     Ok(())
 }
 
