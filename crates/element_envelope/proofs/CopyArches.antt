@@ -55,7 +55,7 @@ sum_element z end (Open from to l) E = record {
   };
 }
 
-operand_arches : (z : Sizes) (end last : ℚ) (g : List Piece) → WindowPieces z end g → Arches z.dt last (read g)
+pub operand_arches : (z : Sizes) (end last : ℚ) (g : List Piece) → WindowPieces z end g → Arches z.dt last (read g)
 operand_arches z end last g G low high y h A = by (read g y) refl
   where
     below : (e : Element) → Among e (elements_of g Inf) → (t : ℚ) → read g t ≤ₑ element_value e t

@@ -77,49 +77,29 @@ single_is (x ∷ []) a h k e = ap (λ z. z ∷ []) (sym e)
 single_is (x ∷ y ∷ zs) a h k e = absurd (omega arith)
 
 -- ---- halves have the room of the whole
-pub left_front : (end : ℚ) (xs front back ys : List Element) → front ++ back ≡ xs → EnvelopeRoom end xs ys → EnvelopeRoom end front ys
-left_front end xs front back ys e r = record {
+pub part_room : (end : ℚ) (xs ys us vs : List Element) → ((x : Element) → Among x us → Among x xs)
+    → ((y : Element) → Among y vs → Among y ys) → EnvelopeRoom end xs ys → EnvelopeRoom end us vs
+part_room end xs ys us vs left right r = record {
   sizes = r.sizes;
   limited = r.limited;
   some = r.some;
-  left_proper = λ x h. r.left_proper x (subst (Among x) e (among_left x front back h));
-  right_proper = r.right_proper;
-  left = λ x h. r.left x (subst (Among x) e (among_left x front back h));
-  right = r.right;
+  left_proper = λ x h. r.left_proper x (left x h);
+  right_proper = λ y h. r.right_proper y (right y h);
+  left = λ x h. r.left x (left x h);
+  right = λ y h. r.right y (right y h);
 }
+
+pub left_front : (end : ℚ) (xs front back ys : List Element) → front ++ back ≡ xs → EnvelopeRoom end xs ys → EnvelopeRoom end front ys
+left_front end xs front back ys e r = part_room end xs ys front ys (λ x h. subst (Among x) e (among_left x front back h)) (λ y h. h) r
 
 pub left_back : (end : ℚ) (xs front back ys : List Element) → front ++ back ≡ xs → EnvelopeRoom end xs ys → EnvelopeRoom end back ys
-left_back end xs front back ys e r = record {
-  sizes = r.sizes;
-  limited = r.limited;
-  some = r.some;
-  left_proper = λ x h. r.left_proper x (subst (Among x) e (among_right x front back h));
-  right_proper = r.right_proper;
-  left = λ x h. r.left x (subst (Among x) e (among_right x front back h));
-  right = r.right;
-}
+left_back end xs front back ys e r = part_room end xs ys back ys (λ x h. subst (Among x) e (among_right x front back h)) (λ y h. h) r
 
 pub right_front : (end : ℚ) (xs ys front back : List Element) → front ++ back ≡ ys → EnvelopeRoom end xs ys → EnvelopeRoom end xs front
-right_front end xs ys front back e r = record {
-  sizes = r.sizes;
-  limited = r.limited;
-  some = r.some;
-  left_proper = r.left_proper;
-  right_proper = λ x h. r.right_proper x (subst (Among x) e (among_left x front back h));
-  left = r.left;
-  right = λ x h. r.right x (subst (Among x) e (among_left x front back h));
-}
+right_front end xs ys front back e r = part_room end xs ys xs front (λ x h. h) (λ y h. subst (Among y) e (among_left y front back h)) r
 
 pub right_back : (end : ℚ) (xs ys front back : List Element) → front ++ back ≡ ys → EnvelopeRoom end xs ys → EnvelopeRoom end xs back
-right_back end xs ys front back e r = record {
-  sizes = r.sizes;
-  limited = r.limited;
-  some = r.some;
-  left_proper = r.left_proper;
-  right_proper = λ x h. r.right_proper x (subst (Among x) e (among_right x front back h));
-  left = r.left;
-  right = λ x h. r.right x (subst (Among x) e (among_right x front back h));
-}
+right_back end xs ys front back e r = part_room end xs ys xs back (λ x h. h) (λ y h. subst (Among y) e (among_right y front back h)) r
 
 -- ---- the lower of both
 pub record LowerReady (end : ℚ) (f g : List Piece) : Type 0 where
@@ -136,7 +116,7 @@ lower_ready z end f g A F G = record {
 
 pub left_ready : (end : ℚ) (xs front back ys : List Element) (f g : List Piece) → front ++ back ≡ xs → EnvelopeRoom end xs ys
     → IsEnvelopeWindow end front ys f → IsEnvelopeWindow end back ys g → LowerReady end f g
-unfolding left_front left_back
+unfolding left_front left_back part_room
 left_ready end xs front back ys f g e r F G =
     let a = F.stands (left_front end xs front back ys e r) in
     let b = G.stands (left_back end xs front back ys e r) in
@@ -144,7 +124,7 @@ left_ready end xs front back ys f g e r F G =
 
 pub right_ready : (end : ℚ) (xs ys front back : List Element) (f g : List Piece) → front ++ back ≡ ys → EnvelopeRoom end xs ys
     → IsEnvelopeWindow end xs front f → IsEnvelopeWindow end xs back g → LowerReady end f g
-unfolding right_front right_back
+unfolding right_front right_back part_room
 right_ready end xs ys front back f g e r F G =
     let a = F.stands (right_front end xs ys front back e r) in
     let b = G.stands (right_back end xs ys front back e r) in
@@ -152,7 +132,7 @@ right_ready end xs ys front back f g e r F G =
 
 pub left_halves : (end : ℚ) (xs front back ys : List Element) (f g ps : List Piece) → front ++ back ≡ xs
     → IsEnvelopeWindow end front ys f → IsEnvelopeWindow end back ys g → IsLowerOf f g end ps → IsEnvelopeWindow end xs ys ps
-unfolding left_front left_back
+unfolding left_front left_back part_room
 left_halves end xs front back ys f g ps e F G L = record {
   starts = L.starts;
   reads = λ t low high.
@@ -167,7 +147,7 @@ left_halves end xs front back ys f g ps e F G L = record {
 
 pub right_halves : (end : ℚ) (xs ys front back : List Element) (f g ps : List Piece) → front ++ back ≡ ys
     → IsEnvelopeWindow end xs front f → IsEnvelopeWindow end xs back g → IsLowerOf f g end ps → IsEnvelopeWindow end xs ys ps
-unfolding right_front right_back
+unfolding right_front right_back part_room
 right_halves end xs ys front back f g ps e F G L = record {
   starts = L.starts;
   reads = λ t low high.

@@ -26,3 +26,4 @@ pub mod NearCopies
 pub mod LimitSplits
 pub mod FoundPairs
 pub mod FoundEnvelopes
+pub mod OwnWindows

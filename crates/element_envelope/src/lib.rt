@@ -1,6 +1,7 @@
 //! Convolution of curves. Both operands are cut into elements; the convolution is the least of what their pairs make.
 #![tactic(auto)]
 
+mod beside;
 mod convolved;
 mod copies;
 mod cutting;
@@ -11,6 +12,7 @@ mod pair;
 mod starts;
 mod window;
 
+pub use beside::lower_envelope;
 pub use convolved::{window_convolution, window_convolution_from};
 pub use cutting::cut;
 pub use laws::{envelopes_exist, window_convolutions_exist};

@@ -21,6 +21,7 @@ use Rattle.element_envelope.specs.Envelopes.{ListSplit, list_sum, IsEnvelope}
 use Rattle.element_envelope.specs.EnvelopeWindows.{EnvelopeRoom, IsEnvelopeWindow}
 use Rattle.element_envelope.specs.ConvolutionWindows.{OperandWindows, IsConvolutionWindow}
 use Rattle.element_envelope.proofs.Cover.{cover, element_times}
+use Rattle.element_envelope.proofs.EnvelopeHalves.{part_room}
 use Rattle.element_envelope.proofs.Envelopes.{from_start}
 use Rattle.element_envelope.proofs.OperandElements.{elements_stand}
 use Rattle.element_envelope.proofs.WindowConvolution.{endless}
@@ -214,22 +215,9 @@ pub whole_room : (end : ℚ) (f g : List Piece) (us vs : List Element) → us �
 whole_room end f g us vs p q r =
     rooms end f g us vs (λ e h. subst (Among e) p h) (λ e h. subst (Among e) q h) r
 
--- some of the elements have room where all have
-pub some_room : (end : ℚ) (us vs zs ws : List Element) → ((e : Element) → Among e zs → Among e us)
-    → ((e : Element) → Among e ws → Among e vs) → EnvelopeRoom end us vs → EnvelopeRoom end zs ws
-some_room end us vs zs ws left right r = record {
-  sizes = r.sizes;
-  limited = r.limited;
-  some = r.some;
-  left_proper = λ e h. r.left_proper e (left e h);
-  right_proper = λ e h. r.right_proper e (right e h);
-  left = λ e h. r.left e (left e h);
-  right = λ e h. r.right e (right e h);
-}
-
 pub few_room : (end : ℚ) (us vs ws : List Element) (least : ℚ) → StartFrom least vs ws → EnvelopeRoom end us vs
     → EnvelopeRoom end us ws
-few_room end us vs ws least few r = some_room end us vs us ws (λ e h. h) (λ e h. (few e h).0) r
+few_room end us vs ws least few r = part_room end us vs us ws (λ e h. h) (λ e h. (few e h).0) r
 
 pub ok_covered : {E : Type 0} (r : Result (Vec Piece Global) E) (end : ℚ) (f g : List Piece) (us vs zs : List Element)
     → us ≡ elements_of f Inf → vs ≡ elements_of g Inf → OperandWindows end f g

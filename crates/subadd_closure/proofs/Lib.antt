@@ -31,6 +31,8 @@ pub mod LowStars
 pub mod Thinning
 pub mod ThinnedElements
 pub mod Covering
+pub mod UsefulPairs
+pub mod UsefulWindows
 pub mod FoldThins
 pub mod PieceReads
 pub mod TurnNumbers

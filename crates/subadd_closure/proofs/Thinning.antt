@@ -62,13 +62,13 @@ module _ (F : ℚ → Ext) (end : ℚ) (f g : List Piece) (zs : List Element) (w
   right_late t e a c = (element_times g Inf t e windows.right.starts (endless g) a c).0
 
   -- the element of g at 0 is left in
-  record StartElement : Type 0 where
-    element : Element
-    among : Among element zs
-    covers : Covers element zero_q
-    most : level element zero_q ≤ℚ zero_q
+  pub record StartElement : Type 0 where
+    pub element : Element
+    pub among : Among element zs
+    pub covers : Covers element zero_q
+    pub most : level element zero_q ≤ℚ zero_q
 
-  start_element : StartElement
+  pub start_element : StartElement
   start_element =
       let (v, is) = finite_below (read g zero_q) zero_q low in
       let e = (cover g Inf windows.right.starts (endless g)).found zero_q v (le_refl zero_q) tt is in
@@ -153,7 +153,7 @@ module _ (F : ℚ → Ext) (end : ℚ) (f g : List Piece) (zs : List Element) (w
               (j, le_ext_trans (list_sum xs zs t j) (list_sum xs ys t i) (Fin q) l (same_le_ext is))
         ]
 
-    envelope_is : (v : Ext) → IsEnvelope xs zs t v → IsEnvelope xs ys t v
+    pub envelope_is : (v : Ext) → IsEnvelope xs zs t v → IsEnvelope xs ys t v
     envelope_is v h = matched_out {I = ListSplit xs ys t} {J = ListSplit xs zs t} (list_sum xs ys t) (list_sum xs zs t) v matched h
 
   -- ---- the windows

@@ -32,6 +32,12 @@ pub record IsConvolved (f g : SpecCurve) (r : Frame) (ps : List Piece) (from ris
   pub from_is : from ≡ r.end -ℚ r.period
   pub rise_is : RisesBy (rate g <ₑ rate f) (rise_over g r.period) (rise_over f r.period) rise
 
+pub convolved : (f g : SpecCurve) (r : Frame) (ps : List Piece) {from rise : ℚ} → IsConvolveFrame f g r
+    → IsConvolutionWindow (unroll f r.end) (unroll g r.end) r.end ps → from ≡ r.end -ℚ r.period
+    → RisesBy (rate g <ₑ rate f) (rise_over g r.period) (rise_over f r.period) rise → IsConvolved f g r ps from rise
+convolved f g r ps frame window from_is rise_is =
+    record { frame = frame; window = window; from_is = from_is; rise_is = rise_is }
+
 -- ---- where they stand
 module _ (f g : SpecCurve) (r : Frame) (F : IsConvolveFrame f g r) where
   windows_of : OperandWindows r.end (unroll f r.end) (unroll g r.end)

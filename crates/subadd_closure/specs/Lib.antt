@@ -12,6 +12,7 @@ pub mod FoldMemory
 pub mod QuickBounds
 pub mod SegmentLimits
 pub mod Thinned
+pub mod Useful
 pub mod Heavy
 pub mod ElementCurves
 pub mod PieceFits

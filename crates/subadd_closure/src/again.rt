@@ -15,9 +15,10 @@ ghost use Rattle.subadd_closure.specs.Thinned.{AreThinnable, IsThinned, MayThin}
 
 use crate::covered::covered;
 use crate::thinned::thinned;
+use crate::useful::useful;
 use curve_call::{Frame, rise_over};
 use curve_conv::is_slower_curve;
-use element_envelope::{cut, envelope, window_convolution};
+use element_envelope::{cut, envelope, lower_envelope, window_convolution};
 use fraction128::Frac;
 use rational::Extended;
 use std::alloc::{AllocError, Global};
@@ -26,7 +27,8 @@ use upp_curve::affine_segment::{Element, Piece};
 use upp_normal::unrolled;
 
 // The pieces of the convolution, of which `left` and `right` are the operands' pieces, `xs` and `ys` their elements, and
-// `late` those of `ys` that are not nowhere below the first operand: by these, where they are at most half.
+// `late` those of `ys` that are not nowhere below the first operand: where they are at most half, as the lesser of the
+// first operand and of what they make with those of `xs` that may make something below it.
 fn late_window(
     alloc: Global,
     f: &Curve,
@@ -50,7 +52,8 @@ fn late_window(
     if late.len() > ys.len() / 2 {
         return window_convolution(alloc, left, right, end);
     }
-    envelope(alloc, xs, late, end)
+    let kept = useful(alloc, left, xs, late, end)?;
+    lower_envelope(alloc, left, &kept, late, end)
 }
 
 // The same by the elements of the first operand that are not nowhere below what it makes with few of the second, where

@@ -23,6 +23,7 @@ mod starting;
 mod stretches;
 mod subadditive;
 mod thinned;
+mod useful;
 
 pub use closing::close;
 pub use element_laws::{elements_close, heavy_is_refused, lattice_values, stretches_meet};

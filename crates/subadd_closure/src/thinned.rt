@@ -117,8 +117,8 @@ fn end_within(to: Ext, end: Frac) -> Frac
     }
 }
 
-// Whether some pieces are known to be nowhere above a line from one time up to another, by those from the k-th on.
-fn segment_over(pieces: &[Piece], k: usize, from: Frac, to: Frac, line: &Line) -> bool
+/// Whether some pieces are known to be nowhere above a line from one time up to another, by those from the k-th on.
+pub(crate) fn segment_over(pieces: &[Piece], k: usize, from: Frac, to: Frac, line: &Line) -> bool
     requires starts { StartsAtZero pieces.now }
     ensures { IsTrue result → (t : ℚ) → zero_q ≤ℚ t → from <ℚ t → t <ℚ to
         → read pieces.now t ≤ₑ Fin (line_at line.now t) }
@@ -175,8 +175,8 @@ fn starts_later(pieces: &[Piece], k: usize, x: Frac) -> bool
     is_less(x, pieces[k].x)
 }
 
-// Whether some pieces are known to be at most a number at a time, where the k-th of them is the last that starts by then.
-fn point_over(pieces: &[Piece], k: usize, x: Frac, v: Frac) -> bool
+/// Whether some pieces are known to be at most a number at a time, where the k-th of them is the last that starts by then.
+pub(crate) fn point_over(pieces: &[Piece], k: usize, x: Frac, v: Frac) -> bool
     requires starts { StartsAtZero pieces.now }
     ensures { IsTrue result → read pieces.now x ≤ₑ Fin v }
 {

@@ -1,7 +1,8 @@
 use Rattle.std.proofs.Common.{sym, subst}
+use Rattle.element_envelope.proofs.EnvelopeHalves.{part_room}
 use Rattle.subadd_closure.specs.Thinned.{IsCovered}
 use Rattle.subadd_closure.proofs.ThinnedElements.{window_adds}
-use Rattle.subadd_closure.proofs.Covering.{ok_covered, some_room, whole_room}
+use Rattle.subadd_closure.proofs.Covering.{ok_covered, whole_room}
 use Rattle.subadd_closure.proofs.again.covered_window.Goals as goal
 
 pub covered-requires : goal.covered-requires
@@ -16,7 +17,7 @@ envelope-requires c =
     let ys = c.args.ys.now in
     let kept : IsCovered end xs ys c.deref.result.now =
     subst (IsCovered end xs ys) (sym c.deref.ensures.value) c.in_ok-early.ensures in
-    some_room end xs ys c.deref.result.now ys kept.thin.fewer (λ e h. h)
+    part_room end xs ys c.deref.result.now ys kept.thin.fewer (λ e h. h)
     (whole_room end c.args.left.now c.args.right.now xs ys c.requires.elements.0 c.requires.elements.1 c.requires.windows)
 
 pub returns-then-saturating_mul : goal.returns-then-saturating_mul

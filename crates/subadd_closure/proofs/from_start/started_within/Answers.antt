@@ -12,7 +12,7 @@ use Rattle.upp_normal.proofs.NormaliseForm.{ok_map}
 use Rattle.curve_call.specs.Answering.{IsAnswerWindow}
 use Rattle.plain_operators.proofs.pointwise.LatticeCalls.{from_fits}
 use Rattle.subadd_closure.proofs.Started.{started_answer}
-use Rattle.subadd_closure.proofs.Windowed.{IsConvolved}
+use Rattle.subadd_closure.proofs.Windowed.{convolved}
 use Rattle.subadd_closure.proofs.Made.{period_reads, rise_less, start_room, started_convolves, open_keeps, open_convolves}
 use Rattle.subadd_closure.proofs.from_start.started_within.Goals as goal
 
@@ -27,28 +27,16 @@ repeats_start-requires-clause-time c = le_of_lt c.requires.frame.call.above
 
 pub repeats_start-requires-clause-fits : goal.repeats_start-requires-clause-fits
 repeats_start-requires-clause-fits c =
-    let C : IsConvolved c.args.f.now c.args.g.now c.args.frame.now c.in_ok-pieces.pieces.items c.difference-from.result
-    c.slower_rise-rise.result =
-    record {
-      frame = c.requires.frame;
-      window = c.in_ok-pieces.ensures;
-      from_is = c.difference-from.ensures;
-      rise_is = c.slower_rise-rise.ensures;
-    } in
+    let C = convolved c.args.f.now c.args.g.now c.args.frame.now c.in_ok-pieces.pieces.items c.requires.frame
+    c.in_ok-pieces.ensures c.difference-from.ensures c.slower_rise-rise.ensures in
     subst (λ ps. ReadFits ps c.args.frame.now.period) (sym c.deref.ensures.value)
     (period_reads c.args.f.now c.args.g.now c.args.frame.now c.in_ok-pieces.pieces.items c.difference-from.result
     c.slower_rise-rise.result C)
 
 pub repeats_start-requires-clause-less : goal.repeats_start-requires-clause-less
 repeats_start-requires-clause-less c =
-    let C : IsConvolved c.args.f.now c.args.g.now c.args.frame.now c.in_ok-pieces.pieces.items c.difference-from.result
-    c.slower_rise-rise.result =
-    record {
-      frame = c.requires.frame;
-      window = c.in_ok-pieces.ensures;
-      from_is = c.difference-from.ensures;
-      rise_is = c.slower_rise-rise.ensures;
-    } in
+    let C = convolved c.args.f.now c.args.g.now c.args.frame.now c.in_ok-pieces.pieces.items c.requires.frame
+    c.in_ok-pieces.ensures c.difference-from.ensures c.slower_rise-rise.ensures in
     subst (λ ps. SumFitsAt (read ps c.args.frame.now.period) (neg_ℚ c.slower_rise-rise.result))
     (sym c.deref.ensures.value)
     (rise_less c.args.f.now c.args.g.now c.args.frame.now c.in_ok-pieces.pieces.items c.difference-from.result
@@ -56,14 +44,8 @@ repeats_start-requires-clause-less c =
 
 pub answer-requires : goal.answer-requires
 answer-requires c =
-    let C : IsConvolved c.args.f.now c.args.g.now c.args.frame.now c.in_ok-pieces.pieces.items c.difference-from.result
-    c.slower_rise-rise.result =
-    record {
-      frame = c.requires.frame;
-      window = c.in_ok-pieces.ensures;
-      from_is = c.difference-from.ensures;
-      rise_is = c.slower_rise-rise.ensures;
-    } in
+    let C = convolved c.args.f.now c.args.g.now c.args.frame.now c.in_ok-pieces.pieces.items c.requires.frame
+    c.in_ok-pieces.ensures c.difference-from.ensures c.slower_rise-rise.ensures in
     let r = c.args.frame.now in
     let at : read c.in_ok-pieces.pieces.items r.period ≡ Fin (c.args.start +ℚ c.slower_rise-rise.result) =
     subst (λ ps. read ps r.period ≡ Fin (c.args.start +ℚ c.slower_rise-rise.result)) c.deref.ensures.value
@@ -80,14 +62,8 @@ answer-requires c =
 
 pub returns-then-repeats_start : goal.returns-then-repeats_start
 returns-then-repeats_start c =
-    let C : IsConvolved c.args.f.now c.args.g.now c.args.frame.now c.in_ok-pieces.pieces.items c.difference-from.result
-    c.slower_rise-rise.result =
-    record {
-      frame = c.requires.frame;
-      window = c.in_ok-pieces.ensures;
-      from_is = c.difference-from.ensures;
-      rise_is = c.slower_rise-rise.ensures;
-    } in
+    let C = convolved c.args.f.now c.args.g.now c.args.frame.now c.in_ok-pieces.pieces.items c.requires.frame
+    c.in_ok-pieces.ensures c.difference-from.ensures c.slower_rise-rise.ensures in
     ok_map c.answer.result _ _
     (λ h values. started_convolves c.args.f.now c.args.g.now c.args.frame.now c.in_ok-pieces.pieces.items
     c.difference-from.result
@@ -100,14 +76,8 @@ returns-then-repeats_start c =
 
 pub answer-requires-2 : goal.answer-requires-2
 answer-requires-2 c =
-    let C : IsConvolved c.args.f.now c.args.g.now c.args.frame.now c.in_ok-pieces.pieces.items c.difference-from.result
-    c.slower_rise-rise.result =
-    record {
-      frame = c.requires.frame;
-      window = c.in_ok-pieces.ensures;
-      from_is = c.difference-from.ensures;
-      rise_is = c.slower_rise-rise.ensures;
-    } in
+    let C = convolved c.args.f.now c.args.g.now c.args.frame.now c.in_ok-pieces.pieces.items c.requires.frame
+    c.in_ok-pieces.ensures c.difference-from.ensures c.slower_rise-rise.ensures in
     let r = c.args.frame.now in
     subst (λ ps. IsAnswerWindow ps c.difference-from.result r.period c.slower_rise-rise.result r.times r.values)
     (sym c.with_first-open.ensures)
@@ -117,14 +87,8 @@ answer-requires-2 c =
 
 pub with_start-requires : goal.with_start-requires
 with_start-requires c =
-    let C : IsConvolved c.args.f.now c.args.g.now c.args.frame.now c.in_ok-pieces.pieces.items c.difference-from.result
-    c.slower_rise-rise.result =
-    record {
-      frame = c.requires.frame;
-      window = c.in_ok-pieces.ensures;
-      from_is = c.difference-from.ensures;
-      rise_is = c.slower_rise-rise.ensures;
-    } in
+    let C = convolved c.args.f.now c.args.g.now c.args.frame.now c.in_ok-pieces.pieces.items c.requires.frame
+    c.in_ok-pieces.ensures c.difference-from.ensures c.slower_rise-rise.ensures in
     let r = c.args.frame.now in
     let other : ¬ (read c.in_ok-pieces.pieces.items r.period ≡ Fin (c.args.start +ℚ c.slower_rise-rise.result)) =
     λ e. true≢false (sym (c.if-repeats_start.ensures.1
@@ -139,14 +103,8 @@ with_start-requires c =
 
 pub returns : goal.returns
 returns c =
-    let C : IsConvolved c.args.f.now c.args.g.now c.args.frame.now c.in_ok-pieces.pieces.items c.difference-from.result
-    c.slower_rise-rise.result =
-    record {
-      frame = c.requires.frame;
-      window = c.in_ok-pieces.ensures;
-      from_is = c.difference-from.ensures;
-      rise_is = c.slower_rise-rise.ensures;
-    } in
+    let C = convolved c.args.f.now c.args.g.now c.args.frame.now c.in_ok-pieces.pieces.items c.requires.frame
+    c.in_ok-pieces.ensures c.difference-from.ensures c.slower_rise-rise.ensures in
     let r = c.args.frame.now in
     ok_map c.with_start.result _ _
     (λ h started. open_convolves c.args.f.now c.args.g.now c.args.frame.now c.in_ok-pieces.pieces.items
