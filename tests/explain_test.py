@@ -178,6 +178,7 @@ class Explain(WithFolder):
         long = 5000 * "9"
         for line in [
             "netcalc: n: M99 flow[0]",
+            "netcalc: n: M8",
             "netcalc: n: T9 row 1",
             f"netcalc: n: T1 row {long}",
             f"netcalc: n: C1 line {long}",

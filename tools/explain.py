@@ -147,6 +147,8 @@ def of_network(name, code, place, cause, files, known):
     text = files.text(name) or ""
     if code == "M1":
         return [f"{name}: {no_toml(text)}", *rule(code, known)]
+    if not place:  # netcalc names one
+        return []
     places = files.places(name)
     line, owner = places.line(place), places.owner(place)
     where = f"{name} line {line}" if line else name
