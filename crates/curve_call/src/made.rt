@@ -45,6 +45,7 @@ pub fn excess_value(a: Ext, b: Ext) -> Ext
     }
 }
 
+#[inline(always)]
 fn made_values(made: Made, a: Ext, b: Ext) -> Ext
     requires { ValueApartFits a b }
     ensures { result ≡ made_value made a b }
@@ -86,6 +87,7 @@ fn excess_line(below: bool, a: Option<Line>, b: Option<Line>) -> Option<Line>
     lines_apart(a, b)
 }
 
+#[inline(always)]
 fn made_lines(made: Made, below: bool, a: Option<Line>, b: Option<Line>) -> Option<Line>
     requires { LineApartFits a b }
     ensures { result ≡ made_line made below a b }
