@@ -1,11 +1,11 @@
 -- Cells of rows, and rows of which some cell is not empty.
-use Rattle.std.proofs.Common.{◌≡◌, ℕ, zero, suc, ◌+◌, ◌-◌, ◌<◌, true, false, List, [], ◌∷◌, ◌++◌, map, length, drop, take, get_or, refl, sym, ap, ◌∙◌, append_assoc, append-nil, length-append, arith}
+use Rattle.std.proofs.Common.{◌≡◌, ℕ, zero, suc, ◌+◌, ◌-◌, ◌<◌, true, false, List, [], ◌∷◌, ◌++◌, map, length, drop, take, get_or, refl, sym, ap, ◌∙◌, length-append, arith}
 use Rattle.std.specs.Char.{is_ascii_whitespace}
 use Rattle.std.proofs.lemmas.Bool.{eqb-true}
 use Rattle.std.proofs.lemmas.List.{drop_more, map-append, take_all, take_more}
 use Rattle.csv.specs.Records.{field_at, trim_end, trim_start, trimmed}
 use Rattle.csv.proofs.RecordFacts.{end-plain, start-plain}
-use Rattle.csv_rows.specs.Rows.{Row, LinedRow, cell, is_empty, is_blank, used_of, used}
+use Rattle.csv_rows.specs.Rows.{Row, cell, is_empty, is_blank}
 
 cell_is : (row : Row) (k : ℕ) → get_or row k [] ≡ cell row k
 unfolding field_at
@@ -21,11 +21,6 @@ blank_more row k h e = ap is_blank (drop_cell row k h) ∙ rw e refl
 
 pub not_blank : (row : Row) (k : ℕ) → k < length row → is_empty (cell row k) ≡ false → is_blank (drop k row) ≡ false
 not_blank row k h e = ap is_blank (drop_cell row k h) ∙ rw e refl
-
-pub used_push : (rows : List LinedRow) (row : LinedRow) → used (rows ++ row ∷ []) ≡ used rows ++ used_of row
-unfolding used
-used_push [] row = append-nil (used_of row)
-used_push (r ∷ rows) row = ap (λ (rs : List LinedRow). used_of r ++ rs) (used_push rows row) ∙ sym (append_assoc (used_of r) (used rows) (used_of row))
 
 -- ---- cells without white space at an end
 pub no_bytes : (bytes : List ℕ) → is_empty bytes ≡ true → trimmed bytes ≡ bytes

@@ -1,5 +1,5 @@
 -- The line on which the next row of a text begins, and what a reader leaves of the text behind a row.
-use Rattle.std.proofs.Common.{◌≡◌, ◌≢◌, ◌≤◌, ◌<◌, ◌+◌, ℕ, suc, Bool, true, false, List, [], ◌∷◌, ◌++◌, length, drop, get_or, Some, refl, sym, ap, ap₂, subst, cond, ◌∙◌, arith, inl, inr}
+use Rattle.std.proofs.Common.{◌≡◌, ◌≢◌, ◌≤◌, ◌<◌, ◌+◌, ℕ, suc, Bool, true, false, List, [], ◌∷◌, length, drop, get_or, Some, refl, sym, ap, cond, ◌∙◌, arith, inl, inr}
 use Rattle.std.specs.Prelude.{◌==◌, ◌||◌, IfSome}
 use Rattle.std.proofs.lemmas.Bool.{ne_eqb}
 use Rattle.std.proofs.lemmas.List.{drop_more, drop_all}
@@ -11,7 +11,7 @@ use Rattle.csv.specs.declared.parser.State.TheVariants as st
 use Rattle.csv_rows.specs.declared.lines.Place.{Place}
 use Rattle.csv_rows.specs.declared.lines.Place.TheVariants as places
 use Rattle.csv_rows.specs.Places.{Goes, IsBetween, LeavesBehind, beyond, state_of}
-use Rattle.csv_rows.specs.Rows.{AreNextOf, LinedRow, Row, from_row, is_line_feed, is_row_end, line_ends, line_of}
+use Rattle.csv_rows.specs.Rows.{from_row, is_line_feed, is_row_end, line_ends}
 
 -- ---- a mark of the byte order
 pub short : (text : List ℕ) → length text < 3 → text ≡ strip_bom text
@@ -227,27 +227,7 @@ leaves_next s left rest rest_after read between same next leaves =
     ap (next_record default_config st.StartRecord [] []) same ∙ (sym (next_from s left between) ∙ next) in
     rw reads at leaves
 
--- ---- rows
-pub next_more : (text : List ℕ) (s : State) (left : List ℕ) (rows : List LinedRow) (s2 : State) (rest : List ℕ) (read : Read)
-    → AreNextOf text s left rows s2 rest → next_record default_config s2 [] [] rest ≡ Some read
-    → AreNextOf text s left (rows ++ (line_of text rest, read.0) ∷ []) read.1 read.2
-unfolding AreNextOf
-next_more text s left [] s2 rest read are next =
-    (read, rw (are.0, are.1) next, ap (λ (bytes : List ℕ). (line_of text bytes, read.0)) (sym are.1), (refl, refl))
-next_more text s left (row ∷ rows) s2 rest read are next =
-    (are.0, are.1, are.2, next_more text are.0.1 are.0.2 rows s2 rest read are.3 next)
-
-pub next_row : (text : List ℕ) (s : State) (left : List ℕ) (rows : List LinedRow) (s2 s3 : State) (rest behind : List ℕ) (read : Read)
-    (line : ℕ) (cells : Row) → AreNextOf text s left rows s2 rest → next_record default_config s2 [] [] rest ≡ Some read
-    → line ≡ line_of text rest → cells ≡ read.0 → read.1 ≡ s3 → read.2 ≡ behind
-    → AreNextOf text s left (rows ++ (line, cells) ∷ []) s3 behind
-next_row text s left rows s2 s3 rest behind read line cells are next on has after leaves =
-    let row : ◌≡◌ {A = LinedRow} (line_of text rest, read.0) (line, cells) = ap₂ (λ (n : ℕ) (r : Row). (n, r)) (sym on) (sym has) in
-    let more = next_more text s left rows s2 rest read are next in
-    subst (λ (r : LinedRow). AreNextOf text s left (rows ++ r ∷ []) s3 behind) row
-    (subst (λ (b : List ℕ). AreNextOf text s left (rows ++ (line_of text rest, read.0) ∷ []) s3 b) leaves
-    (subst (λ (t : State). AreNextOf text s left (rows ++ (line_of text rest, read.0) ∷ []) t read.2) after more))
-
+-- ---- how many lines
 pub no_more_lines : (text : List ℕ) → length (strip_bom text) ≤ length text
 unfolding strip_bom
 no_more_lines [] = omega arith
@@ -265,10 +245,3 @@ few_lines text =
     let few = count_by-le-length is_line_feed (strip_bom text) in
     let size = no_more_lines text in
     omega (arith, few, size)
-
--- the line of a row by a count of those before it
-pub line_is : (text left rest : List ℕ) (line : ℕ) → from_row rest ≡ from_row left → 1 ≤ line
-    → line + line_ends (from_row rest) ≡ line_ends text + 1 → line ≡ line_of text left
-line_is text left rest line same least counted =
-    let here : line_ends (from_row rest) ≡ line_ends (from_row left) = ap line_ends same in
-    omega (arith, here, counted, least)

@@ -2,6 +2,8 @@
 #![tactic(auto)]
 
 mod lines;
+mod reading;
 mod rows;
 
-pub use rows::{TableRow, cell, read_table};
+pub use reading::{TableRows, no_row, read_table, table_rows};
+pub use rows::{TableRow, cell};

@@ -1,13 +1,12 @@
 //! The rows of a table.
 
-ghost use Rattle.std.specs.Prelude.{◌≡◌, ◌<◌, ◌++◌, false, length, map, get_or, IfOk, OnOk};
+ghost use Rattle.std.specs.Prelude.{◌≡◌, ◌<◌, false, length, map, get_or, OnOk};
 ghost use Rattle.std.specs.Char.{is_ascii_whitespace};
 ghost use Rattle.csv.specs.Records.{fields_of, trimmed};
 ghost use Rattle.csv_rows.specs.Rows as spec;
 
-use crate::lines::lines_of;
-use csv::{ByteRecord, ReaderBuilder};
-use std::alloc::{AllocError, Global};
+use csv::ByteRecord;
+use std::alloc::AllocError;
 
 /// A row: the line on which it begins, from 1, and its cells without the white space at both ends.
 #[derive(Drop)]
@@ -26,8 +25,8 @@ pub fn cell(row: &ByteRecord, place: usize) -> &[u8]
     }
 }
 
-// Whether all cells of a row are empty.
-fn is_blank(row: &ByteRecord) -> bool
+/// Whether all cells of a row are empty.
+pub(crate) fn is_blank(row: &ByteRecord) -> bool
     ensures { result ≡ spec.is_blank (fields_of row.now) }
 {
     for place in 0..row.len() {
@@ -71,44 +70,12 @@ fn some_loose(row: &ByteRecord) -> bool
     false
 }
 
-// Takes the white space off both ends of each cell.
-fn tighten(row: &mut ByteRecord) -> Result<(), AllocError>
+/// Takes the white space off both ends of each cell.
+pub(crate) fn tighten(row: &mut ByteRecord) -> Result<(), AllocError>
     ensures { OnOk result (fields_of row.new ≡ map trimmed (fields_of row.old)) }
 {
     if !some_loose(row) {
         return Ok(());
     }
     row.trim()
-}
-
-// Puts a row behind others, unless all its cells are empty.
-fn push_row(rows: &mut Vec<TableRow>, line: usize, mut cells: ByteRecord) -> Result<(), AllocError>
-    ensures { OnOk result (map spec.lined_of rows.new.items
-        ≡ map spec.lined_of rows.old.items ++ spec.used_of (line, fields_of cells)) }
-{
-    tighten(&mut cells)?;
-    if !is_blank(&cells) {
-        rows.push(TableRow { line, cells })?;
-    }
-    Ok(())
-}
-
-/// The rows of a text of which some cell is not empty, each with the line on which it begins.
-pub fn read_table(alloc: Global, text: &[u8]) -> Result<Vec<TableRow>, AllocError>
-    ensures { IfOk result (λ rows. spec.AreLinedRowsOf text.now (map spec.lined_of rows.items)) }
-{
-    let reader = ReaderBuilder::new()
-        .has_headers(false)
-        .flexible(true)
-        .from_reader(alloc, text);
-    let mut lines = lines_of(text);
-    let mut rows = Vec::new(alloc);
-    for row in reader.into_byte_records() {
-        match row {
-            Ok(cells) => push_row(&mut rows, lines.next_line(), cells)?,
-            // Bytes in memory can always be read and no length of rows is asked for: what is left is want of memory.
-            Err(_) => return Err(AllocError),
-        }
-    }
-    Ok(rows)
 }
