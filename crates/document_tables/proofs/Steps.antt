@@ -1,15 +1,15 @@
 -- Rows of a table, one after another.
-use Rattle.std.proofs.Common.{◌≡◌, ℕ, ◌+◌, ◌<◌, ◌≤◌, List, [], ◌∷◌, map, length, drop, get_or, Result, Ok, Err, refl, sym, ap, subst, ◌∙◌, arith}
+use Rattle.std.proofs.Common.{◌≡◌, ℕ, ◌+◌, ◌<◌, ◌≤◌, List, [], ◌∷◌, map, length, drop, get_or, Result, Ok, Err, sym, ap, subst, ◌∙◌, arith}
 use Rattle.std.specs.Result.{IsErrAnd}
 use Rattle.std.proofs.lemmas.List.{drop_more, drop_all, get_or-map, length-map}
 use Rattle.std.proofs.lemmas.Result.{err_from_is_err_and}
 use Rattle.csv_rows.specs.declared.rows.TableRow.{TableRow}
-use Rattle.csv_rows.specs.Rows.{Row}
+use Rattle.csv_rows.specs.Rows.{LinedRow, Row}
 use Rattle.document_rows.specs.declared.fault.CellFault.{CellFault}
 use Rattle.document_rows.specs.Reads.{RowRead, and_then}
 use Rattle.document_rows.specs.declared.fault.RowError.{RowError}
 use Rattle.document_rows.specs.declared.fault.RowError.TheVariants.{Cell, NoMemory}
-use Rattle.document_tables.specs.Tables.{LineRow, TableRead, at_line, after_rows, row_view, Makes, TellsTable, line_error}
+use Rattle.document_tables.specs.Tables.{LineRow, TableRead, at_line, after_rows, line_row, row_view, Makes, TellsTable, line_error}
 
 module _ {S : Type 0} (step : S → Row → RowRead S) where
   step_of : (made : S) (rows : List LineRow) (k : ℕ) (row : LineRow) → k < length rows → get_or rows k row ≡ row
@@ -60,28 +60,24 @@ module _ {S : Type 0} (step : S → Row → RowRead S) where
   all_read made items k past = let n = length-map items row_view in after_all made (map row_view items) k (omega (arith, n, past))
 
   -- ---- rows that are taken one after the other
-  pub taken_more : (made next : S) (rest more : List TableRow) (row : TableRow) → rest ≡ row ∷ more → step made (row_view row).cells ≡ Ok next
-      → after_rows step made (map row_view rest) ≡ after_rows step next (map row_view more)
+  pub taken_more : (made next : S) (rest more : List LinedRow) (row : LinedRow) → rest ≡ row ∷ more → step made row.1 ≡ Ok next
+      → after_rows step made (map line_row rest) ≡ after_rows step next (map line_row more)
   unfolding after_rows
   taken_more made next rest more row is ok =
-      ap (λ (rows : List TableRow). after_rows step made (map row_view rows)) is
-      ∙ ap (λ read. and_then (at_line row.line read) (λ next. after_rows step next (map row_view more))) ok
+      ap (λ (rows : List LinedRow). after_rows step made (map line_row rows)) is
+      ∙ ap (λ read. and_then (at_line row.0 read) (λ next. after_rows step next (map line_row more))) ok
 
-  pub taken_told : {X : Type 0} (view : X → S) (made next : S) (rest more : List TableRow) (row : TableRow) (error : RowError) (whole : TableRead S) → rest ≡ row ∷ more
-      → whole ≡ after_rows step made (map row_view rest) → Makes (Err error) (step made (row_view row).cells) next → TellsTable view (Err (line_error row.line error)) whole
+  pub taken_told : {X : Type 0} (view : X → S) (made next : S) (rest more : List LinedRow) (row : LinedRow) (error : RowError) (whole : TableRead S) → rest ≡ row ∷ more
+      → whole ≡ after_rows step made (map line_row rest) → Makes (Err error) (step made row.1) next → TellsTable view (Err (line_error row.0 error)) whole
   unfolding after_rows
   taken_told view made next rest more row error whole is so_far makes =
-      told view error row.line (step made (row_view row).cells) next whole makes
-      (λ fault e. so_far ∙ (ap (λ (rows : List TableRow). after_rows step made (map row_view rows)) is
-      ∙ ap (λ read. and_then (at_line row.line read) (λ next. after_rows step next (map row_view more))) e))
+      told view error row.0 (step made row.1) next whole makes
+      (λ fault e. so_far ∙ (ap (λ (rows : List LinedRow). after_rows step made (map line_row rows)) is
+      ∙ ap (λ read. and_then (at_line row.0 read) (λ next. after_rows step next (map line_row more))) e))
 
-  pub taken_all : (made : S) (rest : List TableRow) → rest ≡ [] → after_rows step made (map row_view rest) ≡ Ok made
+  pub taken_all : (made : S) (rest : List LinedRow) → rest ≡ [] → after_rows step made (map line_row rest) ≡ Ok made
   unfolding after_rows
-  taken_all made rest is = ap (λ (rows : List TableRow). after_rows step made (map row_view rows)) is
-
-pub nothing_left : {X : Type 0} (xs : List X) → length xs ≡ 0 → xs ≡ []
-nothing_left [] h = refl
-nothing_left (x ∷ xs) h = absurd (omega arith)
+  taken_all made rest is = ap (λ (rows : List LinedRow). after_rows step made (map line_row rows)) is
 
 -- what a `?` hands on
 pub handed_on : {S : Type 0} (r : Result (Unit {0}) RowError) (error : RowError) (read : RowRead S) (made : S) → IsErrAnd r (λ e. e ≡ error) → Makes (Err error) read made → Makes r read made

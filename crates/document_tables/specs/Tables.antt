@@ -2,7 +2,7 @@
 -- first row that has one. Own choice.
 use Rattle.std.specs.Prelude.{◌≡◌, ℕ, List, [], ◌∷◌, Result, Ok, Err}
 use Rattle.csv_rows.specs.declared.rows.TableRow.{TableRow}
-use Rattle.csv_rows.specs.Rows.{Row, cells_of}
+use Rattle.csv_rows.specs.Rows.{LinedRow, Row, cells_of}
 use Rattle.document_rows.specs.declared.fault.Column.TheVariants as column
 use Rattle.document_rows.specs.declared.fault.Wrong.TheVariants.{Missing}
 use Rattle.document_rows.specs.declared.fault.RowError.{RowError}
@@ -19,6 +19,10 @@ pub record LineRow : Type 0 where
 
 abbrev pub row_view : TableRow → LineRow
 row_view row = record { line = row.line; cells = cells_of row }
+
+-- the same of a row that is yet to come
+abbrev pub line_row : LinedRow → LineRow
+line_row row = record { line = row.0; cells = row.1 }
 
 abbrev pub TableRead : Type 0 → Type 0
 TableRead X = Result X LineFault

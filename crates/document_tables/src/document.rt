@@ -1,6 +1,7 @@
 //! Documents.
 
 ghost use Rattle.std.specs.Prelude.{◌≡◌, ◌≤◌, ◌<◌, All, map, length, IfOk};
+ghost use Rattle.csv_rows.specs.Coming.{Stands, rows_of};
 ghost use Rattle.tree_network.specs.Networks.{IsNetwork};
 ghost use Rattle.document_tables.specs.Documents as spec;
 ghost use Rattle.document_tables.specs.Grids as grids;
@@ -8,7 +9,7 @@ ghost use Rattle.document_tables.specs.Links.{branch_view, links_view};
 ghost use Rattle.document_tables.specs.LinkTrees.{AreTrees};
 ghost use Rattle.document_tables.specs.Ports.{ports_view};
 ghost use Rattle.document_tables.specs.Ranges.{IsPortText, AreLinkKeys};
-ghost use Rattle.document_tables.specs.Tables.{row_view};
+ghost use Rattle.document_tables.specs.Tables.{line_row, row_view};
 ghost use Rattle.document_tables.specs.Ways.{AreBranchesOf};
 ghost use Rattle.document_tables.specs.declared.fault.DocumentError.TheVariants as errors;
 
@@ -17,7 +18,7 @@ use crate::grid::{links_on_grid, ports_on_grid};
 use crate::links::{Branch, LinkTable, read_links};
 use crate::names::Names;
 use crate::ports::{PortTable, read_ports};
-use csv_rows::TableRow;
+use csv_rows::{TableRow, TableRows};
 use std::alloc::{AllocError, Global};
 use table_cells::Amount;
 use tree_network::Network;
@@ -126,22 +127,23 @@ fn document_with(
 }
 
 /// The document of the rows of two tables, or its first fault: by rows, those of ports before those of links, and in a
-/// row by columns. A frame has `overhead` bytes on the wire beside its own, at most 2^20. Each row of links is let go once
-/// it is read.
+/// row by columns. A frame has `overhead` bytes on the wire beside its own, at most 2^20. One row of links is kept at a
+/// time.
 #[tactic(auto, unfolding(crate::specs::Documents::document_of))]
 pub fn read_document(
     alloc: Global,
     port_rows: &[TableRow],
-    link_rows: Vec<TableRow>,
+    link_rows: &mut TableRows,
     overhead: u64,
 ) -> Result<Document, DocumentError>
-    requires { overhead ≤ 1048576 }
+    requires overhead { overhead ≤ 1048576 }
+    requires stands { Stands link_rows.old }
     ensures value { spec.TellsDocument result
-        (spec.document_of overhead (map row_view port_rows.now) (map row_view link_rows.items)) }
+        (spec.document_of overhead (map row_view port_rows.now) (map line_row (rows_of link_rows.old))) }
     ensures network { IfOk result (λ d. IsNetwork d.network) }
     ensures branches { IfOk result (λ d. All (spec.IsBranchOf d.network) d.branches.items) }
     ensures names { IfOk result spec.HasNames }
-    ensures ways { IfOk result (λ d. AreBranchesOf overhead (map row_view link_rows.items) (spec.document_view d)) }
+    ensures ways { IfOk result (λ d. AreBranchesOf overhead (map line_row (rows_of link_rows.old)) (spec.document_view d)) }
 {
     let ports = match read_ports(alloc, port_rows) {
         Ok(ports) => ports,

@@ -1,10 +1,10 @@
 //! The table of links.
 
-ghost use Rattle.std.specs.Prelude.{◌≡◌, ◌+◌, ◌<◌, ◌≤◌, ◌∷◌, [], None, Ok, Err, map, position, length, slice_get, MatchOption, OnOk, IfOk};
+ghost use Rattle.std.specs.Prelude.{◌≡◌, ◌+◌, ◌<◌, ◌≤◌, None, Ok, Err, map, position, length, slice_get, OnOk, IfOk};
 ghost use Rattle.std.specs.Option.{ForSome};
 ghost use Rattle.std.specs.Str.{bytes_eq};
-ghost use Rattle.std.specs.Vec.Iter.{into_iter_items};
 ghost use Rattle.csv.specs.Records.{fields_of};
+ghost use Rattle.csv_rows.specs.Coming.{Stands, rows_of};
 ghost use Rattle.document_rows.specs.LinkRows.{link_view};
 ghost use Rattle.document_rows.specs.Reads.{Tells, at};
 ghost use Rattle.document_rows.specs.declared.fault.Column.TheVariants as column;
@@ -16,7 +16,7 @@ ghost use Rattle.document_tables.specs.LinkTrees.{AreTrees, AreAlike, MakesLink}
 ghost use Rattle.document_tables.specs.Paths as on_paths;
 ghost use Rattle.document_tables.specs.Ports.{ports_view};
 ghost use Rattle.document_tables.specs.Ranges.{IsLinkText};
-ghost use Rattle.document_tables.specs.Tables.{Makes, TellsTable, after_rows, row_view};
+ghost use Rattle.document_tables.specs.Tables.{Makes, TellsTable, after_rows, line_row};
 
 use crate::fault::{LineError, line_error, no_head};
 use crate::names::{Names, add_name, number_near};
@@ -24,13 +24,12 @@ use crate::paths::path_ports;
 use crate::ports::PortTable;
 use crate::trees::Tree;
 use csv::ByteRecord;
-use csv_rows::TableRow;
+use csv_rows::{TableRows, no_row};
 use document_rows::{
     CellFault, Column, LinkHead, LinkRow, RowError, Wrong, frame_on_wire, link_head, link_row,
     row_name,
 };
 use std::alloc::{AllocError, Global};
-use std::vec::IntoIter;
 use table_cells::Amount;
 
 const MOST_LINKS: usize = 16_384;
@@ -334,15 +333,17 @@ fn links_under(
     ports: &PortTable,
     overhead: u64,
     head: &LinkHead,
-    rows: IntoIter<TableRow, Global>,
+    rows: &mut TableRows,
 ) -> Result<LinkTable, LineError>
-    requires { overhead ≤ 1048576 }
+    requires overhead { overhead ≤ 1048576 }
+    requires stands { Stands rows.old }
     ensures value { TellsTable spec.links_view result
-        (after_rows (spec.with_row (ports_view ports.now) overhead head.now) spec.no_links (map row_view (into_iter_items rows))) }
+        (after_rows (spec.with_row (ports_view ports.now) overhead head.now) spec.no_links (map line_row (rows_of rows.old))) }
     ensures kept { IfOk result AreTrees }
 {
     let mut table = no_links(alloc);
-    for row in rows {
+    let mut row = no_row(alloc);
+    while rows.next_row(&mut row)? {
         match add_row(alloc, ports, overhead, head, &mut table, &row.cells) {
             Ok(()) => {}
             Err(error) => return Err(line_error(row.line, error)),
@@ -351,36 +352,27 @@ fn links_under(
     Ok(table)
 }
 
-// The first of some rows, and those behind it.
-fn first_and_rest(rows: Vec<TableRow>) -> Option<(TableRow, IntoIter<TableRow, Global>)>
-    ensures { MatchOption result (rows.items ≡ []) (λ both. rows.items ≡ both.0 ∷ into_iter_items both.1) }
-{
-    let mut rest = rows.into_iter();
-    match rest.next() {
-        None => None,
-        Some(first) => Some((first, rest)),
-    }
-}
-
 /// The links of the rows of a table over ports, or its first fault. A frame has `overhead` bytes on the wire beside its
-/// own, at most 2^20. Each row is let go once it is read.
+/// own, at most 2^20. One row is kept at a time.
 #[tactic(auto, unfolding(crate::specs::Tables::table_of))]
 pub fn read_links(
     alloc: Global,
     ports: &PortTable,
     overhead: u64,
-    rows: Vec<TableRow>,
+    rows: &mut TableRows,
 ) -> Result<LinkTable, LineError>
-    requires { overhead ≤ 1048576 }
+    requires overhead { overhead ≤ 1048576 }
+    requires stands { Stands rows.old }
     ensures value { TellsTable spec.links_view result
-        (spec.links_of (ports_view ports.now) overhead (map row_view rows.items)) }
+        (spec.links_of (ports_view ports.now) overhead (map line_row (rows_of rows.old))) }
     ensures kept { IfOk result AreTrees }
 {
-    let Some((first, rest)) = first_and_rest(rows) else {
+    let mut row = no_row(alloc);
+    if !rows.next_row(&mut row)? {
         return Err(no_head());
-    };
-    match link_head(&first.cells) {
-        Ok(head) => links_under(alloc, ports, overhead, &head, rest),
-        Err(fault) => Err(line_error(first.line, RowError::Cell(fault))),
+    }
+    match link_head(&row.cells) {
+        Ok(head) => links_under(alloc, ports, overhead, &head, rows),
+        Err(fault) => Err(line_error(row.line, RowError::Cell(fault))),
     }
 }

@@ -1,10 +1,11 @@
 use Rattle.std.proofs.Common.{map, ap, sym, subst, length, arith}
 use Rattle.std.proofs.lemmas.List.{length-map}
+use Rattle.csv_rows.specs.Coming.{rows_of}
 use Rattle.document_tables.specs.Grids.{grid_port, grid_link, port_on_grid}
 use Rattle.document_tables.specs.Documents.{DocumentText}
 use Rattle.document_tables.specs.Links.{links_view}
 use Rattle.document_tables.specs.Ports.{ports_view}
-use Rattle.document_tables.specs.Tables.{row_view}
+use Rattle.document_tables.specs.Tables.{line_row, row_view}
 use Rattle.document_tables.specs.Ways.{AreBranchesOf}
 use Rattle.document_tables.proofs.TableRanges.{ports_in_range, links_in_range}
 use Rattle.document_tables.proofs.LinkFacts.{links_are}
@@ -17,28 +18,28 @@ document_with-requires-clause-ports c = (ports_in_range (map row_view c.args.por
 
 pub document_with-requires-clause-keys : goal.document_with-requires-clause-keys
 document_with-requires-clause-keys c =
-    (links_in_range (ports_view c.in-Ok.ports) c.args.overhead (map row_view c.args.link_rows.items) (links_view c.in-Ok-read_links.table) c.in-Ok-read_links.ensures.value).0
+    (links_in_range (ports_view c.in-Ok.ports) c.args.overhead (map line_row (rows_of c.args.link_rows.now)) (links_view c.in-Ok-read_links.table) c.in-Ok-read_links.ensures.value).0
 
 pub returns-in-Ok-document_with-clause-network : goal.returns-in-Ok-document_with-clause-network
 returns-in-Ok-document_with-clause-network c =
     let ports = ports_view c.in-Ok.ports in
     let links = links_view c.in-Ok-read_links.table in
     let port_rows = map row_view c.args.port_rows.now in
-    let link_rows = map row_view c.args.link_rows.items in
+    let link_rows = map line_row (rows_of c.args.link_rows.now) in
     let texts = ports_in_range port_rows ports c.in-Ok.ensures in
     let keys = links_in_range ports c.args.overhead link_rows links c.in-Ok-read_links.ensures.value in
     let are = links_are ports c.args.overhead link_rows links c.in-Ok-read_links.ensures.value in
     let same = c.in-Ok-document_with.ensures in
-    network_range ports c.args.overhead c.in-Ok-document_with.document.network (ap (λ (d : DocumentText). d.ports) same) links c.requires texts.1 texts.0 keys.0 are (ap (λ (d : DocumentText). d.links) same)
+    network_range ports c.args.overhead c.in-Ok-document_with.document.network (ap (λ (d : DocumentText). d.ports) same) links c.requires.overhead texts.1 texts.0 keys.0 are (ap (λ (d : DocumentText). d.links) same)
 
 pub returns-in-Ok-document_with-clause-branches : goal.returns-in-Ok-document_with-clause-branches
 returns-in-Ok-document_with-clause-branches c =
     let ports = ports_view c.in-Ok.ports in
     let links = links_view c.in-Ok-read_links.table in
     let document = c.in-Ok-document_with.document in
-    let are = links_are ports c.args.overhead (map row_view c.args.link_rows.items) links c.in-Ok-read_links.ensures.value in
+    let are = links_are ports c.args.overhead (map line_row (rows_of c.args.link_rows.now)) links c.in-Ok-read_links.ensures.value in
     let same = c.in-Ok-document_with.ensures in
-    let said = links_in_range ports c.args.overhead (map row_view c.args.link_rows.items) links c.in-Ok-read_links.ensures.value in
+    let said = links_in_range ports c.args.overhead (map line_row (rows_of c.args.link_rows.now)) links c.in-Ok-read_links.ensures.value in
     branches_range ports c.args.overhead document.network (ap (λ (d : DocumentText). d.ports) same) links are (ap (λ (d : DocumentText). d.links) same) said.1 document.branches.items (ap (λ (d : DocumentText). d.branches) same)
 
 pub returns-in-Ok-document_with-clause-names : goal.returns-in-Ok-document_with-clause-names
@@ -47,7 +48,7 @@ returns-in-Ok-document_with-clause-names c =
     let links = links_view c.in-Ok-read_links.table in
     let d = c.in-Ok-document_with.document in
     let texts = ports_in_range (map row_view c.args.port_rows.now) ports c.in-Ok.ensures in
-    let are = links_are ports c.args.overhead (map row_view c.args.link_rows.items) links c.in-Ok-read_links.ensures.value in
+    let are = links_are ports c.args.overhead (map line_row (rows_of c.args.link_rows.now)) links c.in-Ok-read_links.ensures.value in
     let same = c.in-Ok-document_with.ensures in
     let port_names = ap (λ (d : DocumentText). length d.port_names) same in
     let link_names = ap (λ (d : DocumentText). length d.link_names) same in
@@ -60,6 +61,6 @@ returns-in-Ok-document_with-clause-names c =
 pub returns-in-Ok-document_with-clause-ways : goal.returns-in-Ok-document_with-clause-ways
 returns-in-Ok-document_with-clause-ways c =
     let ports = ports_view c.in-Ok.ports in
-    let rows = map row_view c.args.link_rows.items in
+    let rows = map line_row (rows_of c.args.link_rows.now) in
     let read = c.in-Ok-read_links.ensures in
     subst (AreBranchesOf c.args.overhead rows) (sym c.in-Ok-document_with.ensures) (branches_are ports c.args.overhead c.in-Ok-read_links.table read.kept rows read.value)
