@@ -5,7 +5,7 @@ use Rattle.csv_rows.specs.declared.rows.TableRow.{TableRow}
 use Rattle.csv_rows.specs.Rows.{AreLinedRowsOf, LinedRow, lined_of}
 use Rattle.document_tables.specs.declared.fault.LineFault.{LineFault}
 use Rattle.document_tables.specs.declared.fault.TableFile.{TableFile}
-use Rattle.document_tables.specs.Tables.{LineRow, row_view}
+use Rattle.document_tables.specs.Tables.{LineRow, line_row, row_view}
 use Rattle.document_tables.specs.Documents.{DocumentText, FileFault, document_of}
 use Rattle.document_tables.specs.Ways.{AreBranchesOf}
 use Rattle.tree_network.specs.Networks.{IsNetwork}
@@ -58,12 +58,16 @@ lined_all : (rows : List TableRow) → map lined (map row_view rows) ≡ map lin
 lined_all [] = refl
 lined_all (row ∷ rows) = ap (λ rest. lined_of row ∷ rest) (lined_all rows)
 
-pub rows_of_both : (t : Tables) (ports links : List TableRow) → AreLinedRowsOf t.ports (map lined_of ports)
-    → AreLinedRowsOf t.links (map lined_of links) → AreRowsOfBoth t (map row_view ports) (map row_view links)
+lined_back : (rows : List LinedRow) → map lined (map line_row rows) ≡ rows
+lined_back [] = refl
+lined_back (row ∷ rows) = ap (λ rest. row ∷ rest) (lined_back rows)
+
+pub rows_of_both : (t : Tables) (ports : List TableRow) (links : List LinedRow) → AreLinedRowsOf t.ports (map lined_of ports)
+    → AreLinedRowsOf t.links links → AreRowsOfBoth t (map row_view ports) (map line_row links)
 rows_of_both t ports links h k =
     let P : List LinedRow → Type 0 = λ rows. AreLinedRowsOf t.ports rows in
     let L : List LinedRow → Type 0 = λ rows. AreLinedRowsOf t.links rows in
-    record { ports_rows = subst P (sym (lined_all ports)) h; links_rows = subst L (sym (lined_all links)) k }
+    record { ports_rows = subst P (sym (lined_all ports)) h; links_rows = subst L (sym (lined_back links)) k }
 
 pub on_document : {E : Type 0} (t : Tables) (overhead : ℕ) (form : Form) (ports links : List LineRow)
     (d : DocumentText) (net : Network)

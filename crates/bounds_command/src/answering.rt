@@ -1,6 +1,7 @@
 //! The answer on two tables.
 
 ghost use Rattle.std.specs.Prelude.{◌≡◌, ◌≤◌, ℕ, List, map, IfOk};
+ghost use Rattle.csv_rows.specs.Coming.{Stands, rows_of};
 ghost use Rattle.csv_rows.specs.Rows.{AreLinedRowsOf, lined_of};
 ghost use Rattle.bounds_command.specs.Replies as replies;
 ghost use Rattle.bounds_command.specs.OnTables.{tables, named, IsReplyOn};
@@ -9,7 +10,7 @@ ghost use Rattle.bounds_command.specs.View.{reply_of};
 use crate::answer::{Answer, Form};
 use crate::on_document::on_document;
 use crate::refusals::breaks_rule;
-use csv_rows::{TableRow, read_table};
+use csv_rows::{TableRow, TableRows, read_table, table_rows};
 use document_tables::{DocumentError, LineFault, TableFile, read_document};
 use std::alloc::{AllocError, Global};
 
@@ -42,13 +43,14 @@ fn on_rows(
     ports_file: &str,
     ports: &[TableRow],
     links_file: &str,
-    links: Vec<TableRow>,
+    links: &mut TableRows,
     overhead: u64,
     form: Form,
 ) -> Result<Answer, AllocError>
-    requires { overhead ≤ 1048576 }
+    requires overhead { overhead ≤ 1048576 }
+    requires stands { Stands links.old }
     ensures { (port_bytes link_bytes : List ℕ) → AreLinedRowsOf port_bytes (map lined_of ports.now)
-        → AreLinedRowsOf link_bytes (map lined_of links.items)
+        → AreLinedRowsOf link_bytes (rows_of links.old)
         → IfOk result (λ r.
         IsReplyOn (tables ports_file.now port_bytes links_file.now link_bytes) overhead form (reply_of r)) }
 {
@@ -78,6 +80,8 @@ pub fn on_tables(
         IsReplyOn (tables ports_file.now ports_bytes.now links_file.now links_bytes.now) overhead form (reply_of r)) }
 {
     let ports = read_table(alloc, ports_bytes)?;
-    let links = read_table(alloc, links_bytes)?;
-    on_rows(alloc, ports_file, &ports, links_file, links, overhead, form)
+    let mut links = table_rows(alloc, links_bytes);
+    on_rows(
+        alloc, ports_file, &ports, links_file, &mut links, overhead, form,
+    )
 }
