@@ -10,7 +10,7 @@ use std::sync::ledger::Blank;
 use std::test::Fail;
 
 /// The words of a command line, which are separated by single spaces.
-fn words_in(alloc: Global, line: &str) -> Result<Vec<String>, Fail> {
+pub(crate) fn words_in(alloc: Global, line: &str) -> Result<Vec<String>, Fail> {
     let mut all = Vec::new(alloc);
     for word in line.split(' ') {
         all.push(String::from_str(alloc, word)?)?;
@@ -19,7 +19,7 @@ fn words_in(alloc: Global, line: &str) -> Result<Vec<String>, Fail> {
 }
 
 /// The files of names and texts, which follow one another.
-fn files_in(alloc: Global, parts: &[&str]) -> Result<Vec<(String, Vec<u8>)>, Fail> {
+pub(crate) fn files_in(alloc: Global, parts: &[&str]) -> Result<Vec<(String, Vec<u8>)>, Fail> {
     let mut held = Vec::new(alloc);
     for pair in parts.chunks(2) {
         if let [name, text] = pair {
@@ -33,7 +33,7 @@ fn files_in(alloc: Global, parts: &[&str]) -> Result<Vec<(String, Vec<u8>)>, Fai
 }
 
 /// Numbers of one digit each.
-fn numbers_in(alloc: Global, digits: &str) -> Result<Vec<u32>, Fail> {
+pub(crate) fn numbers_in(alloc: Global, digits: &str) -> Result<Vec<u32>, Fail> {
     let mut all = Vec::new(alloc);
     for digit in digits.chars() {
         all.push(digit.to_digit(10).ok_or("no digit")?)?;
