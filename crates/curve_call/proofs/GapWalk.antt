@@ -6,9 +6,11 @@ use Rattle.std.proofs.lemmas.Int.{ints}
 use Rattle.rational.specs.Rational.{ℚ, ◌+ℚ◌, ◌-ℚ◌, ◌*ℚ◌, ◌≤ℚ◌, ◌<ℚ◌, int}
 use Rattle.rational.specs.Grid.{Whole}
 use Rattle.rational.specs.Gauge.{common_den}
+use Rattle.rational.specs.MinMax.{min_q}
 use Rattle.rational.specs.Whole.{whole_part}
-use Rattle.rational.proofs.Linear.{with2, with4, with6}
-use Rattle.rational.proofs.Laws.{antisym, le_of_not_lt, le_refl, le_trans, le_of_lt, mul_pos, mul_nonneg, sub_mul}
+use Rattle.rational.proofs.Linear.{with2, with3, with4, with6}
+use Rattle.rational.specs.Extended.{Ext}
+use Rattle.rational.proofs.Laws.{antisym, le_of_not_lt, le_refl, le_trans, le_of_lt, lt_le_trans, mul_pos, mul_nonneg, sub_mul}
 use Rattle.rational.proofs.Integers.{nat_lt, nat_lt_out, nat_nonneg, nat_next, int_le, int_lt_out}
 use Rattle.rational.proofs.Whole.{whole_le, whole_gt}
 use Rattle.rational.proofs.Grid.{whole_sub}
@@ -29,7 +31,7 @@ use Rattle.upp_limits.proofs.CommonDen.{common_den_each, common_den_pos}
 use Rattle.upp_normal.proofs.StretchSizes.{times_stand}
 use Rattle.curve_call.specs.declared.gaps.Gap.{Gap}
 use Rattle.curve_call.specs.declared.gaps.Gap.TheVariants.{NoTime}
-use Rattle.curve_call.specs.Gaps.{InWindow, IsGap}
+use Rattle.curve_call.specs.Gaps.{InWindow, IsGap, IsGapUntil}
 use Rattle.curve_call.specs.GapSteps.{larger, IsUntil, earlier_of, GapStands, StretchSizes}
 use Rattle.curve_call.proofs.GapSizes.{larger_stands}
 use Rattle.curve_call.proofs.GapParts.{window_more, window_none}
@@ -220,9 +222,32 @@ next_stands z f g end t next a b V W h k l A B e = subst (NextStands z end) (sym
   high = (next_is t end a b h k l).high;
 }
 
--- at the end the window is whole
-pub walk_end : (f g : SpecCurve) (from end t : ℚ) (gap : Gap) → GapWalk f g from end t gap → ¬ (t <ℚ end) → IsGap (InWindow from end) (value_at f) (value_at g) gap
-walk_end f g from end t gap inv h = subst (λ u. IsGap (InWindow from u) (value_at f) (value_at g) gap) (antisym (inv.before, le_of_not_lt h)) inv.gap_is
+-- before the first of two times it is before the end
+pub before_first : (t last end soon : ℚ) → last ≡ min_q end soon → t <ℚ last → t <ℚ end
+before_first t last end soon e h = lt_le_trans h (subst (λ x. x ≤ℚ end) (sym e) (min_q_le_left end soon))
+
+-- after it the window was looked at as far as it has to be
+pub walk_until : (f g : SpecCurve) (from end soon last t : ℚ) (gap : Gap) → GapWalk f g from end t gap → last ≡ min_q end soon → ¬ (t <ℚ last) → IsGapUntil from end soon (value_at f) (value_at g) gap
+walk_until f g from end soon last t gap inv e h = record { until = t; most = inv.before; left = left; gap = inv.gap_is }
+  where
+    none_left : (u : ℚ) → InWindow t end u → end ≤ℚ t → ⊥
+    none_left u i k = let a = i.start in let b = i.before in with3 t end u (λ c. omega (arith, c.le, c.lt, c.same))
+
+    left : (u : ℚ) → InWindow t end u → soon ≤ℚ u
+    left u i = elim (min_q_one end soon) [
+      | inl k ↦ absurd (none_left u i (subst (λ x. x ≤ℚ t) (e ∙ k) (le_of_not_lt h)))
+      | inr k ↦ le_trans (subst (λ x. x ≤ℚ t) (e ∙ k) (le_of_not_lt h)) i.start
+    ]
+
+-- up to the end it is whole
+pub until_end : (from end : ℚ) (f g : ℚ → Ext) (gap : Gap) → IsGapUntil from end end f g gap → IsGap (InWindow from end) f g gap
+until_end from end f g gap U = subst (λ u. IsGap (InWindow from u) f g gap) (antisym (U.most, all)) U.gap
+  where
+    past : (u : ℚ) → u <ℚ end → end ≤ℚ u → ⊥
+    past u h k = with2 u end (λ c. omega (arith, c.le, c.lt, c.same))
+
+    all : end ≤ℚ U.until
+    all = le_of_not_lt (λ h. past U.until h (U.left U.until record { start = le_refl U.until; before = h }))
 
 pub next_found : (end : ℚ) (a b : Option ℚ) (first next : ℚ) → first ≡ earlier_of end a → next ≡ earlier_of first b → next ≡ next_time end a b
 unfolding next_time

@@ -8,10 +8,11 @@ use Rattle.rational.specs.Gauge.{size_up}
 use Rattle.rational.specs.Extended.{Ext, ◌≤ₑ◌, ◌<ₑ◌, ◌+ₑ◌}
 use Rattle.rational.specs.declared.Extended.TheVariants.{Fin, Inf}
 use Rattle.rational.proofs.Linear.{with1, with2}
-use Rattle.rational.proofs.Laws.{le_trans, le_of_lt, not_zero, mul_lt_mul_right, zero_mul}
+use Rattle.rational.proofs.Laws.{le_or_lt, le_refl, le_trans, le_of_lt, lt_le_trans, not_zero, mul_lt_mul_right, mul_nonneg, zero_mul}
+use Rattle.rational.proofs.Integers.{nat_nonneg}
 use Rattle.rational.proofs.Quotients.{div_le, div_nonneg}
 use Rattle.rational.proofs.Grid.{whole_sub, whole_neg, within_nonneg, within_neg}
-use Rattle.rational.proofs.ExtendedOrder.{same_le_ext, finite_below, finite_sum}
+use Rattle.rational.proofs.ExtendedOrder.{same_le_ext, finite_below, finite_sum, le_ext_trans}
 use Rattle.upp_curve.specs.Curve.{SpecCurve, value_at}
 use Rattle.upp_curve.specs.Curves.{IsCurve}
 use Rattle.upp_curve.specs.Steady.{Repeats, steady, rise_over, rate}
@@ -25,9 +26,11 @@ use Rattle.upp_limits.proofs.CommonDen.{size_up_within, size_up_least}
 use Rattle.upp_limits.proofs.NarrowSizes.{small_number, small_sum}
 use Rattle.upp_curve.proofs.Steady.{steady_rule}
 use Rattle.upp_normal.proofs.StretchSizes.{times_fit, small_quotient}
-use Rattle.curve_call.specs.Gaps.{InWindow, IsWithin, IsEndless, IsLargest}
+use Rattle.curve_call.specs.declared.gaps.Gap.{Gap}
+use Rattle.curve_call.specs.declared.gaps.Gap.TheVariants.{NoTime, Never, Is}
+use Rattle.curve_call.specs.Gaps.{InWindow, IsWithin, IsEndless, IsLargest, IsGapUntil}
 use Rattle.curve_call.specs.GapSteps.{IsGapValue}
-use Rattle.curve_call.specs.Compared.{RepeatsIn, AreCompared}
+use Rattle.curve_call.specs.Compared.{RepeatsIn, AreCompared, IsBelowLate}
 use Rattle.curve_call.specs.Bounds.{IsFiniteLate}
 use Rattle.curve_call.proofs.Shifts.{below_in, below_out, largest_bounds, endless_bounds, same_least, least_zero}
 use Rattle.curve_call.proofs.GapParts.{within_none}
@@ -188,4 +191,48 @@ least_gap z from d slow fast q k F G C L least =
     same_least (IsBelowAfter slow fast from d) (λ i. q ≤ℚ int (pos i) *ℚ (rise_over fast d -ℚ rise_over slow d)) k
     (λ i w. (largest_bounds (InWindow from (from +ℚ d)) (value_at slow) (value_at fast) q (int (pos i) *ℚ (rise_over fast d -ℚ rise_over slow d)) L).0 (after_out z from d slow fast i F G C w))
     (λ i h. after_in z from d slow fast i F G C ((largest_bounds (InWindow from (from +ℚ d)) (value_at slow) (value_at fast) q (int (pos i) *ℚ (rise_over fast d -ℚ rise_over slow d)) L).1 h))
+    least
+
+-- ---- of which the times from one on are left out
+plus_nonneg : (x : Ext) (y : ℚ) → int (pos 0) ≤ℚ y → x ≤ₑ x +ₑ Fin y
+plus_nonneg Inf y h = tt
+plus_nonneg (Fin x) y h = with2 x y (λ c. omega (arith, c.le, c.lt, c.same))
+
+with_rest : (slow fast : SpecCurve) (from d soon y : ℚ) (gap : Gap) → IsBelowLate slow fast from d soon → (U : IsGapUntil from (from +ℚ d) soon (value_at slow) (value_at fast) gap) → int (pos 0) ≤ℚ y
+    → IsWithin (InWindow from U.until) (value_at slow) (value_at fast) y → IsWithin (InWindow from (from +ℚ d)) (value_at slow) (value_at fast) y
+with_rest slow fast from d soon y gap below U some w t i = elim (le_or_lt U.until t) [
+  | inl l ↦ le_ext_trans (value_at slow t) (value_at fast t) (value_at fast t +ₑ Fin y) (below t i (U.left t record { start = l; before = i.before })) (plus_nonneg (value_at fast t) y some)
+  | inr l ↦ w t record { start = i.start; before = l }
+]
+
+without_rest : (slow fast : SpecCurve) (from d soon y : ℚ) (gap : Gap) (U : IsGapUntil from (from +ℚ d) soon (value_at slow) (value_at fast) gap)
+    → IsWithin (InWindow from (from +ℚ d)) (value_at slow) (value_at fast) y → IsWithin (InWindow from U.until) (value_at slow) (value_at fast) y
+without_rest slow fast from d soon y gap U w t i = w t record { start = i.start; before = lt_le_trans i.before U.most }
+
+pub until_none : (z : Sizes) (from d soon : ℚ) (slow fast : SpecCurve) → AreCompared z from d slow fast → IsBelowLate slow fast from d soon
+    → IsGapUntil from (from +ℚ d) soon (value_at slow) (value_at fast) NoTime → IsLeast (IsBelowAfter slow fast from d) 0
+until_none z from d soon slow fast C below U =
+    let y = int (pos 0) *ℚ (rise_over fast d -ℚ rise_over slow d) in
+    let some : int (pos 0) ≤ℚ y = subst (λ v. int (pos 0) ≤ℚ v) (sym (zero_mul (rise_over fast d -ℚ rise_over slow d))) (le_refl (int (pos 0))) in
+    least_zero (IsBelowAfter slow fast from d)
+    (after_in z from d slow fast 0 C.first.curve C.second.curve C
+    (with_rest slow fast from d soon y NoTime below U some (within_none (InWindow from U.until) (value_at slow) (value_at fast) y U.gap)))
+
+pub until_endless : (z : Sizes) (from d soon : ℚ) (slow fast : SpecCurve) → AreCompared z from d slow fast → IsGapUntil from (from +ℚ d) soon (value_at slow) (value_at fast) Never
+    → (k : ℕ) → ¬ (IsBelowAfter slow fast from d k)
+until_endless z from d soon slow fast C U =
+    let E = U.gap in
+    least_endless z from d slow fast C.first.curve C.second.curve C
+    record { at = E.at; among = record { start = E.among.start; before = lt_le_trans E.among.before U.most }; top = E.top; value = E.value; below = E.below }
+
+pub until_gap : (z : Sizes) (from d soon q : ℚ) (slow fast : SpecCurve) (k : ℕ) → rate slow <ₑ rate fast → AreCompared z from d slow fast → IsBelowLate slow fast from d soon
+    → IsGapUntil from (from +ℚ d) soon (value_at slow) (value_at fast) (Is q) → IsLeast (λ i. q ≤ℚ int (pos i) *ℚ (rise_over fast d -ℚ rise_over slow d)) k → IsLeast (IsBelowAfter slow fast from d) k
+until_gap z from d soon q slow fast k less C below U least =
+    let finite = largest_finite from U.until q slow fast U.gap in
+    let lead = rise_over fast d -ℚ rise_over slow d in
+    let some : int (pos 0) <ℚ lead = (lead_is z from d slow fast less C finite.0 finite.1).some in
+    let bounds = λ (i : ℕ). largest_bounds (InWindow from U.until) (value_at slow) (value_at fast) q (int (pos i) *ℚ lead) U.gap in
+    same_least (IsBelowAfter slow fast from d) (λ i. q ≤ℚ int (pos i) *ℚ lead) k
+    (λ i w. (bounds i).0 (without_rest slow fast from d soon (int (pos i) *ℚ lead) (Is q) U (after_out z from d slow fast i C.first.curve C.second.curve C w)))
+    (λ i h. after_in z from d slow fast i C.first.curve C.second.curve C (with_rest slow fast from d soon (int (pos i) *ℚ lead) (Is q) below U (mul_nonneg (nat_nonneg i) (le_of_lt some)) ((bounds i).1 h)))
     least

@@ -2,6 +2,7 @@
 use Rattle.std.specs.Prelude.{ℕ, pos}
 use Rattle.rational.specs.Rational.{ℚ, ◌+ℚ◌, ◌≤ℚ◌, ◌<ℚ◌, int}
 use Rattle.rational.specs.Grid.{Whole}
+use Rattle.rational.specs.Extended.{◌≤ₑ◌}
 use Rattle.upp_curve.specs.Curve.{SpecCurve, value_at}
 use Rattle.upp_curve.specs.Curves.{IsCurve}
 use Rattle.upp_curve.specs.Steady.{steady, rate, IsWholePeriods}
@@ -10,6 +11,7 @@ use Rattle.upp_limits.specs.Periods.{periods_after}
 use Rattle.upp_limits.specs.Sized.{Stands}
 use Rattle.upp_limits.specs.Windows.{IsSlowerBelow}
 use Rattle.upp_normal.specs.Operand.{AreLimited}
+use Rattle.curve_call.specs.Gaps.{InWindow}
 
 -- a curve that repeats from `from` on with the period d, and whose numbers below from + d have the sizes z
 pub record RepeatsIn (z : Sizes) (from d : ℚ) (c : SpecCurve) : Type 0 where
@@ -36,3 +38,8 @@ pub record IsLookedAt (z : Sizes) (from d : ℚ) (c : SpecCurve) : Type 0 where
 -- after k periods from `from` on, for a period, the one of smaller rate is nowhere above the other
 abbrev pub IsEnough : SpecCurve → SpecCurve → ℚ → ℚ → ℕ → Type 0
 IsEnough f g from d k = IsSlowerBelow (value_at f) (value_at g) (rate f) (rate g) (periods_after from k d) d
+
+-- at the times of a period from `from` on that are `soon` or later the slower curve is nowhere above the other
+abbrev pub IsBelowLate : SpecCurve → SpecCurve → ℚ → ℚ → ℚ → Type 0
+IsBelowLate slow fast from d soon =
+    (t : ℚ) → InWindow from (from +ℚ d) t → soon ≤ℚ t → value_at slow t ≤ₑ value_at fast t

@@ -40,3 +40,10 @@ abbrev pub IsGap : (ℚ → Type 0) → (ℚ → Ext) → (ℚ → Ext) → Gap 
 IsGap S f g NoTime = (t : ℚ) → S t → g t ≡ Inf
 IsGap S f g Never = IsEndless S f g
 IsGap S f g (Is q) = IsLargest S f g q
+
+-- the gap over the times of [from, until): up to `end`, or to `soon` or later
+pub record IsGapUntil (from end soon : ℚ) (f g : ℚ → Ext) (gap : Gap) : Type 0 where
+  pub until : ℚ
+  pub most : until ≤ℚ end
+  pub left : (t : ℚ) → InWindow until end t → soon ≤ℚ t
+  pub gap : IsGap (InWindow from until) f g gap

@@ -10,7 +10,7 @@ ghost use Rattle.upp_curve.specs.Curve.{value_at};
 ghost use Rattle.upp_curve.specs.affine_segment.Fits.{LineFitsAt};
 ghost use Rattle.upp_limits.specs.Limits.{Sizes};
 ghost use Rattle.upp_normal.specs.Ahead.{GoesOn, HasWindow, IsTimeIn};
-ghost use Rattle.curve_call.specs.Gaps.{InWindow, IsGap};
+ghost use Rattle.curve_call.specs.Gaps.{InWindow, IsGap, IsGapUntil};
 ghost use Rattle.curve_call.specs.GapSteps.{
   gap_of,
   larger,
@@ -22,7 +22,7 @@ ghost use Rattle.curve_call.specs.GapSteps.{
 };
 
 use crate::sides::Side;
-use fraction128::{Ext, Frac, difference, greater, is_less};
+use fraction128::{Ext, Frac, difference, greater, is_less, lesser};
 use rational::Extended;
 use upp_curve::Curve;
 use upp_curve::affine_segment::line_value;
@@ -93,16 +93,18 @@ pub fn earlier(t: Frac, next: &Option<Frac>) -> Frac
     }
 }
 
-/// By how much f is above g over [from, end), where g is finite, as `window_gap` of curves.
-pub fn side_gap(f: &Side, g: &Side, from: Frac, end: Frac) -> Gap
+/// By how much f is above g over [from, end), where g is finite, as `side_gap`; the times from `soon` on are left out, but
+/// for what is left of a stretch of both that begins before.
+pub fn gap_until(f: &Side, g: &Side, from: Frac, end: Frac, soon: Frac) -> Gap
     requires { (z : Sizes) × HasWindow z end f.now × HasWindow z end g.now × IsTimeIn z end from }
-    ensures gap { IsGap (InWindow from end) (value_at f.now) (value_at g.now) result }
+    ensures gap { IsGapUntil from end soon (value_at f.now) (value_at g.now) result }
     ensures sizes { (z : Sizes) → HasWindow z end f.now → HasWindow z end g.now → IsTimeIn z end from
         → GapStands z result }
 {
+    let last = lesser(end, soon);
     let mut gap = Gap::NoTime;
     let mut t = from;
-    while is_less(t, end) {
+    while is_less(t, last) {
         let slow = f.stretch(t);
         let fast = g.stretch(t);
         let next = earlier(earlier(end, &slow.next), &fast.next);
@@ -110,6 +112,16 @@ pub fn side_gap(f: &Side, g: &Side, from: Frac, end: Frac) -> Gap
         t = next;
     }
     gap
+}
+
+/// By how much f is above g over [from, end), where g is finite, as `window_gap` of curves.
+pub fn side_gap(f: &Side, g: &Side, from: Frac, end: Frac) -> Gap
+    requires { (z : Sizes) × HasWindow z end f.now × HasWindow z end g.now × IsTimeIn z end from }
+    ensures gap { IsGap (InWindow from end) (value_at f.now) (value_at g.now) result }
+    ensures sizes { (z : Sizes) → HasWindow z end f.now → HasWindow z end g.now → IsTimeIn z end from
+        → GapStands z result }
+{
+    gap_until(f, g, from, end, end)
 }
 
 /// By how much f is above g over [from, end), where g is finite: nothing is unrolled and no memory is taken. The

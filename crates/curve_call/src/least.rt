@@ -12,10 +12,10 @@ ghost use Rattle.upp_limits.specs.Windows.{IsBelowFor, IsLeast};
 ghost use Rattle.curve_call.specs.Gaps.{InWindow, IsLargest};
 ghost use Rattle.curve_call.specs.GapSteps.{IsGapValue};
 ghost use Rattle.upp_normal.specs.Ahead.{AnswerValue};
-ghost use Rattle.curve_call.specs.Compared.{AreCompared, IsEnough};
+ghost use Rattle.curve_call.specs.Compared.{AreCompared, IsBelowLate, IsEnough};
 ghost use Rattle.curve_call.specs.Bounds.{IsFiniteLate};
 
-use crate::gaps::{Gap, side_gap};
+use crate::gaps::{Gap, gap_until};
 use crate::sides::Side;
 use fraction128::{Frac, difference, is_less, product, quotient, sum};
 use rational::Extended;
@@ -61,10 +61,34 @@ pub fn least_times(gap: Frac, lead: Frac) -> u128
 fn least_over(slow: &Side, fast: &Side, gap: Frac, from: Frac, period: Frac) -> u128
     requires slower { rate slow.now <ₑ rate fast.now }
     requires window { (z : Sizes) × AreCompared z from period slow.now fast.now × IsGapValue z gap }
-    requires gap { IsLargest (InWindow from (from +ℚ period)) (value_at slow.now) (value_at fast.now) gap }
+    requires gap { (end : ℚ) × IsLargest (InWindow from end) (value_at slow.now) (value_at fast.now) gap }
     ensures { IsLeast (λ k. gap ≤ℚ int (pos k) *ℚ (rise_over fast.now period -ℚ rise_over slow.now period)) result }
 {
     least_times(gap, lead_over(slow, fast, from, period))
+}
+
+/// As `least_below`, where the slower curve is nowhere above the faster one from `soon` on, at the times that it looks at:
+/// those from then on are left out.
+pub fn least_below_until(
+    slow: &Side,
+    fast: &Side,
+    from: Frac,
+    period: Frac,
+    soon: Frac,
+) -> Option<u128>
+    requires slower { rate slow.now <ₑ rate fast.now }
+    requires window { (z : Sizes) × AreCompared z from period slow.now fast.now }
+    requires below { IsBelowLate slow.now fast.now from period soon }
+    ensures { MatchOption result
+        ((k : ℕ) → ¬ (IsBelowFor (value_at slow.now) (value_at fast.now) (periods_after from k period) period))
+        (IsLeast (λ k. IsBelowFor (value_at slow.now) (value_at fast.now) (periods_after from k period) period)) }
+{
+    let end = sum(from, period);
+    match gap_until(slow, fast, from, end, soon) {
+        Gap::NoTime => Some(0),
+        Gap::Never => None,
+        Gap::Is(gap) => Some(least_over(slow, fast, gap, from, period)),
+    }
 }
 
 /// The least number k of periods after which, for a period, the slower curve is nowhere above the faster one; none
@@ -77,12 +101,7 @@ pub fn least_below(slow: &Side, fast: &Side, from: Frac, period: Frac) -> Option
         ((k : ℕ) → ¬ (IsBelowFor (value_at slow.now) (value_at fast.now) (periods_after from k period) period))
         (IsLeast (λ k. IsBelowFor (value_at slow.now) (value_at fast.now) (periods_after from k period) period)) }
 {
-    let end = sum(from, period);
-    match side_gap(slow, fast, from, end) {
-        Gap::NoTime => Some(0),
-        Gap::Never => None,
-        Gap::Is(gap) => Some(least_over(slow, fast, gap, from, period)),
-    }
+    least_below_until(slow, fast, from, period, sum(from, period))
 }
 
 /// Whether f is the slower one: the long-run rate of f is less than that of g.

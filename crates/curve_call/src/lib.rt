@@ -6,6 +6,7 @@
 mod answers;
 mod between;
 mod bounds;
+mod checked;
 mod compared;
 mod ever_after;
 mod frame;
@@ -28,6 +29,9 @@ mod windows;
 pub use answers::{Answered, answer, framed_answer};
 pub use between::refuse_between;
 pub use bounds::{Bounds, bounds_below, period_bounds, side_bounds, zero_level};
+pub use checked::{
+    checked_product, checked_quotient, checked_rest, checked_sum, checked_value,
+};
 pub use compared::{window_excess, window_max, window_min};
 pub use ever_after::below_ever_after;
 pub use frame::{Frame, within, within_both};
@@ -35,7 +39,9 @@ pub use gaps::{Gap, earlier, gap_of, larger, side_gap, window_gap};
 pub use gate::first_window;
 pub use kept::intact;
 pub use laws::{Making, answers_are_determined, answers_are_finite, answers_grow, calls_in_turn};
-pub use least::{is_slower, least_below, least_periods, least_times, side_periods};
+pub use least::{
+    is_slower, least_below, least_below_until, least_periods, least_times, side_periods,
+};
 pub use lower::window_lower;
 pub use made::{MadePieces, excess_value, lines_apart};
 pub use rises::rise_over;

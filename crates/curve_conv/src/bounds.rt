@@ -6,13 +6,13 @@ ghost use Rattle.upp_curve.specs.Steady.{steady, rise_over};
 ghost use Rattle.curve_conv.specs.Late.{IsLateAfter, IsLateCall, IsPartsCall};
 ghost use Rattle.curve_conv.specs.LateBounds.{IsLateBounds, IsSlowerBounds};
 
-use crate::extremes::{extremes_of, most_gap, rest};
+use crate::extremes::{extremes_of, most_gap};
 use crate::moved::own_periods_suffice;
 use crate::number::lead;
 use crate::order::is_slower_curve;
 use crate::rises::rise_before;
 use crate::rows::Scan;
-use curve_call::{Bounds, Side, begin, is_slower, rise_over, zero_level};
+use curve_call::{Bounds, Side, begin, checked_rest, is_slower, rise_over, zero_level};
 use fraction128::{Frac, is_less};
 use upp_curve::Curve;
 
@@ -51,7 +51,7 @@ fn soon_number(s: &Scan, first: Frac, lead: Frac, from: Frac, period: Frac) -> O
     if is_less(period, first) {
         return None;
     }
-    let gained = rest(most, rise)?;
+    let gained = checked_rest(most, rise)?;
     periods_over(gained, lead)
 }
 

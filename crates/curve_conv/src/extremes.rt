@@ -12,7 +12,7 @@ ghost use Rattle.curve_conv.specs.Late.{IsLateCall};
 ghost use Rattle.curve_conv.specs.LateBounds.{IsTop, IsDepth, AreCurveExtremes, most_gap};
 
 use crate::rows::Scan;
-use curve_call::{Gap, Side, period_or, rise_over, side_gap, zero_level};
+use curve_call::{Gap, Side, checked_sum, period_or, rise_over, side_gap, zero_level};
 use fraction128::Frac;
 use rational::Extended;
 use upp_curve::Curve;
@@ -64,20 +64,6 @@ pub fn value_there(c: &Curve, t: Frac) -> Option<Frac>
         Extended::Inf => None,
         Extended::Fin(v) => Some(v),
     }
-}
-
-/// a + b, where it fits.
-pub fn checked_sum(a: Frac, b: Frac) -> Option<Frac>
-    ensures { IfSome result (λ s. s ≡ a +ℚ b) }
-{
-    Frac::add(a, b).ok()
-}
-
-/// a - b, where it fits.
-pub(crate) fn rest(a: Frac, b: Frac) -> Option<Frac>
-    ensures { IfSome result (λ s. s ≡ a -ℚ b) }
-{
-    Frac::sub(a, b).ok()
 }
 
 /// What both curves do, where the slower one is a number all through its period, and the faster one where its period

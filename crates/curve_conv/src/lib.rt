@@ -19,6 +19,7 @@ mod rises;
 mod rows;
 
 pub use bounds::{late_bounds, periods_over};
-pub use extremes::{checked_sum, value_there};
+pub use curve_call::checked_sum;
+pub use extremes::value_there;
 pub use operator::{convolve, convolve_frame};
 pub use order::{is_slower_curve, late_periods};

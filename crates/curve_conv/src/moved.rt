@@ -10,7 +10,7 @@ ghost use Rattle.curve_conv.specs.Scans.{sizes_in};
 
 use crate::rises::rise_before;
 use crate::rows::Scan;
-use curve_call::{period_or, rise_over};
+use curve_call::{checked_product, period_or, rise_over};
 use fraction128::{Frac, is_less};
 
 /// So many moves are tried, in even steps up to a common period.
@@ -35,7 +35,7 @@ fn times(n: u128, q: Frac) -> Option<Frac>
     if n >= 1 << 127 {
         return None;
     }
-    Frac::mul(Frac::from_whole(n as i128), q).ok()
+    checked_product(Frac::from_whole(n as i128), q)
 }
 
 // n periods of the faster curve's own; none where they are longer than a common period.

@@ -8,12 +8,11 @@ ghost use Rattle.upp_curve.specs.Curve.{value_at};
 ghost use Rattle.upp_curve.specs.affine_segment.Values.{line_value};
 ghost use Rattle.curve_conv.specs.Rises.{RisesAtMost, HasLater, IsLookedUntil, IsNextTime};
 
-use crate::extremes::{checked_sum, rest};
-use curve_call::earlier;
+use curve_call::{checked_rest, checked_sum, checked_value, earlier};
 use fraction128::{Ext, Frac, greater, is_less};
 use rational::Extended;
 use upp_curve::Curve;
-use upp_curve::affine_segment::{Line, value};
+use upp_curve::affine_segment::Line;
 use upp_normal::stretch_at;
 
 /// How far a curve was looked at.
@@ -29,7 +28,7 @@ pub(crate) struct Looked {
 fn number_above(x: Frac, y: Frac, most: Frac) -> Option<Frac>
     ensures { IfSome result (λ r. (most ≤ℚ r) × (x ≤ℚ y +ℚ r)) }
 {
-    let gap = rest(x, y)?;
+    let gap = checked_rest(x, y)?;
     Some(greater(most, gap))
 }
 
@@ -46,19 +45,6 @@ fn above(b: Ext, a: Ext, most: Frac) -> Option<Frac>
     }
 }
 
-// The value of a line that may be missing, where its steps fit.
-fn line_there(line: &Option<Line>, t: Frac) -> Option<Ext>
-    ensures { IfSome result (λ v. v ≡ line_value line.now t) }
-{
-    match line {
-        None => Some(Extended::Inf),
-        Some(l) => match value(l, t) {
-            Ok(v) => Some(Extended::Fin(v)),
-            Err(_) => None,
-        },
-    }
-}
-
 // As `above` of two lines, the one a period later.
 fn line_above(
     there: &Option<Line>,
@@ -71,8 +57,8 @@ fn line_above(
         × (line_value there.now (t +ℚ period) ≤ₑ line_value here.now t +ₑ Fin r)) }
 {
     let later = checked_sum(t, period)?;
-    let b = line_there(there, later)?;
-    let a = line_there(here, t)?;
+    let b = checked_value(there, later)?;
+    let a = checked_value(here, t)?;
     above(b, a, most)
 }
 
@@ -84,7 +70,7 @@ fn next_time(here: &Option<Frac>, there: &Option<Frac>, period: Frac, first: Fra
     match there {
         None => Some(soon),
         Some(e) => {
-            let back = rest(*e, period)?;
+            let back = checked_rest(*e, period)?;
             Some(earlier(soon, &Some(back)))
         }
     }

@@ -96,9 +96,6 @@ lattice_frame of f g from d k r a b L h =
 pub wide_by : (of : Lattice) (op : OpKind) (f g : SpecCurve) (e : OpFault) → op ≡ kind_of of → IsCurve f × SecondIsCurve op g → IsWideAtFirst op f g e → IsCauseOf (kind_of of) f g e
 wide_by of op f g e same K h = wide_first of f g e K.0 (second_kind of g (subst (λ o. SecondIsCurve o g) same K.1)) (subst (λ o. IsWideAtFirst o f g e) same h)
 
-pub compared_by : (of : Lattice) (op : OpKind) (f g : SpecCurve) (w : CallWindow) → op ≡ kind_of of → IsCurve f × SecondIsCurve op g → IsFirstWindow op f g w → (z : Sizes) × AreCompared z w.start w.period f g
-compared_by of op f g w same K h = first_compared of f g w K.0 (second_kind of g (subst (λ o. SecondIsCurve o g) same K.1)) (subst (λ o. IsFirstWindow o f g w) same h)
-
 pub none_by : (of : Lattice) (op : OpKind) (f g : SpecCurve) (w : CallWindow) → op ≡ kind_of of → IsFirstWindow op f g w → ((k : ℕ) → ¬ (IsEnough f g w.start w.period k)) → IsTooWide (kind_of of) f g
 none_by of op f g w same h none = let W = (subst (λ o. IsFirstWindow o f g w) same h).window in none_wide of f g w.start w.period W.start W.period none
 

@@ -10,8 +10,8 @@ use Rattle.rational.specs.Line.{line_at as line_of}
 use Rattle.rational.specs.MinMax.{max_q, min_q}
 use Rattle.rational.specs.Extended.{Ext, ◌≤ₑ◌, ◌<ₑ◌, ◌+ₑ◌}
 use Rattle.rational.specs.declared.Extended.TheVariants.{Fin}
-use Rattle.rational.proofs.Linear.{with_atoms, with2, with3, with4, with5}
-use Rattle.rational.proofs.Laws.{le_refl, le_trans, le_of_lt, lt_cases, mul_add, sub_mul, mul_nonneg, mul_le_mul, zero_mul}
+use Rattle.rational.proofs.Linear.{with_atoms, with2, with3, with4, with5, with6}
+use Rattle.rational.proofs.Laws.{le_refl, le_trans, le_of_lt, lt_cases, mul_add, sub_mul, mul_comm, mul_nonneg, mul_le_mul, zero_mul}
 use Rattle.rational.proofs.Integers.{nat_nonneg}
 use Rattle.rational.proofs.Quotients.{div_le}
 use Rattle.rational.proofs.MinMax.{max_q_le, max_q_ge_left, max_q_ge_right, min_q_le_left, min_q_le_right, min_q_one}
@@ -19,7 +19,7 @@ use Rattle.rational.proofs.Stretch.{line_supremum}
 use Rattle.rational.proofs.ExtendedOrder.{le_ext_trans, add_le_ext, le_ext_refl}
 use Rattle.upp_limits.proofs.CommonDen.{size_up_within}
 use Rattle.upp_curve.specs.declared.affine_segment.line.Line.{Line}
-use Rattle.upp_curve.specs.affine_segment.Values.{line_value}
+use Rattle.upp_curve.specs.affine_segment.Values.{line_at, line_value}
 use Rattle.upp_curve.specs.Curve.{SpecCurve, value_at}
 use Rattle.upp_curve.specs.Steady.{Repeats, rate, rise_over}
 use Rattle.upp_limits.specs.Limits.{Sizes}
@@ -43,7 +43,8 @@ use Rattle.curve_call.proofs.GapThere.{gap_there}
 use Rattle.curve_call.proofs.LeastNumber.{IsBelowAfter, compared_window, largest_finite, lead_is, least_none, least_endless, least_gap}
 use Rattle.curve_call.proofs.BoundedNumber.{least_found}
 use Rattle.plain_operators.specs.declared.pointwise.leaning.Reached.{Reached}
-use Rattle.plain_operators.specs.pointwise.Leaning.{IsUnder, IsOver, IsSpan, IsOnWay, IsUnderUntil, IsOverUntil}
+use Rattle.plain_operators.specs.declared.pointwise.leaning.Lines.{Lines}
+use Rattle.plain_operators.specs.pointwise.Leaning.{IsUnder, IsOver, IsSpan, IsOnWay, IsUnderUntil, IsOverUntil, AreOwnLines}
 
 -- ---- one value
 pub through : (v k y x : ℚ) → y ≡ x → k ≡ v -ℚ y → v ≡ k +ℚ x
@@ -246,40 +247,58 @@ over_ever f from p r a k t some R e U h =
 lines_apart : (top bottom gained n x v w : ℚ) → top -ℚ bottom -ℚ gained ≤ℚ n → x ≡ w -ℚ v → gained +ℚ n ≤ℚ x → top +ℚ v ≤ℚ bottom +ℚ w
 lines_apart top bottom gained n x v w a e b = with_atoms (top ∷ bottom ∷ gained ∷ n ∷ x ∷ v ∷ w ∷ []) (λ c. omega (arith, c.le, c.lt, c.same))
 
--- what was read of both curves
-pub record AreLines (slow fast : SpecCurve) (from d r s top bottom : ℚ) : Type 0 where
-  pub low : rate slow ≡ Fin r
-  pub high : rate fast ≡ Fin s
-  pub under : IsUnder (value_at slow) from (from +ℚ own_or d slow) r top
-  pub over : IsOver (value_at fast) from (from +ℚ own_or d fast) s bottom
-
-pub number_enough : (z : Sizes) (from d r s top bottom faster gained lead both gap : ℚ) (slow fast : SpecCurve) (k : ℕ) → rate slow <ₑ rate fast → AreCompared z from d slow fast → AreLines slow fast from d r s top bottom
-    → faster ≡ s -ℚ r → gained ≡ faster *ℚ from → lead ≡ faster *ℚ d → both ≡ top -ℚ bottom → gap ≡ both -ℚ gained → gap ≤ℚ int (pos k) *ℚ lead
-    → IsBelowFor (value_at slow) (value_at fast) (periods_after from k d) d
-number_enough z from d r s top bottom faster gained lead both gap slow fast k less C L ea eg el eb eq bound = λ t late before.
+-- where the one line is no higher than the other, so is the slower curve
+pub below_there : (z : Sizes) (from d t : ℚ) (slow fast : SpecCurve) (l : Lines) → AreCompared z from d slow fast → AreOwnLines slow fast from d l → from ≤ℚ t
+    → l.low.icept +ℚ l.low.slope *ℚ t ≤ℚ l.high.icept +ℚ l.high.slope *ℚ t → value_at slow t ≤ₑ value_at fast t
+below_there z from d t slow fast l C L begun apart =
     let F = first_looked z from d slow fast C in
     let G = second_looked z from d slow fast C in
     let A = own_period_is z from d slow F in
     let B = own_period_is z from d fast G in
+    let r = l.low.slope in
+    let s = l.high.slope in
+    let low = under_ever (value_at slow) from (own_or d slow) r (rise_over slow (own_or d slow)) l.low.icept t A.some (own_repeats z from d slow F) (rate_rise slow (own_or d slow) r L.low_rate) L.under begun in
+    let high = over_ever (value_at fast) from (own_or d fast) s (rise_over fast (own_or d fast)) l.high.icept t B.some (own_repeats z from d fast G) (rate_rise fast (own_or d fast) s L.high_rate) L.over begun in
+    let between : Fin (l.low.icept +ℚ r *ℚ t) ≤ₑ Fin (l.high.icept +ℚ s *ℚ t) = apart in
+    le_ext_trans (value_at slow t) (Fin (l.low.icept +ℚ r *ℚ t)) (value_at fast t) low (le_ext_trans (Fin (l.low.icept +ℚ r *ℚ t)) (Fin (l.high.icept +ℚ s *ℚ t)) (value_at fast t) between high)
+
+pub number_enough : (z : Sizes) (from d faster gained lead both gap : ℚ) (slow fast : SpecCurve) (l : Lines) (k : ℕ) → rate slow <ₑ rate fast → AreCompared z from d slow fast → AreOwnLines slow fast from d l
+    → faster ≡ l.high.slope -ℚ l.low.slope → gained ≡ faster *ℚ from → lead ≡ faster *ℚ d → both ≡ l.low.icept -ℚ l.high.icept → gap ≡ both -ℚ gained → gap ≤ℚ int (pos k) *ℚ lead
+    → IsBelowFor (value_at slow) (value_at fast) (periods_after from k d) d
+number_enough z from d faster gained lead both gap slow fast l k less C L ea eg el eb eq bound = λ t late before.
+    let r = l.low.slope in
+    let s = l.high.slope in
+    let top = l.low.icept in
+    let bottom = l.high.icept in
     let kd = int (pos k) *ℚ d in
     let nd : int (pos 0) ≤ℚ kd = mul_nonneg (nat_nonneg k) (le_of_lt C.some) in
     let begun : from ≤ℚ t = past from kd t nd late in
-    let up : int (pos 0) ≤ℚ faster = rising r s faster ea (rates_order slow fast r s L.low L.high less) in
+    let up : int (pos 0) ≤ℚ faster = rising r s faster ea (rates_order slow fast r s L.low_rate L.high_rate less) in
     let gain : int (pos k) *ℚ lead ≡ faster *ℚ kd = times_rate (int (pos k)) faster d lead (sym el) in
     let whole : faster *ℚ (from +ℚ kd) ≡ gained +ℚ int (pos k) *ℚ lead = mul_add faster from kd ∙ ap₂ (λ (x y : ℚ). x +ℚ y) (sym eg) (sym gain) in
     let far : gained +ℚ int (pos k) *ℚ lead ≤ℚ faster *ℚ t = subst (λ x. x ≤ℚ faster *ℚ t) whole (mul_le_mul faster up late) in
     let same : faster *ℚ t ≡ s *ℚ t -ℚ r *ℚ t = ap (λ x. x *ℚ t) ea ∙ sub_mul s r t in
     let need : top -ℚ bottom -ℚ gained ≤ℚ int (pos k) *ℚ lead = subst (λ x. x ≤ℚ int (pos k) *ℚ lead) (eq ∙ ap (λ x. x -ℚ gained) eb) bound in
-    let low = under_ever (value_at slow) from (own_or d slow) r (rise_over slow (own_or d slow)) top t A.some (own_repeats z from d slow F) (rate_rise slow (own_or d slow) r L.low) L.under begun in
-    let high = over_ever (value_at fast) from (own_or d fast) s (rise_over fast (own_or d fast)) bottom t B.some (own_repeats z from d fast G) (rate_rise fast (own_or d fast) s L.high) L.over begun in
-    let apart : Fin (top +ℚ r *ℚ t) ≤ₑ Fin (bottom +ℚ s *ℚ t) = lines_apart top bottom gained (int (pos k) *ℚ lead) (faster *ℚ t) (r *ℚ t) (s *ℚ t) need same far in
-    le_ext_trans (value_at slow t) (Fin (top +ℚ r *ℚ t)) (value_at fast t) low (le_ext_trans (Fin (top +ℚ r *ℚ t)) (Fin (bottom +ℚ s *ℚ t)) (value_at fast t) apart high)
+    below_there z from d t slow fast l C L begun (lines_apart top bottom gained (int (pos k) *ℚ lead) (faster *ℚ t) (r *ℚ t) (s *ℚ t) need same far)
   where
     past : (from w t : ℚ) → int (pos 0) ≤ℚ w → from +ℚ w ≤ℚ t → from ≤ℚ t
     past from w t a b = with3 from w t (λ c. omega (arith, c.le, c.lt, c.same))
 
     rising : (r s f : ℚ) → f ≡ s -ℚ r → r ≤ℚ s → int (pos 0) ≤ℚ f
     rising r s f e h = with3 r s f (λ c. omega (arith, c.le, c.lt, c.same))
+
+-- ---- from when on
+pub crossed : (l : Lines) (faster gap zero q t : ℚ) → faster ≡ l.high.slope -ℚ l.low.slope → gap ≡ l.low.icept -ℚ l.high.icept → zero ≡ int (pos 0) → zero <ℚ faster → q ≡ gap /ℚ faster → q ≤ℚ t
+    → line_at l.low t ≤ℚ line_at l.high t
+crossed l faster gap zero q t ea eb ez some eq h =
+    let r = l.low.slope in
+    let s = l.high.slope in
+    let bound : gap ≤ℚ t *ℚ faster = (div_le gap faster t (subst (λ z. z <ℚ faster) ez some)).0 (subst (λ x. x ≤ℚ t) eq h) in
+    let same : t *ℚ faster ≡ s *ℚ t -ℚ r *ℚ t = mul_comm t faster ∙ ap (λ x. x *ℚ t) ea ∙ sub_mul s r t in
+    over l.low.icept l.high.icept gap (t *ℚ faster) (r *ℚ t) (s *ℚ t) eb bound same
+  where
+    over : (top bottom gap x v w : ℚ) → gap ≡ top -ℚ bottom → gap ≤ℚ x → x ≡ w -ℚ v → top +ℚ v ≤ℚ bottom +ℚ w
+    over top bottom gap x v w e h f = with6 top bottom gap x v w (λ c. omega (arith, c.le, c.lt, c.same))
 
 -- the least number is there, and it is no more
 pub high_bounds : (z : Sizes) (from d : ℚ) (slow fast : SpecCurve) (k : ℕ) → rate slow <ₑ rate fast → AreCompared z from d slow fast → IsBelowFor (value_at slow) (value_at fast) (periods_after from k d) d

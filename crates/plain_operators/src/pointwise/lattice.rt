@@ -1,6 +1,6 @@
 //! What is made of two curves at each time: the lower, the upper, and what the first has above the second.
 
-ghost use Rattle.std.specs.Prelude.{ℕ, ◌≡◌, ◌+◌, ◌↔◌, pos, true, IsTrue, IfOk, IfErr};
+ghost use Rattle.std.specs.Prelude.{ℕ, ◌≡◌, ◌+◌, ◌↔◌, pos, true, IsTrue, IfOk, IfErr, MatchOption};
 ghost use Rattle.rational.specs.Rational.{ℚ, int, ◌-ℚ◌, ◌≤ℚ◌, ◌<ℚ◌, neg_ℚ};
 ghost use Rattle.rational.specs.Ratio.{SumFits};
 ghost use Rattle.rational.specs.Extended.{◌<ₑ◌};
@@ -9,13 +9,15 @@ ghost use Rattle.upp_curve.specs.Steady.{rate, rise_over};
 ghost use Rattle.upp_curve.specs.Unrolled.{unroll};
 ghost use Rattle.upp_curve.specs.Curves.{IsCurve};
 ghost use Rattle.upp_limits.specs.Outcome.{KeepsLimits, IsCauseOf, IsWithin};
+ghost use Rattle.upp_limits.specs.Windows.{IsLeast};
+ghost use Rattle.curve_call.specs.Compared.{IsEnough};
 ghost use Rattle.curve_call.specs.Operands.{HaveSizes, IsMadeOf};
 ghost use Rattle.curve_call.specs.FirstWindows.{IsFirstWindow};
 ghost use Rattle.curve_call.specs.Rises.{CurveRiseFits};
 ghost use Rattle.plain_operators.specs.pointwise.Lattice.{kind_of, made_of, rises_of, FiniteFor, RisesBy, IsTailRise};
 ghost use Rattle.plain_operators.specs.pointwise.LatticeCall.{IsLatticeFrame};
 
-use crate::pointwise::leaning::{bounds_by_lines, is_slower};
+use crate::pointwise::leaning::{bounds_by_lines, is_slower, least_by_lines};
 use curve_call::{
     CallWindow, Frame, first_window, framed_answer, least_periods, period_bounds, refuse_between,
     rise_over, window_excess, window_max, window_min, within,
@@ -26,8 +28,11 @@ use std::alloc::{AllocError, Global};
 use std::sync::ledger::Ledger;
 use upp_curve::Curve;
 use upp_curve::affine_segment::Piece;
-use upp_limits::{OpFault, OpKind, is_few};
+use upp_limits::{OpFault, OpKind, is_few, tally_over};
 use upp_normal::unrolled;
+
+/// So many pieces at most are few.
+const FEW_PIECES: u64 = 256;
 
 /// What is made of two curves.
 #[derive(Debug, Clone, Copy)]
@@ -172,14 +177,35 @@ fn refuse_by_lines(of: Lattice, f: &Curve, g: &Curve, first: &CallWindow) -> Res
     }
 }
 
-// The same by either.
+// Whether so few pieces are looked at with no period that to walk over them all costs no more than to look for bounds.
+fn is_short(of: Lattice, f: &Curve, g: &Curve, first: &CallWindow) -> bool {
+    tally_over(&kind_of(of), f, g, first.end) <= FEW_PIECES
+}
+
+// The same by either; not where the pieces are few.
 fn refuse_over(of: Lattice, f: &Curve, g: &Curve, first: &CallWindow) -> Result<(), OpFault>
     requires curves { IsCurve f.now × IsCurve g.now }
     requires window { IsFirstWindow (kind_of of) f.now g.now first.now }
     ensures { IfErr result (IsCauseOf (kind_of of) f.now g.now) }
 {
+    if is_short(of, f, g, first) {
+        return Ok(());
+    }
     refuse_early(of, f, g, first)?;
     refuse_by_lines(of, f, g, first)
+}
+
+// The least number of periods that is enough.
+fn least_number(of: Lattice, f: &Curve, g: &Curve, first: &CallWindow) -> Option<u128>
+    requires curves { IsCurve f.now × IsCurve g.now }
+    requires window { IsFirstWindow (kind_of of) f.now g.now first.now }
+    ensures { MatchOption result ((k : ℕ) → ¬ (IsEnough f.now g.now first.now.start first.now.period k))
+        (IsLeast (IsEnough f.now g.now first.now.start first.now.period)) }
+{
+    if is_short(of, f, g, first) {
+        return least_periods(f, g, first.start, first.period);
+    }
+    least_by_lines(f, g, first.start, first.period)
 }
 
 // The frame of a call within both limits, with the least number of periods that is enough.
@@ -191,7 +217,7 @@ fn least_frame(of: Lattice, f: &Curve, g: &Curve) -> Result<Frame, OpFault>
     let kind = kind_of(of);
     let first = first_window(&kind, f, g)?;
     refuse_over(of, f, g, &first)?;
-    match least_periods(f, g, first.start, first.period) {
+    match least_number(of, f, g, &first) {
         None => Err(OpFault::TooWide),
         Some(periods) => within(&kind, f, g, periods),
     }

@@ -1,24 +1,27 @@
 //! Lines of a curve's own rate that it lies under, or over, and how many periods are enough by them. No memory is taken.
 
-ghost use Rattle.std.specs.Prelude.{◌≡◌, ◌↔◌, pos, IfSome, IsTrue};
-ghost use Rattle.rational.specs.Rational.{int, ◌+ℚ◌, ◌-ℚ◌, ◌*ℚ◌, ◌≤ℚ◌, ◌<ℚ◌};
+ghost use Rattle.std.specs.Prelude.{ℕ, ◌≡◌, ◌↔◌, pos, IfSome, IsTrue, MatchOption};
+ghost use Rattle.rational.specs.Rational.{ℚ, int, ◌+ℚ◌, ◌-ℚ◌, ◌*ℚ◌, ◌≤ℚ◌, ◌<ℚ◌};
 ghost use Rattle.rational.specs.Extended.{◌≤ₑ◌, ◌<ₑ◌};
 ghost use Rattle.rational.specs.declared.Extended.TheVariants.{Fin};
 ghost use Rattle.upp_curve.specs.Curve.{value_at};
 ghost use Rattle.upp_curve.specs.Steady.{rate};
-ghost use Rattle.upp_curve.specs.affine_segment.Values.{line_value};
+ghost use Rattle.upp_curve.specs.affine_segment.Values.{line_at, line_value};
 ghost use Rattle.upp_limits.specs.Limits.{Sizes};
 ghost use Rattle.upp_limits.specs.Periods.{periods_after};
-ghost use Rattle.upp_limits.specs.Windows.{IsBelowFor, IsSlowerBelow};
+ghost use Rattle.upp_limits.specs.Windows.{IsBelowFor, IsLeast, IsSlowerBelow};
 ghost use Rattle.curve_call.specs.Bounds.{AreBounds, own_or};
-ghost use Rattle.curve_call.specs.Compared.{AreCompared};
-ghost use Rattle.plain_operators.specs.pointwise.Leaning.{IsUnder, IsOver, IsSpan, IsUnderUntil, IsOverUntil};
+ghost use Rattle.curve_call.specs.Compared.{AreCompared, IsBelowLate, IsEnough};
+ghost use Rattle.plain_operators.specs.pointwise.Leaning.{IsUnder, IsOver, IsSpan, IsUnderUntil, IsOverUntil, AreOwnLines};
 
-use curve_call::{Bounds, Side, earlier, period_or};
+use curve_call::{
+    Bounds, Side, checked_product, checked_quotient, checked_rest, checked_sum, checked_value, earlier,
+    least_below, least_below_until, period_or,
+};
 use fraction128::{Ext, Frac, greater, is_less, lesser};
 use rational::Extended;
 use upp_curve::Curve;
-use upp_curve::affine_segment::{Line, value};
+use upp_curve::affine_segment::Line;
 use upp_normal::stretch_at;
 
 /// So many steps are looked at; of a curve that has more, nothing is told.
@@ -33,25 +36,13 @@ pub(crate) struct Reached {
     pub(crate) icept: Frac,
 }
 
-// a + b, where it fits.
-fn checked_sum(a: Frac, b: Frac) -> Option<Frac>
-    ensures { IfSome result (λ s. s ≡ a +ℚ b) }
-{
-    Frac::add(a, b).ok()
-}
-
-// a - b, where it fits.
-fn rest(a: Frac, b: Frac) -> Option<Frac>
-    ensures { IfSome result (λ s. s ≡ a -ℚ b) }
-{
-    Frac::sub(a, b).ok()
-}
-
-// a times b, where it fits.
-fn checked_product(a: Frac, b: Frac) -> Option<Frac>
-    ensures { IfSome result (λ p. p ≡ a *ℚ b) }
-{
-    Frac::mul(a, b).ok()
+/// Lines of the own rates of two curves.
+#[derive(Clone, Copy)]
+pub(crate) struct Lines {
+    /// One that the slower lies under.
+    pub(crate) low: Line,
+    /// One that the faster lies over.
+    pub(crate) high: Line,
 }
 
 // The value at time 0 of the line of a rate through v at t, where it fits.
@@ -59,7 +50,7 @@ fn icept_of(v: Frac, t: Frac, rate: Frac) -> Option<Frac>
     ensures { IfSome result (λ k. v ≡ k +ℚ rate *ℚ t) }
 {
     let risen = checked_product(rate, t)?;
-    rest(v, risen)
+    checked_rest(v, risen)
 }
 
 // The larger of an intercept and that of the line through v at t, where it fits.
@@ -98,24 +89,11 @@ fn lower(v: Ext, t: Frac, rate: Frac, icept: Frac) -> Option<Frac>
     }
 }
 
-// The value of a line that may be missing, where its steps fit.
-fn line_there(line: &Option<Line>, t: Frac) -> Option<Ext>
-    ensures { IfSome result (λ v. v ≡ line_value line.now t) }
-{
-    match line {
-        None => Some(Extended::Inf),
-        Some(l) => match value(l, t) {
-            Ok(v) => Some(Extended::Fin(v)),
-            Err(_) => None,
-        },
-    }
-}
-
 // As `higher` of a line.
 fn line_higher(line: &Option<Line>, t: Frac, rate: Frac, icept: Frac) -> Option<Frac>
     ensures { IfSome result (λ k. (icept ≤ℚ k) × (line_value line.now t ≤ₑ Fin (k +ℚ rate *ℚ t))) }
 {
-    let v = line_there(line, t)?;
+    let v = checked_value(line, t)?;
     higher(v, t, rate, icept)
 }
 
@@ -123,7 +101,7 @@ fn line_higher(line: &Option<Line>, t: Frac, rate: Frac, icept: Frac) -> Option<
 fn line_lower(line: &Option<Line>, t: Frac, rate: Frac, icept: Frac) -> Option<Frac>
     ensures { IfSome result (λ k. (k ≤ℚ icept) × (Fin (k +ℚ rate *ℚ t) ≤ₑ line_value line.now t)) }
 {
-    let v = line_there(line, t)?;
+    let v = checked_value(line, t)?;
     lower(v, t, rate, icept)
 }
 
@@ -263,9 +241,9 @@ fn own_over(c: &Curve, rate: Frac, from: Frac, period: Frac) -> Option<Frac>
 fn gap_at(low: &Line, high: &Line, faster: Frac, t: Frac) -> Option<Frac>
     ensures { IfSome result (λ g. g ≡ low.now.icept -ℚ high.now.icept -ℚ faster *ℚ t) }
 {
-    let both = rest(low.icept, high.icept)?;
+    let both = checked_rest(low.icept, high.icept)?;
     let gained = checked_product(faster, t)?;
-    rest(both, gained)
+    checked_rest(both, gained)
 }
 
 // After how many periods from a time on a line is above another, where the steps fit.
@@ -273,30 +251,39 @@ fn number_between(low: &Line, high: &Line, from: Frac, period: Frac) -> Option<u
     ensures { let faster = high.now.slope -ℚ low.now.slope in
         IfSome result (λ k. low.now.icept -ℚ high.now.icept -ℚ faster *ℚ from ≤ℚ int (pos k) *ℚ (faster *ℚ period)) }
 {
-    let faster = rest(high.slope, low.slope)?;
+    let faster = checked_rest(high.slope, low.slope)?;
     let gap = gap_at(low, high, faster, from)?;
     let lead = checked_product(faster, period)?;
     times_over(gap, lead)
 }
 
-// A number of periods that is enough by the lines: the slower curve lies under one of its rate, the faster over one of its
-// own.
+// The lines that two curves lie under, or over, from `from` on for a period of their own.
+fn own_lines(slow: &Curve, fast: &Curve, from: Frac, period: Frac) -> Option<Lines>
+    requires { (z : Sizes) × AreCompared z from period slow.now fast.now }
+    ensures { IfSome result (AreOwnLines slow.now fast.now from period) }
+{
+    let slope = rate_of(slow)?;
+    let steeper = rate_of(fast)?;
+    let top = own_under(slow, slope, from, period)?;
+    let bottom = own_over(fast, steeper, from, period)?;
+    Some(Lines {
+        low: Line { icept: top, slope },
+        high: Line {
+            icept: bottom,
+            slope: steeper,
+        },
+    })
+}
+
+// A number of periods that is enough by these lines.
 fn number_by_lines(slow: &Curve, fast: &Curve, from: Frac, period: Frac) -> Option<u128>
     requires slower { rate slow.now <ₑ rate fast.now }
     requires window { (z : Sizes) × AreCompared z from period slow.now fast.now }
     ensures { IfSome result
         (λ k. IsBelowFor (value_at slow.now) (value_at fast.now) (periods_after from k period) period) }
 {
-    let slope = rate_of(slow)?;
-    let steeper = rate_of(fast)?;
-    let top = own_under(slow, slope, from, period)?;
-    let bottom = own_over(fast, steeper, from, period)?;
-    let low = Line { icept: top, slope };
-    let high = Line {
-        icept: bottom,
-        slope: steeper,
-    };
-    number_between(&low, &high, from, period)
+    let lines = own_lines(slow, fast, from, period)?;
+    number_between(&lines.low, &lines.high, from, period)
 }
 
 // The bounds by that number.
@@ -326,4 +313,57 @@ pub(crate) fn bounds_by_lines(f: &Curve, g: &Curve, from: Frac, period: Frac) ->
         return high_by_lines(g, f, from, period);
     }
     Some(Bounds { low: 0, high: 0 })
+}
+
+// The time from which on the one line is below the other, where it fits.
+fn crossing(lines: &Lines) -> Option<Frac>
+    ensures { IfSome result (λ s. (t : ℚ) → s ≤ℚ t → line_at lines.now.low t ≤ℚ line_at lines.now.high t) }
+{
+    let faster = checked_rest(lines.high.slope, lines.low.slope)?;
+    let gap = checked_rest(lines.low.icept, lines.high.icept)?;
+    if !is_less(Frac::zero(), faster) {
+        return None;
+    }
+    checked_quotient(gap, faster)
+}
+
+// A time from which on the slower curve is nowhere above the faster one, by the lines.
+fn soon_by_lines(slow: &Curve, fast: &Curve, from: Frac, period: Frac) -> Option<Frac>
+    requires { (z : Sizes) × AreCompared z from period slow.now fast.now }
+    ensures { IfSome result (IsBelowLate slow.now fast.now from period) }
+{
+    let lines = own_lines(slow, fast, from, period)?;
+    crossing(&lines)
+}
+
+// As `least_periods`, of which the first is the slower.
+fn least_soon(slow: &Curve, fast: &Curve, from: Frac, period: Frac) -> Option<u128>
+    requires slower { rate slow.now <ₑ rate fast.now }
+    requires window { (z : Sizes) × AreCompared z from period slow.now fast.now }
+    ensures { MatchOption result
+        ((k : ℕ) → ¬ (IsBelowFor (value_at slow.now) (value_at fast.now) (periods_after from k period) period))
+        (IsLeast (λ k. IsBelowFor (value_at slow.now) (value_at fast.now) (periods_after from k period) period)) }
+{
+    let low = Side::of(slow);
+    let high = Side::of(fast);
+    match soon_by_lines(slow, fast, from, period) {
+        None => least_below(&low, &high, from, period),
+        Some(soon) => least_below_until(&low, &high, from, period, soon),
+    }
+}
+
+/// The number that `least_periods` finds, for curves of which one period of their own is much shorter than a common one:
+/// both are walked over only as far as the lines of their own rates do not tell that the slower is nowhere above.
+pub(crate) fn least_by_lines(f: &Curve, g: &Curve, from: Frac, period: Frac) -> Option<u128>
+    requires { (z : Sizes) × AreCompared z from period f.now g.now }
+    ensures { MatchOption result
+        ((k : ℕ) → ¬ (IsEnough f.now g.now from period k)) (IsLeast (IsEnough f.now g.now from period)) }
+{
+    if is_slower(f, g) {
+        return least_soon(f, g, from, period);
+    }
+    if is_slower(g, f) {
+        return least_soon(g, f, from, period);
+    }
+    Some(0)
 }

@@ -6,10 +6,10 @@ use Rattle.rational.specs.Rational.{◌+ℚ◌}
 use Rattle.curve_call.proofs.least.least_over.Goals as goal
 
 pub lead_over-requires-clause-first : goal.lead_over-requires-clause-first
-lead_over-requires-clause-first c = (largest_finite c.args.from (c.args.from +ℚ c.args.period) c.args.gap c.args.slow.now c.args.fast.now c.requires.gap).0
+lead_over-requires-clause-first c = (largest_finite c.args.from c.requires.gap.0 c.args.gap c.args.slow.now c.args.fast.now c.requires.gap.1).0
 
 pub lead_over-requires-clause-second : goal.lead_over-requires-clause-second
-lead_over-requires-clause-second c = (largest_finite c.args.from (c.args.from +ℚ c.args.period) c.args.gap c.args.slow.now c.args.fast.now c.requires.gap).1
+lead_over-requires-clause-second c = (largest_finite c.args.from c.requires.gap.0 c.args.gap c.args.slow.now c.args.fast.now c.requires.gap.1).1
 
 pub lead_over-requires-clause-window : goal.lead_over-requires-clause-window
 lead_over-requires-clause-window c = (c.requires.window.0, c.requires.window.1)

@@ -2,7 +2,7 @@ use Rattle.std.proofs.Common.{sym, subst}
 use Rattle.std.proofs.lemmas.Result.{err_from_is_err_and, IfErr-weaker}
 use Rattle.curve_call.specs.CallWindows.{IsForward}
 use Rattle.upp_normal.proofs.NormaliseForm.{ok_map}
-use Rattle.plain_operators.proofs.pointwise.LatticeLimits.{forward_kind, wide_by, second_by, first_by, compared_by, none_by, refused_by, within_by, frame_by}
+use Rattle.plain_operators.proofs.pointwise.LatticeLimits.{forward_kind, wide_by, second_by, first_by, none_by, refused_by, within_by, frame_by}
 use Rattle.plain_operators.proofs.pointwise.lattice.least_frame.Goals as goal
 
 pub first_window-requires : goal.first_window-requires
@@ -24,9 +24,11 @@ returns-in_err-refuse_over-clause-refused c =
     let p = err_from_is_err_and c.from_residual-in_err-refuse_over.result c.from_residual-in_err-refuse_over.ensures.1 in
     rw (p.1, p.2) c.in_err-refuse_over.ensures
 
-pub least_periods-requires : goal.least_periods-requires
-least_periods-requires c =
-    compared_by c.args.of c.kind_of-kind.result c.args.f.now c.args.g.now c.in_ok-first.first c.kind_of-kind.ensures c.first_window.ensures.kept c.in_ok-first.ensures.window
+pub least_number-requires-clause-curves : goal.least_number-requires-clause-curves
+least_number-requires-clause-curves c = second_by c.args.of c.kind_of-kind.result c.args.f.now c.args.g.now c.kind_of-kind.ensures c.first_window.ensures.kept
+
+pub least_number-requires-clause-window : goal.least_number-requires-clause-window
+least_number-requires-clause-window c = first_by c.args.of c.kind_of-kind.result c.args.f.now c.args.g.now c.in_ok-first.first c.kind_of-kind.ensures c.in_ok-first.ensures.window
 
 pub returns-in-None-clause-refused : goal.returns-in-None-clause-refused
 returns-in-None-clause-refused c =

@@ -4,4 +4,4 @@ use Rattle.plain_operators.proofs.pointwise.Leanings.{through}
 use Rattle.plain_operators.proofs.pointwise.leaning.icept_of.Goals as goal
 
 pub returns : goal.returns
-returns c = IfSome_then c.rest.result c.rest.ensures (λ k e. through c.args.v k c.in_ok-risen.risen (c.args.rate *ℚ c.args.t) c.in_ok-risen.ensures e)
+returns c = IfSome_then c.checked_rest.result c.checked_rest.ensures (λ k e. through c.args.v k c.in_ok-risen.risen (c.args.rate *ℚ c.args.t) c.in_ok-risen.ensures e)
