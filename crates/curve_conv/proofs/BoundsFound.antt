@@ -6,7 +6,7 @@ use Rattle.rational.specs.Gauge.{size_up}
 use Rattle.rational.specs.Grid.{Whole}
 use Rattle.rational.specs.Extended.{Ext, ◌<ₑ◌}
 use Rattle.rational.specs.declared.Extended.TheVariants.{Fin, Inf}
-use Rattle.rational.proofs.Linear.{with3, with5, with7}
+use Rattle.rational.proofs.Linear.{with2, with3, with5, with7}
 use Rattle.rational.proofs.Laws.{le_refl, le_trans, le_of_lt, one_mul, mul_nonneg, mul_le_mul, mul_le_mul_right}
 use Rattle.rational.proofs.Integers.{nat_le, nat_nonneg}
 use Rattle.rational.proofs.Quotients.{div_le}
@@ -28,7 +28,7 @@ use Rattle.curve_call.specs.Bounds.{own_or}
 use Rattle.curve_call.specs.Levels.{level_curve}
 use Rattle.curve_call.specs.Compared.{IsLookedAt}
 use Rattle.curve_call.proofs.EitherOrder.{apart}
-use Rattle.curve_call.proofs.OwnPeriods.{own_period_is}
+use Rattle.curve_call.proofs.OwnPeriods.{limited_less, own_period_is}
 use Rattle.curve_call.proofs.RateRises.{rate_rise}
 use Rattle.curve_call.proofs.MostAbove.{own_repeats, finite_rate, not_falling, rates_order}
 use Rattle.curve_conv.specs.declared.extremes.Extremes.{Extremes}
@@ -43,26 +43,12 @@ use Rattle.curve_conv.proofs.Orders.{of_first, of_second, of_equal}
 -- ---- each curve, looked at from when on it repeats
 looked_from : (z : Sizes) (x d end : ℚ) (c : SpecCurve) → HasWindow z end c → Whole z.dt x → Whole z.dt d → int (pos 0) ≤ℚ x → int (pos 0) <ℚ d → x +ℚ d ≤ℚ end → steady c ≤ℚ x → IsWholePeriods c.tail d
     → IsLookedAt z x d c
-looked_from z x d end c W whole on low some early by periods =
-    let A = W.limited in
-    record {
-      limited = record {
-        sizes = record {
-          dv = A.sizes.dv;
-          dt = A.sizes.dt;
-          ds = A.sizes.ds;
-          steepness = A.sizes.steepness;
-          largest = A.sizes.largest;
-          window = whole_add z.dt x d whole on;
-          reach = le_trans (mul_le_mul (int (pos z.steepness)) (nat_nonneg z.steepness) early) A.sizes.reach;
-        };
-        gauge = A.gauge;
-        some = with3 x d d (λ c. omega (arith, c.le, c.lt, c.same));
-      };
-      start = whole;
-      some = some;
-      curve = record { curve = W.curve; stands = curve_earlier z (x +ℚ d) end c (curve_period c W.curve) early W.stands; steady_by = by; periods = periods };
-    }
+looked_from z x d end c W whole on low some early by periods = record {
+  limited = limited_less z end (x +ℚ d) W.limited (whole_add z.dt x d whole on) (with2 x d (λ c. omega (arith, c.le, c.lt, c.same))) early;
+  start = whole;
+  some = some;
+  curve = record { curve = W.curve; stands = curve_earlier z (x +ℚ d) end c (curve_period c W.curve) early W.stands; steady_by = by; periods = periods };
+}
 
 pub slow_looked : (slow fast : SpecCurve) (from d end : ℚ) → IsLateCall slow fast from d end → IsLookedAt (sizes_in slow fast end) (steady slow) d slow
 slow_looked slow fast from d end C =

@@ -10,6 +10,7 @@ use Rattle.rational.proofs.Laws.{le_refl, le_trans, le_of_lt, le_or_lt, lt_le_tr
 use Rattle.rational.proofs.MinMax.{min_q_one}
 use Rattle.upp_normal.specs.declared.ahead.Stretch.{Stretch}
 use Rattle.upp_limits.specs.Limits.{Sizes}
+use Rattle.upp_normal.specs.Operand.{AreLimited}
 use Rattle.upp_normal.specs.Ahead.{GoesOn, IsBeforeNext, AtNext}
 use Rattle.element_envelope.specs.ElementRoom.{WindowTime}
 use Rattle.element_envelope.specs.SumWindows.{SumStart}
@@ -22,7 +23,7 @@ use Rattle.curve_call.proofs.GapWalk.{NextTime, next_is, next_found}
 use Rattle.curve_conv.specs.Parts.{PartSplit, part_sum, IsPart, FirstLate, FirstEarly}
 use Rattle.curve_conv.specs.PartGaps.{PartGapStands, SumTimeTo, ArePartValues, HavePartValues}
 use Rattle.curve_conv.specs.Scans.{InPart}
-use Rattle.curve_conv.specs.Stretches.{SumPlace, IsAhead}
+use Rattle.curve_conv.specs.Stretches.{SumPlace, SumTimeIn, IsAhead}
 use Rattle.curve_conv.proofs.GapStretches.{larger_stands}
 use Rattle.curve_conv.proofs.GridSteps.{steps_to, fewer_steps}
 use Rattle.curve_conv.proofs.WalkGrid.{walk_grid, grid_some, place_on}
@@ -94,6 +95,29 @@ next_place z end t soonest next a b last h k l p q e f = record {
 
 pub next_to : (z : Sizes) (end t next : ℚ) (a b : Option ℚ) → int (pos 0) ≤ℚ t → NextPlace z end t next a b → SumTimeTo z end next
 next_to z end t next a b low N = record { place = N.place; nonneg = le_trans low (le_of_lt N.time.past); most = N.time.high }
+
+-- the step from t to the next time
+pub record GapStep (z : Sizes) (f g : ℚ → Ext) (first second end t next : ℚ) (late soon : Stretch) : Type 0 where
+  pub late : IsAhead (PartSplit (InPart first None None (int (pos 0)))) (part_sum f g (InPart first None None (int (pos 0)))) end t late
+  pub soon : IsAhead (PartSplit (InPart (int (pos 0)) None (Some first) second)) (part_sum f g (InPart (int (pos 0)) None (Some first) second)) end t soon
+  pub next : NextPlace z end t next late.next soon.next
+  pub time : SumTimeIn z end t
+  pub to : SumTimeTo z end next
+
+pub gap_step : (z : Sizes) (f g : ℚ → Ext) (first second from end t soonest next low : ℚ) (gap : Gap) (late soon : Stretch) → low ≡ int (pos 0) → AreLimited z end → WindowTime z end from
+    → PartGapWalk z f g first second from end t gap → t <ℚ end → IsAhead (PartSplit (InPart first None None low)) (part_sum f g (InPart first None None low)) end t late
+    → IsAhead (PartSplit (InPart low None (Some first) second)) (part_sum f g (InPart low None (Some first) second)) end t soon → AtNext (SumPlace z) late.next → AtNext (SumPlace z) soon.next
+    → soonest ≡ earlier_of end late.next → next ≡ earlier_of soonest soon.next → GapStep z f g first second end t next late soon
+gap_step z f g first second from end t soonest next low gap late soon zero L T W h A B p q e d =
+    let start = time_in z f g first second from end t gap T W h in
+    let N = next_place z end t soonest next late.next soon.next (inl L.sizes.window) h A.goes.next B.goes.next p q e d in
+    record {
+      late = subst (λ y. IsAhead (PartSplit (InPart first None None y)) (part_sum f g (InPart first None None y)) end t late) zero A;
+      soon = subst (λ y. IsAhead (PartSplit (InPart y None (Some first) second)) (part_sum f g (InPart y None (Some first) second)) end t soon) zero B;
+      next = N;
+      time = record { limited = L; start = start };
+      to = next_to z end t next late.next soon.next start.nonneg N;
+    }
 
 pub walk_step : (z : Sizes) (f g : ℚ → Ext) (first second from end t next : ℚ) (gap more : Gap) (late soon : Stretch) → PartGapWalk z f g first second from end t gap
     → IsAhead (PartSplit (InPart first None None (int (pos 0)))) (part_sum f g (InPart first None None (int (pos 0)))) end t late

@@ -26,7 +26,7 @@ use Rattle.curve_conv.specs.Stretches.{SumStretch, IsAhead, until_time, point_at
 use Rattle.curve_conv.specs.Scans.{IsEarly, IsLimit, InPart, or_else, is_time, time_or}
 use Rattle.curve_conv.proofs.Families.{both_ahead, same_ahead, empty_ahead}
 use Rattle.curve_conv.proofs.GridSteps.{steps_while, while_done, while_fewer}
-use Rattle.curve_conv.proofs.RowLoops.{at_of, before_until, until_before, early_before, early_after, early_at, early_limit, earlier, point_stands, open_stands, open_proper, at_next}
+use Rattle.curve_conv.proofs.RowLoops.{at_of, before_until, until_before, early_before, early_after, early_at, early_limit, earlier, point_stands, open_stands, open_proper, at_next, late_or, whole_or, limit_or}
 
 -- ---- the limit
 pub limit_all : (room : ℚ) → IsLimit room None room
@@ -229,10 +229,11 @@ to_stands z end limit x None None some most h w l U = tt
 to_stands z end limit x (Some e) None some most h w l U = U
 to_stands z end limit x until (Some y) some most h w l U = record { whole = w; nonneg = le_trans some (le_of_lt h); early = le_trans (le_of_lt l) most }
 
-pub part_facts : (z : Sizes) (f g : SpecCurve) (from : ℚ) (until : Option ℚ) (low room limit end t : ℚ) (least : Stretch) (x : ℚ) (here : Stretch) (next : Option ℚ) → WindowTime z end from → WindowTime z end low
-    → AtNext (WindowTime z end) until → room ≡ end -ℚ low → IsLimit room until limit → PartWalk z f g from until low limit end t least true x → HasWindow z end f → GoesOn (value_at f) x here
+pub part_facts : (z : Sizes) (f g : SpecCurve) (from : ℚ) (until : Option ℚ) (low room limit end t : ℚ) (least : Stretch) (more : Bool) (x : ℚ) (here : Stretch) (next : Option ℚ) → WindowTime z end from → WindowTime z end low
+    → AtNext (WindowTime z end) until → room ≡ end -ℚ low → IsLimit room until limit → more ≡ true → PartWalk z f g from until low limit end t least more x → HasWindow z end f → GoesOn (value_at f) x here
     → ((d : ℕ) → TimesStand d f → AtNext (Whole d) here.next) → (IsTimeIn z end x → OperandLineAt z here.line × GridValue z here.at) → IsEarly here.next limit next → CellFacts z end limit x until here next
-part_facts z f g from until low room limit end t least x here next F T U e L W V G times sizes E =
+part_facts z f g from until low room limit end t least more x here next F T U e L m W V G times sizes E =
+    let W : PartWalk z f g from until low limit end t least true x = subst (λ b. PartWalk z f g from until low limit end t least b x) m W in
     let time = walk_time z f g from until low room limit end t least x F T e L W in
     let past = early_after here.next limit next x E G.next in
     let whole = early_at (Whole z.dt) here.next limit next E (times z.dt (times_stand z end f V.curve V)) in
@@ -278,22 +279,10 @@ walk_step z f g from until low room limit end t least cell lesser x here next mo
     record {
       ahead = subst (λ n. IsAhead (PartSplit (InPart from n until low)) (part_sum (value_at f) (value_at g) (InPart from n until low)) end t lesser) at done;
       stands = stands;
-      late = subst (λ v. from ≤ℚ v) (sym ey) (later next K.past);
-      whole = subst (Whole z.dt) (sym ey) (stands_at next K.whole);
-      early = λ h. subst (λ v. v <ℚ limit) (sym ey) (before next K.limit_is (sym em ∙ h));
+      late = subst (λ v. from ≤ℚ v) (sym ey) (late_or from x next W.late K.past);
+      whole = subst (Whole z.dt) (sym ey) (whole_or z x next W.whole K.whole);
+      early = λ h. subst (λ v. v <ℚ limit) (sym ey) (limit_or limit x next K.limit_is (sym em ∙ h));
     }
-  where
-    later : (next : Option ℚ) → IsBeforeNext x next → from ≤ℚ time_or next x
-    later None h = W.late
-    later (Some y) h = le_trans W.late (le_of_lt h)
-
-    stands_at : (next : Option ℚ) → AtNext (Whole z.dt) next → Whole z.dt (time_or next x)
-    stands_at None h = W.whole
-    stands_at (Some y) h = h
-
-    before : (next : Option ℚ) → AtNext (λ y. y <ℚ limit) next → is_time next ≡ true → time_or next x <ℚ limit
-    before None h k = absurd (true≢false (sym k))
-    before (Some y) h k = h
 
 pub walk_fewer : (z : Sizes) (end limit x : ℚ) (until : Option ℚ) (here : Stretch) (next : Option ℚ) (more : Bool) (y : ℚ) → 0 < z.dt → Whole z.dt x → CellFacts z end limit x until here next → more ≡ is_time next
     → y ≡ time_or next x → steps_while more z.dt limit y < steps_while true z.dt limit x

@@ -253,17 +253,31 @@ cell_facts z g end room y here next V T most G times sizes E =
       limit = limit;
     }
 
-pub row_facts : (z : Sizes) (g : SpecCurve) (a : Element) (low room end t : ℚ) (least : Stretch) (y : ℚ) (here : Stretch) (next : Option ℚ) → OperandElement z end a → WindowTime z end low
-    → room ≡ end -ℚ start_of a → RowWalk z g a low room end t least true y → HasWindow z end g → GoesOn (value_at g) y here
+pub row_facts : (z : Sizes) (g : SpecCurve) (a : Element) (low room start end t : ℚ) (least : Stretch) (more : Bool) (y : ℚ) (here : Stretch) (next : Option ℚ) → OperandElement z end a → WindowTime z end low
+    → room ≡ end -ℚ start → start ≡ start_of a → more ≡ true → RowWalk z g a low room end t least more y → HasWindow z end g → GoesOn (value_at g) y here
     → ((d : ℕ) → TimesStand d g → AtNext (Whole d) here.next) → (IsTimeIn z end y → OperandLineAt z here.line × GridValue z here.at) → IsEarly here.next room next → CellFacts z end room y here next
-row_facts z g a low room end t least y here next E L e W V G times sizes N =
-    let T = walk_time z g a low room end t least y E L e W in
+row_facts z g a low room start end t least more y here next E L r b m W V G times sizes N =
+    let e : room ≡ end -ℚ start_of a = r ∙ ap (λ x. end -ℚ x) b in
+    let T = walk_time z g a low room end t least y E L e (subst (λ k. RowWalk z g a low room end t least k y) m W) in
     cell_facts z g end room y here next V T (room_most z end room a E e) G times (sizes T) N
 
 -- ---- one step
 pub at_next : (next : Option ℚ) (y : ℚ) → next ≡ at_of (is_time next) (time_or next y)
 at_next None y = refl
 at_next (Some x) y = refl
+
+-- the next time, or this one where there is none: that it is no earlier, on the grid, and before the limit where there is one
+pub late_or : (low y : ℚ) (next : Option ℚ) → low ≤ℚ y → IsBeforeNext y next → low ≤ℚ time_or next y
+late_or low y None late h = late
+late_or low y (Some x) late h = le_trans late (le_of_lt h)
+
+pub whole_or : (z : Sizes) (y : ℚ) (next : Option ℚ) → Whole z.dt y → AtNext (Whole z.dt) next → Whole z.dt (time_or next y)
+whole_or z y None whole h = whole
+whole_or z y (Some x) whole h = h
+
+pub limit_or : (limit y : ℚ) (next : Option ℚ) → AtNext (λ x. x <ℚ limit) next → is_time next ≡ true → time_or next y <ℚ limit
+limit_or limit y None h k = absurd (true≢false (sym k))
+limit_or limit y (Some x) h k = h
 
 pub walk_step : (z : Sizes) (g : SpecCurve) (a : Element) (low room end t : ℚ) (least cell lesser : Stretch) (y : ℚ) (here : Stretch) (next : Option ℚ) (more : Bool) (x : ℚ)
     → room ≡ end -ℚ start_of a → RowWalk z g a low room end t least true y → GoesOn (value_at g) y here → IsEarly here.next room next → CellFacts z end room y here next
@@ -281,22 +295,10 @@ walk_step z g a low room end t least cell lesser y here next more x e W G E F A 
     record {
       ahead = subst (λ n. IsAhead (RowSplit a (IsSpan low n)) (row_sum a (value_at g) (IsSpan low n)) end t lesser) at done;
       stands = stands;
-      late = subst (λ v. low ≤ℚ v) (sym ex) (later next F.past);
-      whole = subst (Whole z.dt) (sym ex) (stands_at next F.whole);
-      early = λ h. subst (λ v. v <ℚ room) (sym ex) (before next F.limit (sym em ∙ h));
+      late = subst (λ v. low ≤ℚ v) (sym ex) (late_or low y next W.late F.past);
+      whole = subst (Whole z.dt) (sym ex) (whole_or z y next W.whole F.whole);
+      early = λ h. subst (λ v. v <ℚ room) (sym ex) (limit_or room y next F.limit (sym em ∙ h));
     }
-  where
-    later : (next : Option ℚ) → IsBeforeNext y next → low ≤ℚ time_or next y
-    later None h = W.late
-    later (Some x) h = le_trans W.late (le_of_lt h)
-
-    stands_at : (next : Option ℚ) → AtNext (Whole z.dt) next → Whole z.dt (time_or next y)
-    stands_at None h = W.whole
-    stands_at (Some x) h = h
-
-    before : (next : Option ℚ) → AtNext (λ x. x <ℚ room) next → is_time next ≡ true → time_or next y <ℚ room
-    before None h k = absurd (true≢false (sym k))
-    before (Some x) h k = h
 
 pub walk_fewer : (z : Sizes) (end room y : ℚ) (here : Stretch) (next : Option ℚ) (more : Bool) (x : ℚ) → 0 < z.dt → Whole z.dt y → CellFacts z end room y here next → more ≡ is_time next → x ≡ time_or next y
     → steps_while more z.dt room x < steps_while true z.dt room y

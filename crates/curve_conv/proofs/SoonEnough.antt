@@ -8,7 +8,7 @@ use Rattle.rational.specs.Whole.{whole_part}
 use Rattle.rational.specs.Extended.{Ext, ◌≤ₑ◌, ◌+ₑ◌}
 use Rattle.rational.specs.declared.Extended.TheVariants.{Fin, Inf}
 use Rattle.rational.proofs.Linear.{with_atoms, with2, with3, with4, with5, with6, with7}
-use Rattle.rational.proofs.Laws.{le_trans, le_of_lt, le_or_lt, mul_sub, mul_nonneg, zero_mul}
+use Rattle.rational.proofs.Laws.{le_refl, le_trans, le_of_lt, le_or_lt, mul_sub, mul_nonneg, zero_mul}
 use Rattle.rational.proofs.Integers.{nat_nonneg}
 use Rattle.rational.proofs.Quotients.{div_le}
 use Rattle.rational.proofs.Whole.{whole_gt, one_more_times}
@@ -147,15 +147,21 @@ soon_after slow fast from d end q n C long R bound = λ t h l.
     past : (x y d from t v : ℚ) → from ≡ x +ℚ y +ℚ d → from +ℚ v ≤ℚ t → x +ℚ y +ℚ (v +ℚ d) ≤ℚ t
     past x y d from t v start late = with6 x y d from t v (λ c. omega (arith, c.le, c.lt, c.same))
 
+-- a split is moved by w, in which the faster curve rises by a
+pub moved_enough : (slow fast : SpecCurve) (from d end first q w a : ℚ) → IsLateCall slow fast from d end → first ≡ steady slow → int (pos 0) <ℚ w → w ≤ℚ d → Repeats (value_at fast) (steady fast) w a
+    → RisesAtMost (value_at slow) w first q → q ≤ℚ a → IsLateAfter slow fast from d 0
+moved_enough slow fast from d end first q w a C ef some short G R gain = λ t h l.
+    let W = late_times slow fast from d end C in
+    at_once (value_at slow) (value_at fast) (steady slow) (steady fast) w a q t W.second.nonneg some G (subst (λ x. RisesAtMost (value_at slow) w x q) ef R) gain
+    (past (steady slow) (steady fast) d from t (int (pos 0) *ℚ d) w C.from_is (zero_mul d) short h)
+  where
+    past : (x y d from t v w : ℚ) → from ≡ x +ℚ y +ℚ d → v ≡ int (pos 0) → w ≤ℚ d → from +ℚ v ≤ℚ t → x +ℚ y +ℚ w ≤ℚ t
+    past x y d from t v w start none short late = with7 x y d from t v w (λ c. omega (arith, c.le, c.lt, c.same))
+
 pub soon_at_once : (slow fast : SpecCurve) (from d end first q rise : ℚ) → IsLateCall slow fast from d end → first ≡ steady slow → rise ≡ rise_over fast d → RisesAtMost (value_at slow) d first q → q ≤ℚ rise
     → IsLateAfter slow fast from d 0
-soon_at_once slow fast from d end first q rise C ef er R gain = λ t h l.
-    let W = late_times slow fast from d end C in
-    at_once (value_at slow) (value_at fast) (steady slow) (steady fast) d (rise_over fast d) q t W.second.nonneg C.some (steady_rule fast d C.scan.second.curve.normal.raw C.second (le_of_lt C.some))
-    (subst (λ x. RisesAtMost (value_at slow) d x q) ef R) (subst (λ x. q ≤ℚ x) er gain) (past (steady slow) (steady fast) d from t (int (pos 0) *ℚ d) C.from_is (zero_mul d) h)
-  where
-    past : (x y d from t v : ℚ) → from ≡ x +ℚ y +ℚ d → v ≡ int (pos 0) → from +ℚ v ≤ℚ t → x +ℚ y +ℚ d ≤ℚ t
-    past x y d from t v start none late = with6 x y d from t v (λ c. omega (arith, c.le, c.lt, c.same))
+soon_at_once slow fast from d end first q rise C ef er R gain =
+    moved_enough slow fast from d end first q d (rise_over fast d) C ef C.some (le_refl d) (steady_rule fast d C.scan.second.curve.normal.raw C.second (le_of_lt C.some)) R (subst (λ x. q ≤ℚ x) er gain)
 
 -- as it is reckoned
 pub soon_number_is : (slow fast : SpecCurve) (from d end first q rise gained lead : ℚ) (r : Option ℕ) → IsLateCall slow fast from d end → first ≡ steady slow → first ≤ℚ d → RisesAtMost (value_at slow) d first q
@@ -167,19 +173,22 @@ soon_number_is slow fast from d end first q rise gained lead (Some n) C ef long 
     (subst (λ x. x ≤ℚ int (pos (n + 1)) *ℚ (rise_over fast d -ℚ rise_over slow d)) is (subst (λ x. gained ≤ℚ int (pos (n + 1)) *ℚ x) eq h))
 
 -- ---- the window
-pub soon_window : (slow fast : SpecCurve) (from d end x : ℚ) → IsLateCall slow fast from d end → x ≡ steady slow → HasLater slow x d
-soon_window slow fast from d end x C e =
+pub moved_window : (slow fast : SpecCurve) (from d end x w : ℚ) → IsLateCall slow fast from d end → x ≡ steady slow → int (pos 0) <ℚ w → w ≤ℚ d → Whole (sizes_in slow fast end).dt w → HasLater slow x w
+moved_window slow fast from d end x w C e some short whole =
     let W = late_times slow fast from d end C in (
       sizes_in slow fast end,
       end,
       record {
         window = C.scan.first;
         begin = subst (Whole (sizes_in slow fast end).dt) (sym e) W.first.whole;
-        period = C.whole;
-        some = C.some;
-        early = subst (λ y. y +ℚ d ≤ℚ end) (sym e) (early (steady slow) (steady fast) d from end W.second.nonneg C.some C.from_is C.end_is);
+        period = whole;
+        some = some;
+        early = subst (λ y. y +ℚ w ≤ℚ end) (sym e) (early (steady slow) (steady fast) d from end w W.second.nonneg C.some C.from_is C.end_is short);
       },
     )
   where
-    early : (x y d from end : ℚ) → int (pos 0) ≤ℚ y → int (pos 0) <ℚ d → from ≡ x +ℚ y +ℚ d → end ≡ from +ℚ d → x +ℚ d ≤ℚ end
-    early x y d from end a b e f = with5 x y d from end (λ c. omega (arith, c.le, c.lt, c.same))
+    early : (x y d from end w : ℚ) → int (pos 0) ≤ℚ y → int (pos 0) <ℚ d → from ≡ x +ℚ y +ℚ d → end ≡ from +ℚ d → w ≤ℚ d → x +ℚ w ≤ℚ end
+    early x y d from end w a b e f h = with6 x y d from end w (λ c. omega (arith, c.le, c.lt, c.same))
+
+pub soon_window : (slow fast : SpecCurve) (from d end x : ℚ) → IsLateCall slow fast from d end → x ≡ steady slow → HasLater slow x d
+soon_window slow fast from d end x C e = moved_window slow fast from d end x d C e C.some (le_refl d) C.whole

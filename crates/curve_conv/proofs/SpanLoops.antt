@@ -30,7 +30,7 @@ use Rattle.curve_conv.specs.Parts.{PartSplit, part_sum, IsPart}
 use Rattle.curve_conv.specs.Stretches.{IsAhead, until_time, point_at, open_at, IsProperPart, OperandPart}
 use Rattle.curve_conv.specs.Scans.{IsEarly, IsLimit, InPart, or_else, is_time, time_or}
 use Rattle.curve_conv.specs.SpanElements.{listed, ReadsAs, AreSpanElements, IsPartWindow}
-use Rattle.curve_conv.proofs.RowLoops.{at_of, before_until, until_before, early_before, early_after, early_at, early_limit, point_stands, point_proper, open_stands, open_proper, at_next}
+use Rattle.curve_conv.proofs.RowLoops.{at_of, before_until, until_before, early_before, early_after, early_at, early_limit, point_stands, point_proper, open_stands, open_proper, at_next, late_or, whole_or, limit_or}
 use Rattle.curve_conv.proofs.PartLoops.{CellFacts, to_stands, before_or, or_next, or_until}
 
 -- ---- an element that may be missing
@@ -235,18 +235,6 @@ span_step z f from until limit end es fs x here next more y F L W G E K is em ey
       | inr (inr k) ↦ third s (open_found (value_at f) from limit end x until here next s v N k (before_at s b) m l e)
     ]
 
-    later : (next : Option ℚ) → IsBeforeNext x next → from ≤ℚ time_or next x
-    later None h = W.late
-    later (Some y) h = le_trans W.late (le_of_lt h)
-
-    stands_at : (next : Option ℚ) → AtNext (Whole z.dt) next → Whole z.dt (time_or next x)
-    stands_at None h = W.whole
-    stands_at (Some y) h = h
-
-    before : (next : Option ℚ) → AtNext (λ y. y <ℚ limit) next → is_time next ≡ true → time_or next x <ℚ limit
-    before None h k = absurd (true≢false (sym k))
-    before (Some y) h k = h
-
     step : SpanWalk z f from until limit end all more y
     step = record {
       proper = λ e h. cases e h (λ k. W.proper e k) (λ k. part_proper point e k (point_proper x here.at)) (λ k. part_proper after e k K.proper);
@@ -254,9 +242,9 @@ span_step z f from until limit end es fs x here next more y F L W G E K is em ey
       reads_late = λ e s h c. cases e h (λ k. W.reads_late e s k c) (λ k. P.late e s k c) (λ k. A.late e s k c);
       reads = λ e s h c l. cases e h (λ k. W.reads e s k c l) (λ k. P.reads e s k c l) (λ k. A.reads e s k c l);
       found = found;
-      late = subst (λ v. from ≤ℚ v) (sym ey) (later next K.past);
-      whole = subst (Whole z.dt) (sym ey) (stands_at next K.whole);
-      early = λ h. subst (λ v. v <ℚ limit) (sym ey) (before next K.limit_is (sym em ∙ h));
+      late = subst (λ v. from ≤ℚ v) (sym ey) (late_or from x next W.late K.past);
+      whole = subst (Whole z.dt) (sym ey) (whole_or z x next W.whole K.whole);
+      early = λ h. subst (λ v. v <ℚ limit) (sym ey) (limit_or limit x next K.limit_is (sym em ∙ h));
     }
 
 pub span_end : (z : Sizes) (f : SpecCurve) (from : ℚ) (until : Option ℚ) (limit end : ℚ) (es : List Element) (x : ℚ) → IsLimit end until limit → SpanWalk z f from until limit end es false x

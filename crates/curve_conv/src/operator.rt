@@ -16,7 +16,9 @@ ghost use Rattle.plain_operators.specs.pointwise.Lattice.{RisesBy};
 ghost use Rattle.curve_conv.specs.ConvolveCall.{IsConvolveFrame};
 
 use crate::{is_slower_curve, late_bounds, late_periods};
-use curve_call::{CallWindow, Frame, answer, first_window, refuse_between, rise_over, within};
+use curve_call::{
+    CallWindow, Frame, first_window, framed_answer, refuse_between, rise_over, within,
+};
 use element_envelope::window_convolution;
 use fraction128::{Frac, difference};
 use outcomes::Steps;
@@ -63,15 +65,7 @@ fn convolved_within(alloc: Global, f: &Curve, g: &Curve, frame: &Frame) -> Resul
     let right = unrolled(g, frame.end)?;
     let pieces = window_convolution(alloc, &left, &right, frame.end)?;
     let repeats = repetition(f, g, frame);
-    answer(
-        alloc,
-        pieces,
-        repeats.0,
-        frame.period,
-        repeats.1,
-        frame.times,
-        frame.values,
-    )
+    framed_answer(alloc, pieces, repeats.0, repeats.1, frame)
 }
 
 // The frame with the least number of periods.

@@ -181,6 +181,31 @@ passing_lag c q R low steep high e =
           (apart z s u u_near));
     }
 
+-- the first's line at t is no higher than the second ends, but higher than it starts: that is as high q later
+record IsMet (c : Cell) (t q : ℚ) : Type 0 where
+  some : int (pos 0) <ℚ c.second.slope
+  is : line_at c.second (t +ℚ q) ≡ line_at c.first t
+  past : c.from <ℚ t +ℚ q
+  early : t +ℚ q ≤ℚ c.until
+
+met : (c : Cell) (t q : ℚ) → RisingCell c → line_at c.first t ≤ℚ line_at c.second c.until → line_at c.second c.from <ℚ line_at c.first t → q *ℚ c.second.slope ≡ line_at c.first t -ℚ line_at c.second t → IsMet c t q
+met c t q R low high e =
+    let l = c.second in
+    let some : int (pos 0) <ℚ l.slope = gets_higher l c.from c.until R.second (lt_le_trans high low) in
+    let is : line_at l (t +ℚ q) ≡ line_at c.first t = reached c.first l t q e in
+    record {
+      some = some;
+      is = is;
+      past = value_later l c.from (t +ℚ q) R.second (subst (λ x. line_at l c.from <ℚ x) (sym is) high);
+      early = not_earlier l (t +ℚ q) c.until some (subst (λ x. x ≤ℚ line_at l c.until) (sym is) low);
+    }
+
+-- and lower just before
+just_before : (c : Cell) (t q z : ℚ) → IsMet c t q → z <ℚ q → (u : ℚ) × (c.from <ℚ u) × (z +ℚ t <ℚ u) × (u <ℚ c.until) × (line_at c.second u <ℚ line_at c.first t)
+just_before c t q z M h =
+    let (u, u_past, u_near, u_end) = after_both c.from (z +ℚ t) (t +ℚ q) M.past (with3 z t q (λ c. omega (arith, c.le, c.lt, c.same))) in
+    (u, u_past, u_near, lt_le_trans u_end M.early, subst (λ x. line_at c.second u <ℚ x) M.is (rises_more c.second u (t +ℚ q) M.some u_end))
+
 -- it ends no higher than the second ends, but higher than the second starts
 pub ending_lag : (c : Cell) (q : ℚ) → RisingCell c → c.second.slope <ℚ c.first.slope → line_at c.first c.end ≤ℚ line_at c.second c.until → line_at c.second c.from <ℚ line_at c.first c.end
     → q *ℚ c.second.slope ≡ line_at c.first c.end -ℚ line_at c.second c.end → IsCellLag c q
@@ -188,25 +213,21 @@ ending_lag c q R steep low high e =
     let t = c.end in
     let k = c.first in
     let l = c.second in
-    let some : int (pos 0) <ℚ l.slope = gets_higher l c.from c.until R.second (lt_le_trans high low) in
-    let is : line_at l (t +ℚ q) ≡ line_at k t = reached k l t q e in
-    let last : t +ℚ q ≤ℚ c.until = not_earlier l (t +ℚ q) c.until some (subst (λ x. x ≤ℚ line_at l c.until) (sym is) low) in
-    let first : c.from <ℚ t +ℚ q = value_later l c.from (t +ℚ q) R.second (subst (λ x. line_at l c.from <ℚ x) (sym is) high) in
+    let M = met c t q R low high e in
     record {
       most = λ s u b.
           let d = t -ℚ s in
           let h = b.end in
           let on : line_at l (t +ℚ (u -ℚ s)) <ℚ line_at k t = slide_on k l s u d t (t +ℚ (u -ℚ s)) (le_of_lt steep) (with2 t s (λ c. omega (arith, c.le, c.lt, c.same))) b.below
           (with2 t s (λ c. omega (arith, c.le, c.lt, c.same))) (with3 t s u (λ c. omega (arith, c.le, c.lt, c.same))) in
-          let m = value_later l (t +ℚ (u -ℚ s)) (t +ℚ q) R.second (subst (λ x. line_at l (t +ℚ (u -ℚ s)) <ℚ x) (sym is) on) in
+          let m = value_later l (t +ℚ (u -ℚ s)) (t +ℚ q) R.second (subst (λ x. line_at l (t +ℚ (u -ℚ s)) <ℚ x) (sym M.is) on) in
           inl (with4 t q u s (λ c. omega (arith, c.le, c.lt, c.same)));
       near = λ z h.
-          let (u, u_past, u_near, u_end) = after_both c.from (z +ℚ t) (t +ℚ q) first (with3 z t q (λ c. omega (arith, c.le, c.lt, c.same))) in
-          let under : line_at l u <ℚ line_at k t = subst (λ x. line_at l u <ℚ x) is (rises_more l u (t +ℚ q) some u_end) in
+          let (u, u_past, u_near, u_end, under) = just_before c t q z M h in
           let (i, more) = (rising_supremum c.start t k.icept k.slope R.start R.first).near (line_at l u) under in
           let s = i.at in
           let s_end = i.below in
-          inr (behind_by c s u i.above s_end u_past (lt_le_trans u_end last)
+          inr (behind_by c s u i.above s_end u_past u_end
           more
           (apart_sooner z s u t u_near s_end));
     }
@@ -229,23 +250,19 @@ starting_lag c q R gentle low high e =
     let t = c.start in
     let k = c.first in
     let l = c.second in
-    let some : int (pos 0) <ℚ l.slope = gets_higher l c.from c.until R.second (lt_le_trans high low) in
-    let is : line_at l (t +ℚ q) ≡ line_at k t = reached k l t q e in
-    let last : t +ℚ q ≤ℚ c.until = not_earlier l (t +ℚ q) c.until some (subst (λ x. x ≤ℚ line_at l c.until) (sym is) low) in
-    let first : c.from <ℚ t +ℚ q = value_later l c.from (t +ℚ q) R.second (subst (λ x. line_at l c.from <ℚ x) (sym is) high) in
+    let M = met c t q R low high e in
     record {
       most = λ s u b.
           let d = s -ℚ t in
           let h = b.start in
           let on : line_at l (t +ℚ (u -ℚ s)) <ℚ line_at k t = slide_back k l s u d t (t +ℚ (u -ℚ s)) gentle (with2 t s (λ c. omega (arith, c.le, c.lt, c.same))) b.below
           (with2 t s (λ c. omega (arith, c.le, c.lt, c.same))) (with3 t s u (λ c. omega (arith, c.le, c.lt, c.same))) in
-          let m = value_later l (t +ℚ (u -ℚ s)) (t +ℚ q) R.second (subst (λ x. line_at l (t +ℚ (u -ℚ s)) <ℚ x) (sym is) on) in
+          let m = value_later l (t +ℚ (u -ℚ s)) (t +ℚ q) R.second (subst (λ x. line_at l (t +ℚ (u -ℚ s)) <ℚ x) (sym M.is) on) in
           inl (with4 t q u s (λ c. omega (arith, c.le, c.lt, c.same)));
       near = λ z h.
-          let (u, u_past, u_near, u_end) = after_both c.from (z +ℚ t) (t +ℚ q) first (with3 z t q (λ c. omega (arith, c.le, c.lt, c.same))) in
-          let under : line_at l u <ℚ line_at k t = subst (λ x. line_at l u <ℚ x) is (rises_more l u (t +ℚ q) some u_end) in
+          let (u, u_past, u_near, u_end, under) = just_before c t q z M h in
           let (s, s_past, s_end, s_near) = before_both t c.end (u -ℚ z) R.start (with3 u z t (λ c. omega (arith, c.le, c.lt, c.same))) in
-          inr (behind_by c s u s_past s_end u_past (lt_le_trans u_end last)
+          inr (behind_by c s u s_past s_end u_past u_end
           (starting_below c t s u R under s_past)
           (before_gap z s u s_near));
     }

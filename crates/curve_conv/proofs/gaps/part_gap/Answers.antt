@@ -1,17 +1,15 @@
 use Rattle.std.specs.Prelude.{pos, Some, None, IfSome}
-use Rattle.std.proofs.Common.{refl, sym, subst, inl, true≢false}
+use Rattle.std.proofs.Common.{refl, sym, subst, true≢false}
 use Rattle.rational.specs.Rational.{int}
 use Rattle.rational.proofs.Laws.{le_refl}
 use Rattle.rational.proofs.Grid.{whole_int}
 use Rattle.upp_curve.specs.Curve.{value_at}
 use Rattle.element_envelope.specs.ElementRoom.{WindowTime}
 use Rattle.curve_call.specs.Gaps.{InWindow, IsGap}
-use Rattle.curve_conv.specs.Parts.{PartSplit, part_sum}
 use Rattle.curve_conv.specs.PartGaps.{ArePartValues}
-use Rattle.curve_conv.specs.Scans.{sizes_in, InPart}
+use Rattle.curve_conv.specs.Scans.{sizes_in}
 use Rattle.curve_conv.specs.SpanElements.{IsPartWindow}
-use Rattle.curve_conv.specs.Stretches.{SumTimeIn, IsAhead}
-use Rattle.curve_conv.proofs.GapWalks.{PartGapWalk, walk_start, time_in, next_place, next_to, walk_step, walk_fewer, walk_end}
+use Rattle.curve_conv.proofs.GapWalks.{PartGapWalk, walk_start, time_in, gap_step, walk_step, walk_fewer, walk_end}
 use Rattle.curve_conv.proofs.gaps.part_gap.Goals as goal
 
 pub times-init : goal.times-init
@@ -29,9 +27,7 @@ pub part_at-late-requires-clause-time : goal.part_at-late-requires-clause-time
 part_at-late-requires-clause-time c =
     let s = c.args.s.now in
     let z = sizes_in s.first.now s.second.now s.end in
-    let W = c.times.invariant in
-    let start = time_in z (value_at s.first.now) (value_at s.second.now) c.args.first c.args.second c.args.from s.end c.times.t c.times.gap c.requires.from W (c.times-test.ensures.less.0 refl) in
-    start
+    time_in z (value_at s.first.now) (value_at s.second.now) c.args.first c.args.second c.args.from s.end c.times.t c.times.gap c.requires.from c.times.invariant (c.times-test.ensures.less.0 refl)
 
 pub part_at-soon-requires-clause-from : goal.part_at-soon-requires-clause-from
 part_at-soon-requires-clause-from c =
@@ -43,75 +39,47 @@ pub part_at-soon-requires-clause-time : goal.part_at-soon-requires-clause-time
 part_at-soon-requires-clause-time c =
     let s = c.args.s.now in
     let z = sizes_in s.first.now s.second.now s.end in
-    let W = c.times.invariant in
-    let start = time_in z (value_at s.first.now) (value_at s.second.now) c.args.first c.args.second c.args.from s.end c.times.t c.times.gap c.requires.from W (c.times-test.ensures.less.0 refl) in
-    start
+    time_in z (value_at s.first.now) (value_at s.second.now) c.args.first c.args.second c.args.from s.end c.times.t c.times.gap c.requires.from c.times.invariant (c.times-test.ensures.less.0 refl)
 
 pub stretch_gap-more-requires-clause-sizes : goal.stretch_gap-more-requires-clause-sizes
 stretch_gap-more-requires-clause-sizes c =
     let s = c.args.s.now in
     let z = sizes_in s.first.now s.second.now s.end in
-    let zero = c.zero-zero.ensures in
-    let W = c.times.invariant in
-    let start = time_in z (value_at s.first.now) (value_at s.second.now) c.args.first c.args.second c.args.from s.end c.times.t c.times.gap c.requires.from W (c.times-test.ensures.less.0 refl) in
-    let A = subst (λ y. IsAhead (PartSplit (InPart c.args.first None None y)) (part_sum (value_at s.first.now) (value_at s.second.now) (InPart c.args.first None None y)) s.end c.times.t c.part_at-late.result) zero c.part_at-late.ensures.ahead in
-    let B = subst (λ y. IsAhead (PartSplit (InPart y None (Some c.args.first) c.args.second)) (part_sum (value_at s.first.now) (value_at s.second.now) (InPart y None (Some c.args.first) c.args.second)) s.end c.times.t
-    c.part_at-soon.result) zero c.part_at-soon.ensures.ahead in
-    let N = next_place z s.end c.times.t c.earlier.result c.earlier-next.result c.part_at-late.result.next c.part_at-soon.result.next (inl c.requires.scan.first.limited.sizes.window) (c.times-test.ensures.less.0 refl) A.goes.next
-    B.goes.next c.part_at-late.ensures.sizes.next c.part_at-soon.ensures.sizes.next c.earlier.ensures c.earlier-next.ensures in
-    let T : SumTimeIn z s.end c.times.t = record { limited = c.requires.scan.first.limited; start = start } in
-    let U = next_to z s.end c.times.t c.earlier-next.result c.part_at-late.result.next c.part_at-soon.result.next start.nonneg N in
-    (z, s.end, T, U, c.part_at-late.ensures.sizes, c.part_at-soon.ensures.sizes)
+    let F = gap_step z (value_at s.first.now) (value_at s.second.now) c.args.first c.args.second c.args.from s.end c.times.t c.earlier.result c.earlier-next.result c.zero-zero.result c.times.gap
+    c.part_at-late.result c.part_at-soon.result c.zero-zero.ensures c.requires.scan.first.limited c.requires.from c.times.invariant (c.times-test.ensures.less.0 refl) c.part_at-late.ensures.ahead
+    c.part_at-soon.ensures.ahead c.part_at-late.ensures.sizes.next c.part_at-soon.ensures.sizes.next c.earlier.ensures c.earlier-next.ensures in
+    (z, s.end, F.time, F.to, c.part_at-late.ensures.sizes, c.part_at-soon.ensures.sizes)
 
 pub stretch_gap-more-requires-clause-some : goal.stretch_gap-more-requires-clause-some
 stretch_gap-more-requires-clause-some c =
     let s = c.args.s.now in
     let z = sizes_in s.first.now s.second.now s.end in
-    let zero = c.zero-zero.ensures in
-    let W = c.times.invariant in
-    let start = time_in z (value_at s.first.now) (value_at s.second.now) c.args.first c.args.second c.args.from s.end c.times.t c.times.gap c.requires.from W (c.times-test.ensures.less.0 refl) in
-    let A = subst (λ y. IsAhead (PartSplit (InPart c.args.first None None y)) (part_sum (value_at s.first.now) (value_at s.second.now) (InPart c.args.first None None y)) s.end c.times.t c.part_at-late.result) zero c.part_at-late.ensures.ahead in
-    let B = subst (λ y. IsAhead (PartSplit (InPart y None (Some c.args.first) c.args.second)) (part_sum (value_at s.first.now) (value_at s.second.now) (InPart y None (Some c.args.first) c.args.second)) s.end c.times.t
-    c.part_at-soon.result) zero c.part_at-soon.ensures.ahead in
-    let N = next_place z s.end c.times.t c.earlier.result c.earlier-next.result c.part_at-late.result.next c.part_at-soon.result.next (inl c.requires.scan.first.limited.sizes.window) (c.times-test.ensures.less.0 refl) A.goes.next
-    B.goes.next c.part_at-late.ensures.sizes.next c.part_at-soon.ensures.sizes.next c.earlier.ensures c.earlier-next.ensures in
-    let T : SumTimeIn z s.end c.times.t = record { limited = c.requires.scan.first.limited; start = start } in
-    let U = next_to z s.end c.times.t c.earlier-next.result c.part_at-late.result.next c.part_at-soon.result.next start.nonneg N in
-    N.time.past
+    let F = gap_step z (value_at s.first.now) (value_at s.second.now) c.args.first c.args.second c.args.from s.end c.times.t c.earlier.result c.earlier-next.result c.zero-zero.result c.times.gap
+    c.part_at-late.result c.part_at-soon.result c.zero-zero.ensures c.requires.scan.first.limited c.requires.from c.times.invariant (c.times-test.ensures.less.0 refl) c.part_at-late.ensures.ahead
+    c.part_at-soon.ensures.ahead c.part_at-late.ensures.sizes.next c.part_at-soon.ensures.sizes.next c.earlier.ensures c.earlier-next.ensures in
+    F.next.time.past
 
 pub times-smaller : goal.times-smaller
 times-smaller c =
     let s = c.args.s.now in
     let z = sizes_in s.first.now s.second.now s.end in
-    let zero = c.zero-zero.ensures in
-    let W = c.times.invariant in
-    let start = time_in z (value_at s.first.now) (value_at s.second.now) c.args.first c.args.second c.args.from s.end c.times.t c.times.gap c.requires.from W (c.times-test.ensures.less.0 refl) in
-    let A = subst (λ y. IsAhead (PartSplit (InPart c.args.first None None y)) (part_sum (value_at s.first.now) (value_at s.second.now) (InPart c.args.first None None y)) s.end c.times.t c.part_at-late.result) zero c.part_at-late.ensures.ahead in
-    let B = subst (λ y. IsAhead (PartSplit (InPart y None (Some c.args.first) c.args.second)) (part_sum (value_at s.first.now) (value_at s.second.now) (InPart y None (Some c.args.first) c.args.second)) s.end c.times.t
-    c.part_at-soon.result) zero c.part_at-soon.ensures.ahead in
-    let N = next_place z s.end c.times.t c.earlier.result c.earlier-next.result c.part_at-late.result.next c.part_at-soon.result.next (inl c.requires.scan.first.limited.sizes.window) (c.times-test.ensures.less.0 refl) A.goes.next
-    B.goes.next c.part_at-late.ensures.sizes.next c.part_at-soon.ensures.sizes.next c.earlier.ensures c.earlier-next.ensures in
-    let T : SumTimeIn z s.end c.times.t = record { limited = c.requires.scan.first.limited; start = start } in
-    let U = next_to z s.end c.times.t c.earlier-next.result c.part_at-late.result.next c.part_at-soon.result.next start.nonneg N in
-    walk_fewer z s.end c.times.t c.earlier-next.result c.part_at-late.result.next c.part_at-soon.result.next c.requires.scan.first.limited.sizes.dv c.requires.scan.first.limited.sizes.dt W.place N
+    let F = gap_step z (value_at s.first.now) (value_at s.second.now) c.args.first c.args.second c.args.from s.end c.times.t c.earlier.result c.earlier-next.result c.zero-zero.result c.times.gap
+    c.part_at-late.result c.part_at-soon.result c.zero-zero.ensures c.requires.scan.first.limited c.requires.from c.times.invariant (c.times-test.ensures.less.0 refl) c.part_at-late.ensures.ahead
+    c.part_at-soon.ensures.ahead c.part_at-late.ensures.sizes.next c.part_at-soon.ensures.sizes.next c.earlier.ensures c.earlier-next.ensures in
+    walk_fewer z s.end c.times.t c.earlier-next.result c.part_at-late.result.next c.part_at-soon.result.next c.requires.scan.first.limited.sizes.dv c.requires.scan.first.limited.sizes.dt
+    c.times.invariant.place F.next
 
 pub times-preserved : goal.times-preserved
 times-preserved c =
     let s = c.args.s.now in
     let z = sizes_in s.first.now s.second.now s.end in
-    let zero = c.zero-zero.ensures in
-    let W = c.times.invariant in
-    let start = time_in z (value_at s.first.now) (value_at s.second.now) c.args.first c.args.second c.args.from s.end c.times.t c.times.gap c.requires.from W (c.times-test.ensures.less.0 refl) in
-    let A = subst (λ y. IsAhead (PartSplit (InPart c.args.first None None y)) (part_sum (value_at s.first.now) (value_at s.second.now) (InPart c.args.first None None y)) s.end c.times.t c.part_at-late.result) zero c.part_at-late.ensures.ahead in
-    let B = subst (λ y. IsAhead (PartSplit (InPart y None (Some c.args.first) c.args.second)) (part_sum (value_at s.first.now) (value_at s.second.now) (InPart y None (Some c.args.first) c.args.second)) s.end c.times.t
-    c.part_at-soon.result) zero c.part_at-soon.ensures.ahead in
-    let N = next_place z s.end c.times.t c.earlier.result c.earlier-next.result c.part_at-late.result.next c.part_at-soon.result.next (inl c.requires.scan.first.limited.sizes.window) (c.times-test.ensures.less.0 refl) A.goes.next
-    B.goes.next c.part_at-late.ensures.sizes.next c.part_at-soon.ensures.sizes.next c.earlier.ensures c.earlier-next.ensures in
-    let T : SumTimeIn z s.end c.times.t = record { limited = c.requires.scan.first.limited; start = start } in
-    let U = next_to z s.end c.times.t c.earlier-next.result c.part_at-late.result.next c.part_at-soon.result.next start.nonneg N in
+    let F = gap_step z (value_at s.first.now) (value_at s.second.now) c.args.first c.args.second c.args.from s.end c.times.t c.earlier.result c.earlier-next.result c.zero-zero.result c.times.gap
+    c.part_at-late.result c.part_at-soon.result c.zero-zero.ensures c.requires.scan.first.limited c.requires.from c.times.invariant (c.times-test.ensures.less.0 refl) c.part_at-late.ensures.ahead
+    c.part_at-soon.ensures.ahead c.part_at-late.ensures.sizes.next c.part_at-soon.ensures.sizes.next c.earlier.ensures c.earlier-next.ensures in
     subst (PartGapWalk z (value_at s.first.now) (value_at s.second.now) c.args.first c.args.second c.args.from s.end c.earlier-next.result) (sym c.larger-gap.ensures)
-    (walk_step z (value_at s.first.now) (value_at s.second.now) c.args.first c.args.second c.args.from s.end c.times.t c.earlier-next.result c.times.gap c.stretch_gap-more.result c.part_at-late.result c.part_at-soon.result W A B N
-    (λ a b F G h k. c.stretch_gap-more.ensures.gap a b F G h k) (c.stretch_gap-more.ensures.sizes z s.end T U c.part_at-late.ensures.sizes c.part_at-soon.ensures.sizes))
+    (walk_step z (value_at s.first.now) (value_at s.second.now) c.args.first c.args.second c.args.from s.end c.times.t c.earlier-next.result c.times.gap c.stretch_gap-more.result c.part_at-late.result
+    c.part_at-soon.result c.times.invariant F.late F.soon F.next (λ a b G H h k. c.stretch_gap-more.ensures.gap a b G H h k)
+    (c.stretch_gap-more.ensures.sizes z s.end F.time F.to c.part_at-late.ensures.sizes c.part_at-soon.ensures.sizes))
 
 pub returns-clause-gap : goal.returns-clause-gap
 returns-clause-gap c a b V =

@@ -1,15 +1,18 @@
 use Rattle.std.proofs.Common.{sym, true≢false}
 use Rattle.rational.proofs.Laws.{le_of_not_lt}
-use Rattle.curve_conv.proofs.OwnMoves.{move_window, move_enough}
+use Rattle.curve_conv.proofs.SoonEnough.{moved_window, moved_enough}
 use Rattle.curve_conv.proofs.moved.is_no_more.Goals as goal
 
 pub rise_before-requires : goal.rise_before-requires
 rise_before-requires c =
     let s = c.args.s.now in
-    move_window s.first.now s.second.now c.args.from c.args.period s.end c.args.first c.in-Some.m c.requires.call c.requires.first c.in-Some.ensures
+    let M = c.in-Some.ensures in
+    moved_window s.first.now s.second.now c.args.from c.args.period s.end c.args.first c.in-Some.m.time c.requires.call c.requires.first M.some M.early M.whole
 
 pub returns : goal.returns
 returns c = λ h.
     let s = c.args.s.now in
-    move_enough s.first.now s.second.now c.args.from c.args.period s.end c.args.first c.in-Some-rise_before.most c.in-Some.m c.requires.call c.requires.first c.in-Some.ensures c.in-Some-rise_before.ensures
+    let M = c.in-Some.ensures in
+    moved_enough s.first.now s.second.now c.args.from c.args.period s.end c.args.first c.in-Some-rise_before.most c.in-Some.m.time c.in-Some.m.rise c.requires.call c.requires.first M.some M.early M.repeats
+    c.in-Some-rise_before.ensures
     (le_of_not_lt (λ h. true≢false (sym (c.if-is_less.ensures.less.1 h))))

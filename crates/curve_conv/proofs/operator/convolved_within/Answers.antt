@@ -18,15 +18,15 @@ repetition-repeats-requires-clause-second c = let r = c.args.frame.now in let F 
 pub repetition-repeats-requires-clause-fits : goal.repetition-repeats-requires-clause-fits
 repetition-repeats-requires-clause-fits c = let r = c.args.frame.now in let F = c.requires in from_fits c.args.f.now c.args.g.now r.start r.period r.end (F.number + 1) F.sizes F.call
 
-pub answer-requires : goal.answer-requires
-answer-requires c =
+pub framed_answer-requires : goal.framed_answer-requires
+framed_answer-requires c =
     convolved_answer c.args.f.now c.args.g.now c.args.frame.now c.deref.result.now c.deref-2.result.now c.in_ok-pieces.pieces.items c.repetition-repeats.result.0 c.repetition-repeats.result.1 c.requires
     (c.deref.ensures.value ∙ c.in_ok-left.ensures) (c.deref-2.ensures.value ∙ c.in_ok-right.ensures) c.in_ok-pieces.ensures c.repetition-repeats.ensures.from c.repetition-repeats.ensures.rise
 
 pub returns : goal.returns
 returns c =
-    ok_map c.answer.result _ _
+    ok_map c.framed_answer.result _ _
     (λ a h.
     convolved_values c.args.f.now c.args.g.now c.args.frame.now c.deref.result.now c.deref-2.result.now c.in_ok-pieces.pieces.items c.repetition-repeats.result.0 c.repetition-repeats.result.1 a c.requires
     (c.deref.ensures.value ∙ c.in_ok-left.ensures) (c.deref-2.ensures.value ∙ c.in_ok-right.ensures) c.in_ok-pieces.ensures c.repetition-repeats.ensures.from c.repetition-repeats.ensures.rise h)
-    c.answer.ensures
+    c.framed_answer.ensures

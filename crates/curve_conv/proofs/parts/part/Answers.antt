@@ -37,23 +37,18 @@ pub cell_part-cell-requires-clause-point : goal.cell_part-cell-requires-clause-p
 cell_part-cell-requires-clause-point c =
     let s = c.args.s.now in
     let z = sizes_in s.first.now s.second.now s.end in
-    let W = subst (λ b. PartWalk z s.first.now s.second.now c.args.from c.args.until.now c.args.low c.limit_of-limit.result s.end c.args.t c.cells.least b c.cells.x) c.cells-test.true c.cells.invariant in
-    let F = part_facts z s.first.now s.second.now c.args.from c.args.until.now c.args.low c.difference-room.result c.limit_of-limit.result s.end c.args.t c.cells.least c.cells.x c.stretch_at-here.result
-    c.early-next.result c.requires.from c.requires.low c.requires.until c.difference-room.ensures c.limit_of-limit.ensures W c.requires.scan.first c.stretch_at-here.ensures.goes c.stretch_at-here.ensures.times
-    (c.stretch_at-here.ensures.sizes z s.end c.requires.scan.first) c.early-next.ensures in
-    let T : SumTimeIn z s.end c.args.t = record { limited = c.requires.scan.first.limited; start = c.requires.time } in
-    let e_after = c.open_at-after.ensures ∙ ap (λ o. open_at c.cells.x o c.stretch_at-here.result.line) c.or_else-to.ensures in
+    let F = part_facts z s.first.now s.second.now c.args.from c.args.until.now c.args.low c.difference-room.result c.limit_of-limit.result s.end c.args.t c.cells.least c.cells.more c.cells.x c.stretch_at-here.result
+    c.early-next.result c.requires.from c.requires.low c.requires.until c.difference-room.ensures c.limit_of-limit.ensures c.cells-test.true c.cells.invariant c.requires.scan.first c.stretch_at-here.ensures.goes
+    c.stretch_at-here.ensures.times (c.stretch_at-here.ensures.sizes z s.end c.requires.scan.first) c.early-next.ensures in
     (subst (OperandPart z s.end) (sym c.point_at-point.ensures) F.point, subst IsProperPart (sym c.point_at-point.ensures) (point_proper c.cells.x c.stretch_at-here.result.at))
 
 pub cell_part-cell-requires-clause-after : goal.cell_part-cell-requires-clause-after
 cell_part-cell-requires-clause-after c =
     let s = c.args.s.now in
     let z = sizes_in s.first.now s.second.now s.end in
-    let W = subst (λ b. PartWalk z s.first.now s.second.now c.args.from c.args.until.now c.args.low c.limit_of-limit.result s.end c.args.t c.cells.least b c.cells.x) c.cells-test.true c.cells.invariant in
-    let F = part_facts z s.first.now s.second.now c.args.from c.args.until.now c.args.low c.difference-room.result c.limit_of-limit.result s.end c.args.t c.cells.least c.cells.x c.stretch_at-here.result
-    c.early-next.result c.requires.from c.requires.low c.requires.until c.difference-room.ensures c.limit_of-limit.ensures W c.requires.scan.first c.stretch_at-here.ensures.goes c.stretch_at-here.ensures.times
-    (c.stretch_at-here.ensures.sizes z s.end c.requires.scan.first) c.early-next.ensures in
-    let T : SumTimeIn z s.end c.args.t = record { limited = c.requires.scan.first.limited; start = c.requires.time } in
+    let F = part_facts z s.first.now s.second.now c.args.from c.args.until.now c.args.low c.difference-room.result c.limit_of-limit.result s.end c.args.t c.cells.least c.cells.more c.cells.x c.stretch_at-here.result
+    c.early-next.result c.requires.from c.requires.low c.requires.until c.difference-room.ensures c.limit_of-limit.ensures c.cells-test.true c.cells.invariant c.requires.scan.first c.stretch_at-here.ensures.goes
+    c.stretch_at-here.ensures.times (c.stretch_at-here.ensures.sizes z s.end c.requires.scan.first) c.early-next.ensures in
     let e_after = c.open_at-after.ensures ∙ ap (λ o. open_at c.cells.x o c.stretch_at-here.result.line) c.or_else-to.ensures in
     (subst (OperandPart z s.end) (sym e_after) F.after, subst IsProperPart (sym e_after) F.proper)
 
@@ -61,38 +56,29 @@ pub lower-least-requires : goal.lower-least-requires
 lower-least-requires c =
     let s = c.args.s.now in
     let z = sizes_in s.first.now s.second.now s.end in
-    let W = subst (λ b. PartWalk z s.first.now s.second.now c.args.from c.args.until.now c.args.low c.limit_of-limit.result s.end c.args.t c.cells.least b c.cells.x) c.cells-test.true c.cells.invariant in
-    let F = part_facts z s.first.now s.second.now c.args.from c.args.until.now c.args.low c.difference-room.result c.limit_of-limit.result s.end c.args.t c.cells.least c.cells.x c.stretch_at-here.result
-    c.early-next.result c.requires.from c.requires.low c.requires.until c.difference-room.ensures c.limit_of-limit.ensures W c.requires.scan.first c.stretch_at-here.ensures.goes c.stretch_at-here.ensures.times
-    (c.stretch_at-here.ensures.sizes z s.end c.requires.scan.first) c.early-next.ensures in
-    let T : SumTimeIn z s.end c.args.t = record { limited = c.requires.scan.first.limited; start = c.requires.time } in
-    let e_after = c.open_at-after.ensures ∙ ap (λ o. open_at c.cells.x o c.stretch_at-here.result.line) c.or_else-to.ensures in
-    (z, s.end, T, W.stands, c.cell_part-cell.ensures.sizes)
+    (z, s.end, record { limited = c.requires.scan.first.limited; start = c.requires.time }, c.cells.invariant.stands, c.cell_part-cell.ensures.sizes)
 
 pub cells-smaller : goal.cells-smaller
 cells-smaller c =
     let s = c.args.s.now in
     let z = sizes_in s.first.now s.second.now s.end in
-    let W = subst (λ b. PartWalk z s.first.now s.second.now c.args.from c.args.until.now c.args.low c.limit_of-limit.result s.end c.args.t c.cells.least b c.cells.x) c.cells-test.true c.cells.invariant in
-    let F = part_facts z s.first.now s.second.now c.args.from c.args.until.now c.args.low c.difference-room.result c.limit_of-limit.result s.end c.args.t c.cells.least c.cells.x c.stretch_at-here.result
-    c.early-next.result c.requires.from c.requires.low c.requires.until c.difference-room.ensures c.limit_of-limit.ensures W c.requires.scan.first c.stretch_at-here.ensures.goes c.stretch_at-here.ensures.times
-    (c.stretch_at-here.ensures.sizes z s.end c.requires.scan.first) c.early-next.ensures in
-    let T : SumTimeIn z s.end c.args.t = record { limited = c.requires.scan.first.limited; start = c.requires.time } in
-    let e_after = c.open_at-after.ensures ∙ ap (λ o. open_at c.cells.x o c.stretch_at-here.result.line) c.or_else-to.ensures in
+    let F = part_facts z s.first.now s.second.now c.args.from c.args.until.now c.args.low c.difference-room.result c.limit_of-limit.result s.end c.args.t c.cells.least c.cells.more c.cells.x c.stretch_at-here.result
+    c.early-next.result c.requires.from c.requires.low c.requires.until c.difference-room.ensures c.limit_of-limit.ensures c.cells-test.true c.cells.invariant c.requires.scan.first c.stretch_at-here.ensures.goes
+    c.stretch_at-here.ensures.times (c.stretch_at-here.ensures.sizes z s.end c.requires.scan.first) c.early-next.ensures in
     subst (λ b. steps_while c.is_time-more.result z.dt c.limit_of-limit.result c.time_or-x.result < steps_while b z.dt c.limit_of-limit.result c.cells.x) (sym c.cells-test.true)
-    (walk_fewer z s.end c.limit_of-limit.result c.cells.x c.args.until.now c.stretch_at-here.result c.early-next.result c.is_time-more.result c.time_or-x.result c.requires.scan.first.limited.sizes.dt W.whole F
+    (walk_fewer z s.end c.limit_of-limit.result c.cells.x c.args.until.now c.stretch_at-here.result c.early-next.result c.is_time-more.result c.time_or-x.result c.requires.scan.first.limited.sizes.dt c.cells.invariant.whole F
     c.is_time-more.ensures c.time_or-x.ensures)
 
 pub cells-preserved : goal.cells-preserved
 cells-preserved c =
     let s = c.args.s.now in
     let z = sizes_in s.first.now s.second.now s.end in
-    let W = subst (λ b. PartWalk z s.first.now s.second.now c.args.from c.args.until.now c.args.low c.limit_of-limit.result s.end c.args.t c.cells.least b c.cells.x) c.cells-test.true c.cells.invariant in
-    let F = part_facts z s.first.now s.second.now c.args.from c.args.until.now c.args.low c.difference-room.result c.limit_of-limit.result s.end c.args.t c.cells.least c.cells.x c.stretch_at-here.result
-    c.early-next.result c.requires.from c.requires.low c.requires.until c.difference-room.ensures c.limit_of-limit.ensures W c.requires.scan.first c.stretch_at-here.ensures.goes c.stretch_at-here.ensures.times
-    (c.stretch_at-here.ensures.sizes z s.end c.requires.scan.first) c.early-next.ensures in
-    let T : SumTimeIn z s.end c.args.t = record { limited = c.requires.scan.first.limited; start = c.requires.time } in
+    let F = part_facts z s.first.now s.second.now c.args.from c.args.until.now c.args.low c.difference-room.result c.limit_of-limit.result s.end c.args.t c.cells.least c.cells.more c.cells.x c.stretch_at-here.result
+    c.early-next.result c.requires.from c.requires.low c.requires.until c.difference-room.ensures c.limit_of-limit.ensures c.cells-test.true c.cells.invariant c.requires.scan.first c.stretch_at-here.ensures.goes
+    c.stretch_at-here.ensures.times (c.stretch_at-here.ensures.sizes z s.end c.requires.scan.first) c.early-next.ensures in
     let e_after = c.open_at-after.ensures ∙ ap (λ o. open_at c.cells.x o c.stretch_at-here.result.line) c.or_else-to.ensures in
+    let T : SumTimeIn z s.end c.args.t = record { limited = c.requires.scan.first.limited; start = c.requires.time } in
+    let W = subst (λ b. PartWalk z s.first.now s.second.now c.args.from c.args.until.now c.args.low c.limit_of-limit.result s.end c.args.t c.cells.least b c.cells.x) c.cells-test.true c.cells.invariant in
     let A = subst (λ o. IsAhead (λ u. PartRow o (λ v. c.args.low ≤ℚ v) u ⊎ PartRow (open_at c.cells.x (or_else c.early-next.result c.args.until.now) c.stretch_at-here.result.line) (λ v. c.args.low ≤ℚ v) u)
     (λ u. either (part_row_sum o (value_at s.second.now) (λ v. c.args.low ≤ℚ v) u)
     (part_row_sum (open_at c.cells.x (or_else c.early-next.result c.args.until.now) c.stretch_at-here.result.line) (value_at s.second.now) (λ v. c.args.low ≤ℚ v) u)) s.end c.args.t c.cell_part-cell.result) c.point_at-point.ensures

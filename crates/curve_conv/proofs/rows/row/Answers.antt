@@ -36,14 +36,10 @@ pub cell_row-cell-requires-clause-room : goal.cell_row-cell-requires-clause-room
 cell_row-cell-requires-clause-room c =
     let s = c.args.s.now in
     let z = sizes_in s.first.now s.second.now s.end in
-    let e = c.difference-room.ensures ∙ ap (λ x. s.end -ℚ x) c.start_of.ensures in
-    let W = subst (λ b. RowWalk z s.second.now c.args.a.now c.args.low c.difference-room.result s.end c.args.t c.cells.least b c.cells.y) c.cells-test.true c.cells.invariant in
-    let F = row_facts z s.second.now c.args.a.now c.args.low c.difference-room.result s.end c.args.t c.cells.least c.cells.y c.stretch_at-here.result c.early-next.result c.requires.element c.requires.low
-    e W c.requires.scan.second c.stretch_at-here.ensures.goes c.stretch_at-here.ensures.times (c.stretch_at-here.ensures.sizes z s.end c.requires.scan.second) c.early-next.ensures in
-    let T : SumTimeIn z s.end c.args.t = record { limited = c.requires.scan.first.limited; start = c.requires.time } in
-    let point = subst (OperandPart z s.end) (sym c.point_at-point.ensures) F.point in
-    let after = subst (OperandPart z s.end) (sym c.open_at-after.ensures) F.after in
-    (z, s.end, T, c.requires.element, point, after)
+    let F = row_facts z s.second.now c.args.a.now c.args.low c.difference-room.result c.start_of.result s.end c.args.t c.cells.least c.cells.more c.cells.y c.stretch_at-here.result c.early-next.result
+    c.requires.element c.requires.low c.difference-room.ensures c.start_of.ensures c.cells-test.true c.cells.invariant c.requires.scan.second c.stretch_at-here.ensures.goes c.stretch_at-here.ensures.times
+    (c.stretch_at-here.ensures.sizes z s.end c.requires.scan.second) c.early-next.ensures in
+    (z, s.end, record { limited = c.requires.scan.first.limited; start = c.requires.time }, c.requires.element, subst (OperandPart z s.end) (sym c.point_at-point.ensures) F.point, subst (OperandPart z s.end) (sym c.open_at-after.ensures) F.after)
 
 pub cell_row-cell-requires-clause-point : goal.cell_row-cell-requires-clause-point
 cell_row-cell-requires-clause-point c = subst IsProperPart (sym c.point_at-point.ensures) (point_proper c.cells.y c.stretch_at-here.result.at)
@@ -52,54 +48,47 @@ pub cell_row-cell-requires-clause-after : goal.cell_row-cell-requires-clause-aft
 cell_row-cell-requires-clause-after c =
     let s = c.args.s.now in
     let z = sizes_in s.first.now s.second.now s.end in
-    let e = c.difference-room.ensures ∙ ap (λ x. s.end -ℚ x) c.start_of.ensures in
-    let W = subst (λ b. RowWalk z s.second.now c.args.a.now c.args.low c.difference-room.result s.end c.args.t c.cells.least b c.cells.y) c.cells-test.true c.cells.invariant in
-    let F = row_facts z s.second.now c.args.a.now c.args.low c.difference-room.result s.end c.args.t c.cells.least c.cells.y c.stretch_at-here.result c.early-next.result c.requires.element c.requires.low
-    e W c.requires.scan.second c.stretch_at-here.ensures.goes c.stretch_at-here.ensures.times (c.stretch_at-here.ensures.sizes z s.end c.requires.scan.second) c.early-next.ensures in
-    let T : SumTimeIn z s.end c.args.t = record { limited = c.requires.scan.first.limited; start = c.requires.time } in
-    let point = subst (OperandPart z s.end) (sym c.point_at-point.ensures) F.point in
-    let after = subst (OperandPart z s.end) (sym c.open_at-after.ensures) F.after in
+    let F = row_facts z s.second.now c.args.a.now c.args.low c.difference-room.result c.start_of.result s.end c.args.t c.cells.least c.cells.more c.cells.y c.stretch_at-here.result c.early-next.result
+    c.requires.element c.requires.low c.difference-room.ensures c.start_of.ensures c.cells-test.true c.cells.invariant c.requires.scan.second c.stretch_at-here.ensures.goes c.stretch_at-here.ensures.times
+    (c.stretch_at-here.ensures.sizes z s.end c.requires.scan.second) c.early-next.ensures in
     subst IsProperPart (sym c.open_at-after.ensures) F.proper
 
 pub lower-least-requires : goal.lower-least-requires
 lower-least-requires c =
     let s = c.args.s.now in
     let z = sizes_in s.first.now s.second.now s.end in
-    let e = c.difference-room.ensures ∙ ap (λ x. s.end -ℚ x) c.start_of.ensures in
-    let W = subst (λ b. RowWalk z s.second.now c.args.a.now c.args.low c.difference-room.result s.end c.args.t c.cells.least b c.cells.y) c.cells-test.true c.cells.invariant in
-    let F = row_facts z s.second.now c.args.a.now c.args.low c.difference-room.result s.end c.args.t c.cells.least c.cells.y c.stretch_at-here.result c.early-next.result c.requires.element c.requires.low
-    e W c.requires.scan.second c.stretch_at-here.ensures.goes c.stretch_at-here.ensures.times (c.stretch_at-here.ensures.sizes z s.end c.requires.scan.second) c.early-next.ensures in
-    let T : SumTimeIn z s.end c.args.t = record { limited = c.requires.scan.first.limited; start = c.requires.time } in
-    let point = subst (OperandPart z s.end) (sym c.point_at-point.ensures) F.point in
-    let after = subst (OperandPart z s.end) (sym c.open_at-after.ensures) F.after in
-    (z, s.end, T, W.stands, c.cell_row-cell.ensures.sizes z s.end T c.requires.element point after)
+    let F = row_facts z s.second.now c.args.a.now c.args.low c.difference-room.result c.start_of.result s.end c.args.t c.cells.least c.cells.more c.cells.y c.stretch_at-here.result c.early-next.result
+    c.requires.element c.requires.low c.difference-room.ensures c.start_of.ensures c.cells-test.true c.cells.invariant c.requires.scan.second c.stretch_at-here.ensures.goes c.stretch_at-here.ensures.times
+    (c.stretch_at-here.ensures.sizes z s.end c.requires.scan.second) c.early-next.ensures in (
+      z,
+      s.end,
+      record { limited = c.requires.scan.first.limited; start = c.requires.time },
+      c.cells.invariant.stands,
+      c.cell_row-cell.ensures.sizes z s.end record { limited = c.requires.scan.first.limited; start = c.requires.time } c.requires.element (subst (OperandPart z s.end) (sym c.point_at-point.ensures) F.point)
+          (subst (OperandPart z s.end) (sym c.open_at-after.ensures) F.after),
+    )
 
 pub cells-smaller : goal.cells-smaller
 cells-smaller c =
     let s = c.args.s.now in
     let z = sizes_in s.first.now s.second.now s.end in
-    let e = c.difference-room.ensures ∙ ap (λ x. s.end -ℚ x) c.start_of.ensures in
-    let W = subst (λ b. RowWalk z s.second.now c.args.a.now c.args.low c.difference-room.result s.end c.args.t c.cells.least b c.cells.y) c.cells-test.true c.cells.invariant in
-    let F = row_facts z s.second.now c.args.a.now c.args.low c.difference-room.result s.end c.args.t c.cells.least c.cells.y c.stretch_at-here.result c.early-next.result c.requires.element c.requires.low
-    e W c.requires.scan.second c.stretch_at-here.ensures.goes c.stretch_at-here.ensures.times (c.stretch_at-here.ensures.sizes z s.end c.requires.scan.second) c.early-next.ensures in
-    let T : SumTimeIn z s.end c.args.t = record { limited = c.requires.scan.first.limited; start = c.requires.time } in
-    let point = subst (OperandPart z s.end) (sym c.point_at-point.ensures) F.point in
-    let after = subst (OperandPart z s.end) (sym c.open_at-after.ensures) F.after in
+    let F = row_facts z s.second.now c.args.a.now c.args.low c.difference-room.result c.start_of.result s.end c.args.t c.cells.least c.cells.more c.cells.y c.stretch_at-here.result c.early-next.result
+    c.requires.element c.requires.low c.difference-room.ensures c.start_of.ensures c.cells-test.true c.cells.invariant c.requires.scan.second c.stretch_at-here.ensures.goes c.stretch_at-here.ensures.times
+    (c.stretch_at-here.ensures.sizes z s.end c.requires.scan.second) c.early-next.ensures in
     subst (λ b. steps_while c.is_time-more.result z.dt c.difference-room.result c.time_or-y.result < steps_while b z.dt c.difference-room.result c.cells.y) (sym c.cells-test.true)
-    (walk_fewer z s.end c.difference-room.result c.cells.y c.stretch_at-here.result c.early-next.result c.is_time-more.result c.time_or-y.result c.requires.scan.first.limited.sizes.dt W.whole F
+    (walk_fewer z s.end c.difference-room.result c.cells.y c.stretch_at-here.result c.early-next.result c.is_time-more.result c.time_or-y.result c.requires.scan.first.limited.sizes.dt c.cells.invariant.whole F
     c.is_time-more.ensures c.time_or-y.ensures)
 
 pub cells-preserved : goal.cells-preserved
 cells-preserved c =
     let s = c.args.s.now in
     let z = sizes_in s.first.now s.second.now s.end in
+    let F = row_facts z s.second.now c.args.a.now c.args.low c.difference-room.result c.start_of.result s.end c.args.t c.cells.least c.cells.more c.cells.y c.stretch_at-here.result c.early-next.result
+    c.requires.element c.requires.low c.difference-room.ensures c.start_of.ensures c.cells-test.true c.cells.invariant c.requires.scan.second c.stretch_at-here.ensures.goes c.stretch_at-here.ensures.times
+    (c.stretch_at-here.ensures.sizes z s.end c.requires.scan.second) c.early-next.ensures in
+    let T : SumTimeIn z s.end c.args.t = record { limited = c.requires.scan.first.limited; start = c.requires.time } in
     let e = c.difference-room.ensures ∙ ap (λ x. s.end -ℚ x) c.start_of.ensures in
     let W = subst (λ b. RowWalk z s.second.now c.args.a.now c.args.low c.difference-room.result s.end c.args.t c.cells.least b c.cells.y) c.cells-test.true c.cells.invariant in
-    let F = row_facts z s.second.now c.args.a.now c.args.low c.difference-room.result s.end c.args.t c.cells.least c.cells.y c.stretch_at-here.result c.early-next.result c.requires.element c.requires.low
-    e W c.requires.scan.second c.stretch_at-here.ensures.goes c.stretch_at-here.ensures.times (c.stretch_at-here.ensures.sizes z s.end c.requires.scan.second) c.early-next.ensures in
-    let T : SumTimeIn z s.end c.args.t = record { limited = c.requires.scan.first.limited; start = c.requires.time } in
-    let point = subst (OperandPart z s.end) (sym c.point_at-point.ensures) F.point in
-    let after = subst (OperandPart z s.end) (sym c.open_at-after.ensures) F.after in
     let a = c.args.a.now in
     let A = subst (λ o. IsAhead (λ u. PartPair a o u ⊎ PartPair a (open_at c.cells.y c.early-next.result c.stretch_at-here.result.line) u)
     (λ u. either (part_pair_sum a o u) (part_pair_sum a (open_at c.cells.y c.early-next.result c.stretch_at-here.result.line) u)) s.end c.args.t c.cell_row-cell.result) c.point_at-point.ensures
@@ -107,7 +96,7 @@ cells-preserved c =
     c.open_at-after.ensures (c.cell_row-cell.ensures.ahead s.end)) in
     walk_step z s.second.now a c.args.low c.difference-room.result s.end c.args.t c.cells.least c.cell_row-cell.result c.lower-least.result c.cells.y c.stretch_at-here.result c.early-next.result
     c.is_time-more.result c.time_or-y.result e W c.stretch_at-here.ensures.goes c.early-next.ensures F A c.lower-least.ensures.goes c.lower-least.ensures.next
-    (c.lower-least.ensures.sizes z s.end T W.stands (c.cell_row-cell.ensures.sizes z s.end T c.requires.element point after)) c.is_time-more.ensures c.time_or-y.ensures
+    (c.lower-least.ensures.sizes z s.end T W.stands (c.cell_row-cell.ensures.sizes z s.end T c.requires.element (subst (OperandPart z s.end) (sym c.point_at-point.ensures) F.point) (subst (OperandPart z s.end) (sym c.open_at-after.ensures) F.after))) c.is_time-more.ensures c.time_or-y.ensures
 
 pub returns-clause-ahead : goal.returns-clause-ahead
 returns-clause-ahead c =
