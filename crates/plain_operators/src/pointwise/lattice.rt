@@ -19,20 +19,21 @@ ghost use Rattle.plain_operators.specs.pointwise.LatticeCall.{IsLatticeFrame};
 
 use crate::pointwise::leaning::{bounds_by_lines, is_slower, least_by_lines};
 use curve_call::{
-    CallWindow, Frame, first_window, framed_answer, least_periods, period_bounds, refuse_between,
-    rise_over, window_excess, window_max, window_min, within,
+    CallWindow, Frame, checked_product, first_window, framed_answer, least_periods, period_bounds,
+    period_or, refuse_between, rise_over, window_excess, window_max, window_min, within,
 };
-use fraction128::{Frac, difference};
+use fraction128::{Frac, difference, is_less};
 use outcomes::Steps;
 use std::alloc::{AllocError, Global};
 use std::sync::ledger::Ledger;
 use upp_curve::Curve;
 use upp_curve::affine_segment::Piece;
-use upp_limits::{OpFault, OpKind, is_few, tally_over};
+use upp_limits::{OpFault, OpKind, is_few};
 use upp_normal::unrolled;
 
-/// So many pieces at most are few.
-const FEW_PIECES: u64 = 256;
+/// A walk over so many periods of a curve costs more than one over a period of each curve for the lines that they lie
+/// under or over.
+const MANY_TIMES: i128 = 16;
 
 /// What is made of two curves.
 #[derive(Debug, Clone, Copy)]
@@ -177,18 +178,32 @@ fn refuse_by_lines(of: Lattice, f: &Curve, g: &Curve, first: &CallWindow) -> Res
     }
 }
 
-// Whether so few pieces are looked at with no period that to walk over them all costs no more than to look for bounds.
-fn is_short(of: Lattice, f: &Curve, g: &Curve, first: &CallWindow) -> bool {
-    tally_over(&kind_of(of), f, g, first.end) <= FEW_PIECES
+// Whether neither of two curves has a shorter period of its own than a common one.
+fn have_period(f: &Curve, g: &Curve, period: Frac) -> bool {
+    period_or(f, period) == period && period_or(g, period) == period
 }
 
-// The same by either; not where the pieces are few.
+// Whether a curve repeats many times in a common period.
+fn is_many_times(c: &Curve, period: Frac) -> bool {
+    match checked_product(Frac::from_whole(MANY_TIMES), period_or(c, period)) {
+        Some(time) => is_less(time, period),
+        None => false,
+    }
+}
+
+// Whether either of two does.
+fn is_long(f: &Curve, g: &Curve, period: Frac) -> bool {
+    is_many_times(f, period) || is_many_times(g, period)
+}
+
+// Refuses a call where bounds tell that it is over a limit. Not where both curves have the common period: to look for the
+// least number costs no more there.
 fn refuse_over(of: Lattice, f: &Curve, g: &Curve, first: &CallWindow) -> Result<(), OpFault>
     requires curves { IsCurve f.now × IsCurve g.now }
     requires window { IsFirstWindow (kind_of of) f.now g.now first.now }
     ensures { IfErr result (IsCauseOf (kind_of of) f.now g.now) }
 {
-    if is_short(of, f, g, first) {
+    if have_period(f, g, first.period) {
         return Ok(());
     }
     refuse_early(of, f, g, first)?;
@@ -202,10 +217,10 @@ fn least_number(of: Lattice, f: &Curve, g: &Curve, first: &CallWindow) -> Option
     ensures { MatchOption result ((k : ℕ) → ¬ (IsEnough f.now g.now first.now.start first.now.period k))
         (IsLeast (IsEnough f.now g.now first.now.start first.now.period)) }
 {
-    if is_short(of, f, g, first) {
-        return least_periods(f, g, first.start, first.period);
+    if is_long(f, g, first.period) {
+        return least_by_lines(f, g, first.start, first.period);
     }
-    least_by_lines(f, g, first.start, first.period)
+    least_periods(f, g, first.start, first.period)
 }
 
 // The frame of a call within both limits, with the least number of periods that is enough.
