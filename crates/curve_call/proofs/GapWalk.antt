@@ -228,7 +228,7 @@ before_first t last end soon e h = lt_le_trans h (subst (λ x. x ≤ℚ end) (sy
 
 -- after it the window was looked at as far as it has to be
 pub walk_until : (f g : SpecCurve) (from end soon last t : ℚ) (gap : Gap) → GapWalk f g from end t gap → last ≡ min_q end soon → ¬ (t <ℚ last) → IsGapUntil from end soon (value_at f) (value_at g) gap
-walk_until f g from end soon last t gap inv e h = record { until = t; most = inv.before; left = left; gap = inv.gap_is }
+walk_until f g from end soon last t gap inv e h = record { until = t; most = inv.before; left = left; is = inv.gap_is }
   where
     none_left : (u : ℚ) → InWindow t end u → end ≤ℚ t → ⊥
     none_left u i k = let a = i.start in let b = i.before in with3 t end u (λ c. omega (arith, c.le, c.lt, c.same))
@@ -241,7 +241,7 @@ walk_until f g from end soon last t gap inv e h = record { until = t; most = inv
 
 -- up to the end it is whole
 pub until_end : (from end : ℚ) (f g : ℚ → Ext) (gap : Gap) → IsGapUntil from end end f g gap → IsGap (InWindow from end) f g gap
-until_end from end f g gap U = subst (λ u. IsGap (InWindow from u) f g gap) (antisym (U.most, all)) U.gap
+until_end from end f g gap U = subst (λ u. IsGap (InWindow from u) f g gap) (antisym (U.most, all)) U.is
   where
     past : (u : ℚ) → u <ℚ end → end ≤ℚ u → ⊥
     past u h k = with2 u end (λ c. omega (arith, c.le, c.lt, c.same))

@@ -216,22 +216,22 @@ until_none z from d soon slow fast C below U =
     let some : int (pos 0) ≤ℚ y = subst (λ v. int (pos 0) ≤ℚ v) (sym (zero_mul (rise_over fast d -ℚ rise_over slow d))) (le_refl (int (pos 0))) in
     least_zero (IsBelowAfter slow fast from d)
     (after_in z from d slow fast 0 C.first.curve C.second.curve C
-    (with_rest slow fast from d soon y NoTime below U some (within_none (InWindow from U.until) (value_at slow) (value_at fast) y U.gap)))
+    (with_rest slow fast from d soon y NoTime below U some (within_none (InWindow from U.until) (value_at slow) (value_at fast) y U.is)))
 
 pub until_endless : (z : Sizes) (from d soon : ℚ) (slow fast : SpecCurve) → AreCompared z from d slow fast → IsGapUntil from (from +ℚ d) soon (value_at slow) (value_at fast) Never
     → (k : ℕ) → ¬ (IsBelowAfter slow fast from d k)
 until_endless z from d soon slow fast C U =
-    let E = U.gap in
+    let E = U.is in
     least_endless z from d slow fast C.first.curve C.second.curve C
     record { at = E.at; among = record { start = E.among.start; before = lt_le_trans E.among.before U.most }; top = E.top; value = E.value; below = E.below }
 
 pub until_gap : (z : Sizes) (from d soon q : ℚ) (slow fast : SpecCurve) (k : ℕ) → rate slow <ₑ rate fast → AreCompared z from d slow fast → IsBelowLate slow fast from d soon
     → IsGapUntil from (from +ℚ d) soon (value_at slow) (value_at fast) (Is q) → IsLeast (λ i. q ≤ℚ int (pos i) *ℚ (rise_over fast d -ℚ rise_over slow d)) k → IsLeast (IsBelowAfter slow fast from d) k
 until_gap z from d soon q slow fast k less C below U least =
-    let finite = largest_finite from U.until q slow fast U.gap in
+    let finite = largest_finite from U.until q slow fast U.is in
     let lead = rise_over fast d -ℚ rise_over slow d in
     let some : int (pos 0) <ℚ lead = (lead_is z from d slow fast less C finite.0 finite.1).some in
-    let bounds = λ (i : ℕ). largest_bounds (InWindow from U.until) (value_at slow) (value_at fast) q (int (pos i) *ℚ lead) U.gap in
+    let bounds = λ (i : ℕ). largest_bounds (InWindow from U.until) (value_at slow) (value_at fast) q (int (pos i) *ℚ lead) U.is in
     same_least (IsBelowAfter slow fast from d) (λ i. q ≤ℚ int (pos i) *ℚ lead) k
     (λ i w. (bounds i).0 (without_rest slow fast from d soon (int (pos i) *ℚ lead) (Is q) U (after_out z from d slow fast i C.first.curve C.second.curve C w)))
     (λ i h. after_in z from d slow fast i C.first.curve C.second.curve C (with_rest slow fast from d soon (int (pos i) *ℚ lead) (Is q) below U (mul_nonneg (nat_nonneg i) (le_of_lt some)) ((bounds i).1 h)))

@@ -46,4 +46,4 @@ pub record IsGapUntil (from end soon : ℚ) (f g : ℚ → Ext) (gap : Gap) : Ty
   pub until : ℚ
   pub most : until ≤ℚ end
   pub left : (t : ℚ) → InWindow until end t → soon ≤ℚ t
-  pub gap : IsGap (InWindow from until) f g gap
+  pub is : IsGap (InWindow from until) f g gap

@@ -344,11 +344,9 @@ fn least_soon(slow: &Curve, fast: &Curve, from: Frac, period: Frac) -> Option<u1
         ((k : ℕ) → ¬ (IsBelowFor (value_at slow.now) (value_at fast.now) (periods_after from k period) period))
         (IsLeast (λ k. IsBelowFor (value_at slow.now) (value_at fast.now) (periods_after from k period) period)) }
 {
-    let low = Side::of(slow);
-    let high = Side::of(fast);
     match soon_by_lines(slow, fast, from, period) {
-        None => least_below(&low, &high, from, period),
-        Some(soon) => least_below_until(&low, &high, from, period, soon),
+        None => least_below(&Side::of(slow), &Side::of(fast), from, period),
+        Some(soon) => least_below_until(&Side::of(slow), &Side::of(fast), from, period, soon),
     }
 }
 

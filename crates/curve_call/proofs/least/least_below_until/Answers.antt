@@ -24,7 +24,7 @@ least_over-requires-clause-window c =
     (w.0, w.1, c.in-Is.ensures.sizes w.0 (subst (λ x. HasWindow w.0 x c.args.slow.now) e V) (subst (λ x. HasWindow w.0 x c.args.fast.now) e W) (subst (λ x. IsTimeIn w.0 x c.args.from) e T))
 
 pub least_over-requires-clause-gap : goal.least_over-requires-clause-gap
-least_over-requires-clause-gap c = let U = c.in-Is.ensures.gap in (U.until, U.gap)
+least_over-requires-clause-gap c = let U = c.in-Is.ensures.gap in (U.until, U.is)
 
 pub returns-in-NoTime : goal.returns-in-NoTime
 returns-in-NoTime c =
