@@ -31,9 +31,11 @@ use upp_curve::affine_segment::Piece;
 use upp_limits::{OpFault, OpKind, is_few};
 use upp_normal::unrolled;
 
-/// A walk over so many periods of a curve costs more than one over a period of each curve for the lines that they lie
-/// under or over.
+/// A walk over so many periods of a curve is long.
 const MANY_TIMES: i128 = 16;
+
+/// One over so many pieces is short.
+const FEW_PIECES: usize = 16;
 
 /// What is made of two curves.
 #[derive(Debug, Clone, Copy)]
@@ -191,9 +193,15 @@ fn is_many_times(c: &Curve, period: Frac) -> bool {
     }
 }
 
-// Whether either of two does.
+// Whether a walk over one period of its own is short beside one over a common period.
+fn is_short(c: &Curve, period: Frac) -> bool {
+    c.pieces().len() <= FEW_PIECES || is_many_times(c, period)
+}
+
+// Whether a walk over a common period of two curves is long beside one over a period of each.
 fn is_long(f: &Curve, g: &Curve, period: Frac) -> bool {
-    is_many_times(f, period) || is_many_times(g, period)
+    let is_many = is_many_times(f, period) || is_many_times(g, period);
+    is_many && is_short(f, period) && is_short(g, period)
 }
 
 // Refuses a call where bounds tell that it is over a limit. Not where both curves have the common period: to look for the
