@@ -222,6 +222,10 @@ next_stands z f g end t next a b V W h k l A B e = subst (NextStands z end) (sym
   high = (next_is t end a b h k l).high;
 }
 
+-- at the end the window is whole
+pub walk_end : (f g : SpecCurve) (from end t : ℚ) (gap : Gap) → GapWalk f g from end t gap → ¬ (t <ℚ end) → IsGap (InWindow from end) (value_at f) (value_at g) gap
+walk_end f g from end t gap inv h = subst (λ u. IsGap (InWindow from u) (value_at f) (value_at g) gap) (antisym (inv.before, le_of_not_lt h)) inv.gap_is
+
 -- before the first of two times it is before the end
 pub before_first : (t last end soon : ℚ) → last ≡ min_q end soon → t <ℚ last → t <ℚ end
 before_first t last end soon e h = lt_le_trans h (subst (λ x. x ≤ℚ end) (sym e) (min_q_le_left end soon))
