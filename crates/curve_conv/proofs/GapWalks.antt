@@ -97,12 +97,12 @@ pub next_to : (z : Sizes) (end t next : ℚ) (a b : Option ℚ) → int (pos 0) 
 next_to z end t next a b low N = record { place = N.place; nonneg = le_trans low (le_of_lt N.time.past); most = N.time.high }
 
 -- the step from t to the next time
-pub record GapStep (z : Sizes) (f g : ℚ → Ext) (first second end t next : ℚ) (late soon : Stretch) : Type 0 where
-  pub late : IsAhead (PartSplit (InPart first None None (int (pos 0)))) (part_sum f g (InPart first None None (int (pos 0)))) end t late
-  pub soon : IsAhead (PartSplit (InPart (int (pos 0)) None (Some first) second)) (part_sum f g (InPart (int (pos 0)) None (Some first) second)) end t soon
-  pub next : NextPlace z end t next late.next soon.next
+pub record GapStep (z : Sizes) (f g : ℚ → Ext) (first second end t step : ℚ) (a b : Stretch) : Type 0 where
+  pub late : IsAhead (PartSplit (InPart first None None (int (pos 0)))) (part_sum f g (InPart first None None (int (pos 0)))) end t a
+  pub soon : IsAhead (PartSplit (InPart (int (pos 0)) None (Some first) second)) (part_sum f g (InPart (int (pos 0)) None (Some first) second)) end t b
+  pub next : NextPlace z end t step a.next b.next
   pub time : SumTimeIn z end t
-  pub to : SumTimeTo z end next
+  pub to : SumTimeTo z end step
 
 pub gap_step : (z : Sizes) (f g : ℚ → Ext) (first second from end t soonest next low : ℚ) (gap : Gap) (late soon : Stretch) → low ≡ int (pos 0) → AreLimited z end → WindowTime z end from
     → PartGapWalk z f g first second from end t gap → t <ℚ end → IsAhead (PartSplit (InPart first None None low)) (part_sum f g (InPart first None None low)) end t late
