@@ -6,8 +6,8 @@ use Rattle.rational.specs.Gauge.{size_up}
 use Rattle.rational.specs.Grid.{Whole}
 use Rattle.rational.specs.Extended.{Ext, ◌<ₑ◌}
 use Rattle.rational.specs.declared.Extended.TheVariants.{Fin, Inf}
-use Rattle.rational.proofs.Linear.{with2, with3, with5, with7}
-use Rattle.rational.proofs.Laws.{le_refl, le_trans, le_of_lt, one_mul, mul_nonneg, mul_le_mul, mul_le_mul_right}
+use Rattle.rational.proofs.Linear.{with2, with5, with7}
+use Rattle.rational.proofs.Laws.{le_refl, le_trans, le_of_lt, one_mul, mul_nonneg, mul_le_mul_right}
 use Rattle.rational.proofs.Integers.{nat_le, nat_nonneg}
 use Rattle.rational.proofs.Quotients.{div_le}
 use Rattle.rational.proofs.Grid.{whole_add}

@@ -1,7 +1,7 @@
 -- A split of which the first side is before the slower curve repeats, moved by some periods of the faster curve's own.
 use Rattle.std.specs.Prelude.{◌≡◌, ℕ, pos}
 use Rattle.std.proofs.Common.{sym, ap, ◌∙◌, subst}
-use Rattle.rational.specs.Rational.{ℚ, ◌+ℚ◌, ◌*ℚ◌, ◌≤ℚ◌, ◌<ℚ◌, int}
+use Rattle.rational.specs.Rational.{ℚ, ◌*ℚ◌, ◌≤ℚ◌, ◌<ℚ◌, int}
 use Rattle.rational.specs.Grid.{Whole}
 use Rattle.rational.proofs.Laws.{le_of_lt}
 use Rattle.rational.proofs.Grid.{whole_times}
@@ -11,7 +11,6 @@ use Rattle.upp_curve.proofs.Repeats.{repeats_times}
 use Rattle.curve_call.specs.Bounds.{own_or}
 use Rattle.curve_call.proofs.OwnPeriods.{own_period_is}
 use Rattle.curve_call.proofs.MostAbove.{own_repeats}
-use Rattle.curve_conv.specs.declared.moved.Move.{Move}
 use Rattle.curve_conv.specs.Late.{IsLateCall}
 use Rattle.curve_conv.specs.Moves.{IsMove}
 use Rattle.curve_conv.specs.Scans.{sizes_in}

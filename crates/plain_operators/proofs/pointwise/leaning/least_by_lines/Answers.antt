@@ -1,5 +1,5 @@
-use Rattle.std.proofs.Common.{refl, sym, true≢false}
-use Rattle.curve_call.proofs.EitherOrder.{of_first, of_second, of_equal}
+use Rattle.std.proofs.Common.{refl}
+use Rattle.curve_call.proofs.EitherOrder.{of_first, of_second}
 use Rattle.plain_operators.proofs.pointwise.leaning.least_by_lines.Goals as goal
 
 pub returns-then-is_slower : goal.returns-then-is_slower
