@@ -1,7 +1,7 @@
 //! What two curves do in the first period of their own from when on they repeat, and before that. No memory is taken.
 
 ghost use Rattle.std.specs.Prelude.{◌≡◌, pos, IfSome};
-ghost use Rattle.rational.specs.Rational.{ℚ, int, ◌+ℚ◌, ◌-ℚ◌};
+ghost use Rattle.rational.specs.Rational.{ℚ, int};
 ghost use Rattle.rational.specs.declared.Extended.TheVariants.{Fin};
 ghost use Rattle.upp_curve.specs.Curve.{value_at};
 ghost use Rattle.upp_curve.specs.Steady.{steady};

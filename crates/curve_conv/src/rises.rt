@@ -1,6 +1,6 @@
 //! By how much a curve is at most above itself a period earlier, before it repeats. No memory is taken.
 
-ghost use Rattle.std.specs.Prelude.{◌≡◌, IfSome};
+ghost use Rattle.std.specs.Prelude.{IfSome};
 ghost use Rattle.rational.specs.Rational.{◌+ℚ◌, ◌≤ℚ◌, ◌<ℚ◌};
 ghost use Rattle.rational.specs.Extended.{◌≤ₑ◌, ◌+ₑ◌};
 ghost use Rattle.rational.specs.declared.Extended.TheVariants.{Fin};
