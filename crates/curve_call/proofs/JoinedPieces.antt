@@ -1,5 +1,5 @@
 -- Pieces of which those are left out that go on with the one before them: how more are added, and what they read as.
-use Rattle.std.specs.Prelude.{◌≡◌, ℕ, zero, suc, ◌+◌, ◌-◌, ◌*◌, ◌≤◌, ◌⊎◌, List, [], ◌∷◌, ◌++◌, length, Some, None, slice_get}
+use Rattle.std.specs.Prelude.{◌≡◌, ◌-◌, ◌≤◌, ◌⊎◌, List, [], ◌∷◌, ◌++◌, length, Some, None, slice_get}
 use Rattle.std.proofs.Common.{arith, sym, ap, ◌∙◌, refl, subst, inl, inr}
 use Rattle.rational.specs.Rational.{ℚ, ◌≤ℚ◌, ◌<ℚ◌}
 use Rattle.rational.proofs.Laws.{antisym, lt_le_trans, le_or_lt, le_of_lt}
@@ -12,6 +12,7 @@ use Rattle.upp_curve.specs.affine_segment.Pieces.{RisesFrom}
 use Rattle.upp_curve.proofs.affine_segment.PieceIn.{value_past, value_at_start}
 use Rattle.upp_curve.proofs.affine_segment.PieceIn.{read_first, read_stop, read_go, read_one}
 use Rattle.upp_curve.proofs.affine_segment.PieceOrder.{rises_down}
+use Rattle.upp_curve.proofs.PieceLoops.{last_is}
 use Rattle.upp_normal.specs.Normalising.{IsPart}
 use Rattle.upp_normal.proofs.NormaliseForm.{each_part}
 use Rattle.curve_call.specs.Lower.{IsLowerPiece, IsLowerOf}
@@ -32,21 +33,15 @@ after_left p [] kept q e C = inl (subst (λ z. Continues (last_of p z) q) e C, e
 after_left p (s ∷ ps) kept q (inl (D, J)) C = inl (D, after_left p ps kept q J C)
 after_left p (s ∷ ps) kept q (inr (more, e, J)) C = inr (more, e, after_left s ps more q J (subst (λ z. Continues (last_of p z) q) e C))
 
-last_got : (p : Piece) (ps : List Piece) (n : ℕ) (q : Piece) → n ≡ length ps → slice_get (p ∷ ps) n ≡ Some q → last_of p ps ≡ q
-last_got p [] zero q e h = let found : Some p ≡ Some q = h in cc
-last_got p [] (suc n) q e h = absurd (omega arith)
-last_got p (r ∷ rs) zero q e h = absurd (omega arith)
-last_got p (r ∷ rs) (suc n) q e h = last_got r rs n q (omega arith) h
-
-last_there : (p : Piece) (ps kept : List Piece) (last : Piece) → kept ≡ p ∷ ps → slice_get kept (length kept - 1) ≡ Some last → last_of p ps ≡ last
-last_there p ps kept last e h =
-    let n : length (p ∷ ps) - 1 ≡ length ps = omega arith in
-    last_got p ps (length ps) last refl (subst (λ k. slice_get (p ∷ ps) k ≡ Some last) n (subst (λ z. slice_get z (length z - 1) ≡ Some last) e h))
+-- a piece that goes on with another goes on with each that has its line
+same_line : (p last q : Piece) → p.line ≡ last.line → Continues last q → Continues p q
+same_line p last q e C = (C.0 ∙ ap (λ l. line_value l q.x) (sym e), C.1 ∙ sym e)
 
 left_of : (all kept : List Piece) (last q : Piece) → JoinsTo all kept → slice_get kept (length kept - 1) ≡ Some last → Continues last q → JoinsTo (all ++ q ∷ []) kept
 left_of [] kept last q e h C = let none : None ≡ Some last = subst (λ z. slice_get z (length z - 1) ≡ Some last) e h in let no : ⊥ = cc in absurd no
 left_of (p ∷ ps) kept last q (more, e, J) h C =
-    (more, e, after_left p ps more q J (subst (λ z. Continues z q) (sym (last_there p more kept last e h)) C))
+    let line : (last_of p more).line ≡ last.line = last_is (p ∷ more) last (subst (λ z. slice_get z (length z - 1) ≡ Some last) e h) in
+    (more, e, after_left p ps more q J (same_line (last_of p more) last q line C))
 
 pub joined_left : (all kept there : List Piece) (q : Piece) → there ≡ kept → GoesOnLast there q → JoinsTo all kept → JoinsTo (all ++ q ∷ []) kept
 joined_left all kept there q same (last, e, C) J = left_of all kept last q J (subst (λ z. slice_get z (length z - 1) ≡ Some last) same e) C

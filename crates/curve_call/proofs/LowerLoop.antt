@@ -1,5 +1,5 @@
 -- The walk over two windows that makes the pieces of the lower, those left out that go on with the one before them.
-use Rattle.std.specs.Prelude.{◌≡◌, ◌≤◌, ◌+◌, ◌-◌, ◌<◌, List, [], ◌∷◌, length}
+use Rattle.std.specs.Prelude.{◌≡◌, ◌≤◌, List, [], ◌∷◌, length}
 use Rattle.std.proofs.Common.{refl}
 use Rattle.rational.specs.Rational.{ℚ}
 use Rattle.upp_curve.specs.declared.affine_segment.line.Piece.{Piece}

@@ -17,9 +17,9 @@ use std::alloc::AllocError;
 use upp_curve::affine_segment::{Line, Piece, value};
 use upp_curve::same::{same_ext, same_lines};
 
-// The value of a line that may be missing, where the steps to it fit.
+/// The value of a line that may be missing; none where a step to it does not fit.
 #[inline(always)]
-fn line_there(line: &Option<Line>, t: Frac) -> Option<Ext>
+pub fn line_there(line: &Option<Line>, t: Frac) -> Option<Ext>
     ensures { IfSome result (λ v. v ≡ line_value line.now t) }
 {
     match line {

@@ -34,6 +34,7 @@ pub use ever_after::below_ever_after;
 pub use frame::{Frame, within, within_both};
 pub use gaps::{Gap, earlier, gap_of, larger, side_gap, window_gap};
 pub use gate::{FirstLook, first_look, first_window, within_after};
+pub use joining::line_there;
 pub use kept::intact;
 pub use laws::{Making, answers_are_determined, answers_are_finite, answers_grow, calls_in_turn};
 pub use least::{is_slower, least_below, least_periods, least_times, side_periods};

@@ -168,12 +168,11 @@ den_small xs h =
     omega arith
 
 -- of two grids
-both_some : (d e : ℕ) → 0 < d → 0 < e → 0 < d * e
-both_some d e h k = let l : 1 * 1 ≤ d * e = mul-le 1 1 d e (omega arith) (omega arith) in omega (arith, l)
-
 den_of_both : (d e n : ℕ) (xs : List ℚ) → 0 < d → 0 < e → d ≤ n → e ≤ n → AllByRecursion (Whole (d * e)) xs → common_den xs ≤ n * n
 den_of_both d e n xs h k l m on =
-    let a : common_den xs ≤ d * e = le_of_dvd (both_some d e h k) (common_den_least (d * e) xs on) in
+    let one : 1 * 1 ≤ d * e = mul-le 1 1 d e (omega arith) (omega arith) in
+    let some : 0 < d * e = omega (arith, one) in
+    let a : common_den xs ≤ d * e = le_of_dvd some (common_den_least (d * e) xs on) in
     let b : d * e ≤ n * n = mul-le d e n n l m in
     omega (arith, a, b)
 
