@@ -87,12 +87,7 @@ fn left_within(
 
 // Refuses a call where bounds of the number of its periods tell that it is over a limit; not where the pieces are few
 // with no period, so that a walk over them is short.
-fn refuse_behind(
-    beta: &Curve,
-    cross: &Curve,
-    theta: Frac,
-    look: &FirstLook,
-) -> Result<(), OpFault>
+fn refuse_behind(beta: &Curve, cross: &Curve, theta: Frac, look: &FirstLook) -> Result<(), OpFault>
     requires { IsLeftGate beta.now cross.now theta look.now.window }
     ensures { IfErr result (IsCauseOf (FifoLeft (Fin theta)) beta.now cross.now) }
 {
