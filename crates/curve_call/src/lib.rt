@@ -12,6 +12,7 @@ mod ever_after;
 mod frame;
 mod gaps;
 mod gate;
+mod joining;
 mod kept;
 mod laws;
 mod least;
@@ -29,14 +30,13 @@ mod windows;
 pub use answers::{Answered, answer, framed_answer};
 pub use between::refuse_between;
 pub use bounds::{Bounds, bounds_below, period_bounds, side_bounds, zero_level};
-pub use checked::{
-    checked_product, checked_quotient, checked_rest, checked_sum, checked_value,
-};
+pub use checked::{checked_product, checked_quotient, checked_rest, checked_sum};
 pub use compared::{window_excess, window_max, window_min};
 pub use ever_after::below_ever_after;
 pub use frame::{Frame, within, within_both};
 pub use gaps::{Gap, earlier, gap_of, larger, side_gap, window_gap};
-pub use gate::first_window;
+pub use gate::{FirstLook, first_look, first_window, within_after};
+pub use joining::line_there;
 pub use kept::intact;
 pub use laws::{Making, answers_are_determined, answers_are_finite, answers_grow, calls_in_turn};
 pub use least::{

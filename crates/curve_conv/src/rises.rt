@@ -8,7 +8,7 @@ ghost use Rattle.upp_curve.specs.Curve.{value_at};
 ghost use Rattle.upp_curve.specs.affine_segment.Values.{line_value};
 ghost use Rattle.curve_conv.specs.Rises.{RisesAtMost, HasLater, IsLookedUntil, IsNextTime};
 
-use curve_call::{checked_rest, checked_sum, checked_value, earlier};
+use curve_call::{checked_rest, checked_sum, earlier, line_there};
 use fraction128::{Ext, Frac, greater, is_less};
 use rational::Extended;
 use upp_curve::Curve;
@@ -57,8 +57,8 @@ fn line_above(
         × (line_value there.now (t +ℚ period) ≤ₑ line_value here.now t +ₑ Fin r)) }
 {
     let later = checked_sum(t, period)?;
-    let b = checked_value(there, later)?;
-    let a = checked_value(here, t)?;
+    let b = line_there(there, later)?;
+    let a = line_there(here, t)?;
     above(b, a, most)
 }
 

@@ -19,8 +19,9 @@ ghost use Rattle.plain_operators.specs.pointwise.LatticeCall.{IsLatticeFrame};
 
 use crate::pointwise::leaning::{bounds_by_lines, is_slower, least_by_lines};
 use curve_call::{
-    CallWindow, Frame, checked_product, first_window, framed_answer, least_periods, period_bounds,
-    period_or, refuse_between, rise_over, window_excess, window_max, window_min, within,
+    CallWindow, FirstLook, Frame, checked_product, first_look, framed_answer, least_periods,
+    period_bounds, period_or, refuse_between, rise_over, window_excess, window_max, window_min,
+    within_after,
 };
 use fraction128::{Frac, difference, is_less};
 use outcomes::Steps;
@@ -28,7 +29,7 @@ use std::alloc::{AllocError, Global};
 use std::sync::ledger::Ledger;
 use upp_curve::Curve;
 use upp_curve::affine_segment::Piece;
-use upp_limits::{OpFault, OpKind, is_few};
+use upp_limits::{OpFault, OpKind};
 use upp_normal::unrolled;
 
 /// A walk over so many periods of a curve is long.
@@ -164,25 +165,16 @@ fn refuse_early(of: Lattice, f: &Curve, g: &Curve, first: &CallWindow) -> Result
     }
 }
 
-// As `refuse_early`, by lines that each curve lies under or over; not where the pairs of pieces are few with no period.
+// As `refuse_early`, by lines that each curve lies under or over.
 fn refuse_by_lines(of: Lattice, f: &Curve, g: &Curve, first: &CallWindow) -> Result<(), OpFault>
     requires curves { IsCurve f.now × IsCurve g.now }
     requires window { IsFirstWindow (kind_of of) f.now g.now first.now }
     ensures { IfErr result (IsCauseOf (kind_of of) f.now g.now) }
 {
-    let kind = kind_of(of);
-    if is_few(&kind, f, g, first.end) {
-        return Ok(());
-    }
     match bounds_by_lines(f, g, first.start, first.period) {
         None => Ok(()),
-        Some(bounds) => refuse_between(&kind, f, g, bounds.low, bounds.high),
+        Some(bounds) => refuse_between(&kind_of(of), f, g, bounds.low, bounds.high),
     }
-}
-
-// Whether neither of two curves has a shorter period of its own than a common one.
-fn have_period(f: &Curve, g: &Curve, period: Frac) -> bool {
-    period_or(f, period) == period && period_or(g, period) == period
 }
 
 // Whether a curve repeats many times in a common period.
@@ -204,18 +196,17 @@ fn is_long(f: &Curve, g: &Curve, period: Frac) -> bool {
     is_many && is_short(f, period) && is_short(g, period)
 }
 
-// Refuses a call where bounds tell that it is over a limit. Not where both curves have the common period: to look for the
-// least number costs no more there.
-fn refuse_over(of: Lattice, f: &Curve, g: &Curve, first: &CallWindow) -> Result<(), OpFault>
+// The same by either. Where the pieces are few with no period a walk over them is short, and no bounds are looked for.
+fn refuse_over(of: Lattice, f: &Curve, g: &Curve, look: &FirstLook) -> Result<(), OpFault>
     requires curves { IsCurve f.now × IsCurve g.now }
-    requires window { IsFirstWindow (kind_of of) f.now g.now first.now }
+    requires window { IsFirstWindow (kind_of of) f.now g.now look.now.window }
     ensures { IfErr result (IsCauseOf (kind_of of) f.now g.now) }
 {
-    if have_period(f, g, first.period) {
+    if look.frame.is_some() {
         return Ok(());
     }
-    refuse_early(of, f, g, first)?;
-    refuse_by_lines(of, f, g, first)
+    refuse_early(of, f, g, &look.window)?;
+    refuse_by_lines(of, f, g, &look.window)
 }
 
 // The least number of periods that is enough.
@@ -238,11 +229,11 @@ fn least_frame(of: Lattice, f: &Curve, g: &Curve) -> Result<Frame, OpFault>
     ensures refused { IfErr result (IsCauseOf (kind_of of) f.now g.now) }
 {
     let kind = kind_of(of);
-    let first = first_window(&kind, f, g)?;
-    refuse_over(of, f, g, &first)?;
-    match least_number(of, f, g, &first) {
+    let look = first_look(&kind, f, g)?;
+    refuse_over(of, f, g, &look)?;
+    match least_number(of, f, g, &look.window) {
         None => Err(OpFault::TooWide),
-        Some(periods) => within(&kind, f, g, periods),
+        Some(periods) => within_after(&look, &kind, f, g, periods),
     }
 }
 

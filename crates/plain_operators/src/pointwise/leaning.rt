@@ -15,8 +15,8 @@ ghost use Rattle.curve_call.specs.Compared.{AreCompared, IsBelowLate, IsEnough};
 ghost use Rattle.plain_operators.specs.pointwise.Leaning.{IsUnder, IsOver, IsSpan, IsUnderUntil, IsOverUntil, AreOwnLines};
 
 use curve_call::{
-    Bounds, Side, checked_product, checked_quotient, checked_rest, checked_sum, checked_value,
-    earlier, least_below, least_below_until, period_or,
+    Bounds, Side, checked_product, checked_quotient, checked_rest, checked_sum, earlier, least_below,
+    least_below_until, line_there, period_or,
 };
 use fraction128::{Ext, Frac, greater, is_less, lesser};
 use rational::Extended;
@@ -93,7 +93,7 @@ fn lower(v: Ext, t: Frac, rate: Frac, icept: Frac) -> Option<Frac>
 fn line_higher(line: &Option<Line>, t: Frac, rate: Frac, icept: Frac) -> Option<Frac>
     ensures { IfSome result (λ k. (icept ≤ℚ k) × (line_value line.now t ≤ₑ Fin (k +ℚ rate *ℚ t))) }
 {
-    let v = checked_value(line, t)?;
+    let v = line_there(line, t)?;
     higher(v, t, rate, icept)
 }
 
@@ -101,7 +101,7 @@ fn line_higher(line: &Option<Line>, t: Frac, rate: Frac, icept: Frac) -> Option<
 fn line_lower(line: &Option<Line>, t: Frac, rate: Frac, icept: Frac) -> Option<Frac>
     ensures { IfSome result (λ k. (k ≤ℚ icept) × (Fin (k +ℚ rate *ℚ t) ≤ₑ line_value line.now t)) }
 {
-    let v = checked_value(line, t)?;
+    let v = line_there(line, t)?;
     lower(v, t, rate, icept)
 }
 
