@@ -177,6 +177,19 @@ fn refuse_by_lines(of: Lattice, f: &Curve, g: &Curve, first: &CallWindow) -> Res
     }
 }
 
+// The same by either. Where the pieces are few with no period a walk over them is short, and no bounds are looked for.
+fn refuse_over(of: Lattice, f: &Curve, g: &Curve, look: &FirstLook) -> Result<(), OpFault>
+    requires curves { IsCurve f.now × IsCurve g.now }
+    requires window { IsFirstWindow (kind_of of) f.now g.now look.now.window }
+    ensures { IfErr result (IsCauseOf (kind_of of) f.now g.now) }
+{
+    if look.frame.is_some() {
+        return Ok(());
+    }
+    refuse_early(of, f, g, &look.window)?;
+    refuse_by_lines(of, f, g, &look.window)
+}
+
 // Whether a curve repeats many times in a common period.
 fn is_many_times(c: &Curve, period: Frac) -> bool {
     match checked_product(Frac::from_whole(MANY_TIMES), period_or(c, period)) {
@@ -194,19 +207,6 @@ fn is_short(c: &Curve, period: Frac) -> bool {
 fn is_long(f: &Curve, g: &Curve, period: Frac) -> bool {
     let is_many = is_many_times(f, period) || is_many_times(g, period);
     is_many && is_short(f, period) && is_short(g, period)
-}
-
-// The same by either. Where the pieces are few with no period a walk over them is short, and no bounds are looked for.
-fn refuse_over(of: Lattice, f: &Curve, g: &Curve, look: &FirstLook) -> Result<(), OpFault>
-    requires curves { IsCurve f.now × IsCurve g.now }
-    requires window { IsFirstWindow (kind_of of) f.now g.now look.now.window }
-    ensures { IfErr result (IsCauseOf (kind_of of) f.now g.now) }
-{
-    if look.frame.is_some() {
-        return Ok(());
-    }
-    refuse_early(of, f, g, &look.window)?;
-    refuse_by_lines(of, f, g, &look.window)
 }
 
 // The least number of periods that is enough.
