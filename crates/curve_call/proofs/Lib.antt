@@ -49,4 +49,6 @@ pub mod MadeWindows
 pub mod TailGrids
 pub mod Worked
 pub mod LowerWindows
+pub mod JoinedPieces
+pub mod LowerLoop
 pub mod Existing

@@ -25,5 +25,6 @@ pub mod Lies
 pub mod Made
 pub mod Operands
 pub mod Worked
+pub mod Joining
 pub mod Lower
 pub mod Existing

@@ -46,7 +46,7 @@ pub fn excess_value(a: Ext, b: Ext) -> Ext
 }
 
 #[inline(always)]
-fn made_values(made: Made, a: Ext, b: Ext) -> Ext
+pub(crate) fn made_values(made: Made, a: Ext, b: Ext) -> Ext
     requires { ValueApartFits a b }
     ensures { result ≡ made_value made a b }
 {
@@ -88,7 +88,7 @@ fn excess_line(below: bool, a: Option<Line>, b: Option<Line>) -> Option<Line>
 }
 
 #[inline(always)]
-fn made_lines(made: Made, below: bool, a: Option<Line>, b: Option<Line>) -> Option<Line>
+pub(crate) fn made_lines(made: Made, below: bool, a: Option<Line>, b: Option<Line>) -> Option<Line>
     requires { LineApartFits a b }
     ensures { result ≡ made_line made below a b }
 {
@@ -132,7 +132,8 @@ pub(crate) fn made_of(alloc: Global, made: Made, f: &[Piece], g: &[Piece], end: 
     ensures { IfOk result (λ v. IsMadeWindow made f.now g.now end v.items) }
 {
     let mut walk = at_start(f, g);
-    let mut pieces = Vec::with_capacity(alloc, f.len().saturating_add(g.len()))?;
+    let stretches = f.len().saturating_add(g.len());
+    let mut pieces = Vec::with_capacity(alloc, stretches.saturating_mul(2))?;
     while walk.i < f.len() || walk.j < g.len() {
         let to = stretch_end(f, g, &walk, end);
         push_parts(&mut pieces, made, &walk.here, to)?;

@@ -86,6 +86,16 @@ pub(crate) fn stretch_end(f: &[Piece], g: &[Piece], w: &Walk, end: Frac) -> Frac
     }
 }
 
+// Takes a piece part by part: as a whole it is so long that copying it would be a call.
+#[inline(always)]
+fn take(into: &mut Piece, p: &Piece)
+    ensures { into.new ≡ p.now }
+{
+    into.x = p.x;
+    into.at = p.at;
+    into.line = p.line;
+}
+
 // The next piece of f comes first. What goes on of g keeps its line in place, since a piece is long to copy.
 #[inline]
 fn take_left(p: &Piece, w: &mut Walk)
@@ -100,7 +110,7 @@ fn take_left(p: &Piece, w: &mut Walk)
     w.i += 1;
     w.here.right.at = readable_line(&w.here.right.line, p.x);
     w.here.right.x = p.x;
-    w.here.left = *p;
+    take(&mut w.here.left, p);
 }
 
 // The next piece of g comes first.
@@ -117,7 +127,7 @@ fn take_right(q: &Piece, w: &mut Walk)
     w.j += 1;
     w.here.left.at = readable_line(&w.here.left.line, q.x);
     w.here.left.x = q.x;
-    w.here.right = *q;
+    take(&mut w.here.right, q);
 }
 
 // The next pieces of both start together.
@@ -129,8 +139,8 @@ fn take_both(p: &Piece, q: &Piece, w: &mut Walk)
 {
     w.i += 1;
     w.j += 1;
-    w.here.left = *p;
-    w.here.right = *q;
+    take(&mut w.here.left, p);
+    take(&mut w.here.right, q);
 }
 
 fn step_both(f: &[Piece], g: &[Piece], w: &mut Walk, p: &Piece, q: &Piece)

@@ -1,15 +1,35 @@
 use Rattle.curve_call.specs.declared.made.Made.TheVariants.{Lower}
-use Rattle.curve_call.specs.Made.{IsMadeWindow}
-use Rattle.curve_call.specs.Lower.{IsLowerOf}
-use Rattle.upp_normal.proofs.NormaliseForm.{ok_map}
-use Rattle.curve_call.proofs.LowerWindows.{lower_steps, lower_is}
+use Rattle.curve_call.proofs.OverlayLoop.{started}
+use Rattle.curve_call.proofs.MadeLoop.{walk_fits, last_fits, steps_fit, next_fewer}
+use Rattle.curve_call.proofs.LowerWindows.{lower_steps}
+use Rattle.curve_call.proofs.LowerLoop.{lower_start, lower_step, lower_end}
 use Rattle.curve_call.proofs.lower.window_lower.Goals as goal
 
-pub made_of-requires-clause-fits : goal.made_of-requires-clause-fits
-made_of-requires-clause-fits c = lower_steps c.args.f.now c.args.g.now c.args.end c.requires.fits
+pub loop-walk-init : goal.loop-walk-init
+loop-walk-init c =
+    lower_start c.args.f.now c.args.g.now _ _ (started c.args.f.now c.args.g.now c.at_start-walk.result c.requires.left c.requires.right c.at_start-walk.ensures) c.in_ok-kept.ensures.items
+
+pub step-requires-clause-fits : goal.step-requires-clause-fits
+step-requires-clause-fits c = walk_fits Lower c.args.f.now c.args.g.now c.loop-walk.walk _ c.requires.cuts c.loop-walk.invariant.made
+
+pub join_parts-requires : goal.join_parts-requires
+join_parts-requires c =
+    steps_fit Lower c.args.f.now c.args.g.now c.args.end c.stretch_end-to.result c.loop-walk.walk _ (lower_steps c.args.f.now c.args.g.now c.args.end c.requires.fits) c.loop-walk.invariant.made
+    c.stretch_end-to.ensures.some c.stretch_end-to.ensures.next
+
+pub join_parts-requires-2 : goal.join_parts-requires-2
+join_parts-requires-2 c =
+    last_fits Lower c.args.f.now c.args.g.now c.args.end c.loop-walk.walk _ (lower_steps c.args.f.now c.args.g.now c.args.end c.requires.fits) c.loop-walk.invariant.made
+
+pub loop-walk-smaller : goal.loop-walk-smaller
+loop-walk-smaller c = next_fewer Lower c.args.f.now c.args.g.now c.loop-walk.walk c.step.new.w _ c.loop-walk.invariant.made c.step.ensures
+
+pub loop-walk-preserved : goal.loop-walk-preserved
+loop-walk-preserved c =
+    lower_step c.args.f.now c.args.g.now c.stretch_end-to.result c.loop-walk.walk c.step.new.w c.loop-walk.kept.items _ c.loop-walk.invariant c.stretch_end-to.ensures.next
+    c.in_ok-join_parts.ensures c.step.ensures
 
 pub returns : goal.returns
 returns c =
-    ok_map c.made_of.result (λ v. IsMadeWindow Lower c.args.f.now c.args.g.now c.args.end v.items)
-    (λ v. IsLowerOf c.args.f.now c.args.g.now c.args.end v.items)
-    (λ v W. lower_is c.args.end c.args.f.now c.args.g.now v.items c.requires.fits W) c.made_of.ensures
+    lower_end c.args.f.now c.args.g.now c.args.end c.loop-walk.walk c.loop-walk.kept.items _ c.requires.fits c.loop-walk.invariant c.if-walk-f.false c.if-walk-g.false
+    c.in_ok-join_parts-2.ensures
