@@ -10,23 +10,19 @@ use Rattle.rational.proofs.Laws.{le_refl}
 use Rattle.upp_curve.specs.declared.affine_segment.line.Piece.{Piece}
 use Rattle.upp_curve.specs.declared.affine_segment.element.Element.{Element}
 use Rattle.upp_curve.specs.affine_segment.Elements.{start_of}
-use Rattle.upp_curve.specs.affine_segment.Fits.{LineFitsAt}
 use Rattle.upp_curve.specs.affine_segment.Reading.{read, nothing_at}
-use Rattle.upp_curve.proofs.affine_segment.PieceOrder.{each_map}
 use Rattle.upp_limits.specs.Limits.{Sizes}
 use Rattle.upp_normal.specs.Operand.{AreLimited}
-use Rattle.upp_normal.specs.Normalising.{IsPart, IsMerged}
-use Rattle.upp_normal.proofs.NormaliseForm.{each_part}
 use Rattle.curve_call.specs.Stretches.{CutsFit}
-use Rattle.curve_call.specs.Lower.{LowerFits, IsLowerPiece, IsLowerOf}
+use Rattle.curve_call.specs.Lower.{LowerFits, IsLowerOf}
 use Rattle.element_envelope.specs.PieceElements.{Among}
 use Rattle.element_envelope.specs.Envelopes.{IsEnvelope}
-use Rattle.element_envelope.specs.SumWindows.{SumPiece, SumWindow}
-use Rattle.element_envelope.specs.EnvelopeWindows.{EnvelopeRoom, LowerJoins, IsEnvelopeWindow}
+use Rattle.element_envelope.specs.SumWindows.{SumWindow}
+use Rattle.element_envelope.specs.EnvelopeWindows.{EnvelopeRoom, IsEnvelopeWindow}
 use Rattle.element_envelope.proofs.Members.{among_left, among_right}
 use Rattle.element_envelope.proofs.Envelopes.{envelope_rules}
 use Rattle.element_envelope.proofs.Arching.{same_arches, lesser_arches, nothing_arches}
-use Rattle.element_envelope.proofs.SumSteps.{line_fits_at, sum_cuts_fit}
+use Rattle.element_envelope.proofs.SumSteps.{sum_cuts_fit}
 use Rattle.element_envelope.proofs.SumLower.{sum_lower_fits, sum_lower}
 use Rattle.upp_curve.proofs.affine_segment.PieceIn.{read_one, nothing_read}
 
@@ -105,13 +101,11 @@ right_back end xs ys front back e r = part_room end xs ys xs back (λ x h. h) (�
 pub record LowerReady (end : ℚ) (f g : List Piece) : Type 0 where
   pub cuts : CutsFit f g
   pub fits : LowerFits end f g
-  pub joins : LowerJoins end f g
 
 pub lower_ready : (z : Sizes) (end : ℚ) (f g : List Piece) → AreLimited z end → SumWindow z end f → SumWindow z end g → LowerReady end f g
 lower_ready z end f g A F G = record {
   cuts = sum_cuts_fit z end f g A F G;
   fits = sum_lower_fits z end f g A F G;
-  joins = λ ps L. each_map (SumPiece z end) (λ p. LineFitsAt p.x p.line) (λ p P. line_fits_at z end p.x p.line A P.line P.start) ps (sum_lower z end f g ps A F G L).each;
 }
 
 pub left_ready : (end : ℚ) (xs front back ys : List Element) (f g : List Piece) → front ++ back ≡ xs → EnvelopeRoom end xs ys
@@ -169,28 +163,3 @@ pub ok_nothing : {E : Type 0} (r : Result (Vec Piece Global) E) (end : ℚ) (xs 
     → IfOk r (λ v. v.items ≡ nothing_at (int (pos 0)) ∷ []) → IfOk r (λ v. IsEnvelopeWindow end xs ys v.items)
 ok_nothing (Ok v) end xs ys h k = subst (IsEnvelopeWindow end xs ys) (sym k) h
 ok_nothing (Err e) end xs ys h k = k
-
--- ---- the lower with neighbours joined is one again
-part_length : (rs ps : List Piece) → IsPart rs ps → length rs ≤ length ps
-part_length rs [] e = rw e (omega arith)
-part_length rs (p ∷ ps) (inl k) = let l = part_length rs ps k in omega arith
-part_length rs (p ∷ ps) (inr (qs, e, k)) = let l = part_length qs ps k in rw e (omega arith)
-
-joined_lower : (f g : List Piece) (end : ℚ) (p : Piece) (ps kept : List Piece) → IsLowerOf f g end (p ∷ ps) → IsMerged p ps kept → IsLowerOf f g end (p ∷ kept)
-joined_lower f g end p ps kept L M = record {
-  starts = (L.starts.0, M.rises);
-  reads = λ t low high. M.reads t ∙ L.reads t low high;
-  early = (L.early.0, each_part (λ q. q.x <ℚ end) kept ps M.part L.early.1);
-  each = (L.each.0, each_part (IsLowerPiece f g end) kept ps M.part L.each.1);
-  count = let l = part_length kept ps M.part in let c = L.count in omega arith;
-}
-
-pub ok_joined : {E : Type 0} (r : Result (Vec Piece Global) E) (f g : List Piece) (end : ℚ) (all : List Piece) → IsLowerOf f g end all
-    → ((p : Piece) (ps : List Piece) → all ≡ p ∷ ps → IfOk r (λ v. (kept : List Piece) × (v.items ≡ p ∷ kept) × IsMerged p ps kept))
-    → IfOk r (λ v. IsLowerOf f g end v.items)
-ok_joined r f g end [] L h = absurd L.starts
-ok_joined r f g end (p ∷ ps) L h = go r (h p ps refl)
-  where
-    go : {E : Type 0} (r : Result (Vec Piece Global) E) → IfOk r (λ v. (kept : List Piece) × (v.items ≡ p ∷ kept) × IsMerged p ps kept) → IfOk r (λ v. IsLowerOf f g end v.items)
-    go (Ok v) (kept, e, M) = subst (IsLowerOf f g end) (sym e) (joined_lower f g end p ps kept L M)
-    go (Err e) k = k

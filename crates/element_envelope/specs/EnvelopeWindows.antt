@@ -6,9 +6,7 @@ use Rattle.upp_curve.specs.declared.affine_segment.line.Piece.{Piece}
 use Rattle.upp_curve.specs.declared.affine_segment.element.Element.{Element}
 use Rattle.upp_curve.specs.affine_segment.Elements.{IsProper}
 use Rattle.upp_limits.specs.Limits.{Sizes}
-use Rattle.upp_curve.specs.affine_segment.Fits.{LineFitsAt}
-use Rattle.upp_curve.specs.affine_segment.Pieces.{Each, StartsAtZero}
-use Rattle.curve_call.specs.Lower.{IsLowerOf}
+use Rattle.upp_curve.specs.affine_segment.Pieces.{StartsAtZero}
 use Rattle.upp_normal.specs.Operand.{AreLimited}
 use Rattle.upp_curve.specs.affine_segment.Reading.{read}
 use Rattle.element_envelope.specs.PieceElements.{Among}
@@ -27,10 +25,6 @@ pub record EnvelopeRoom (end : ℚ) (xs ys : List Element) : Type 0 where
   pub right_proper : (e : Element) → Among e ys → IsProper e
   pub left : (e : Element) → Among e xs → OperandElement sizes end e
   pub right : (e : Element) → Among e ys → OperandElement sizes end e
-
--- each piece of the lower of two windows has a value on its line at its start that fits
-abbrev pub LowerJoins : ℚ → List Piece → List Piece → Type 0
-LowerJoins end f g = (ps : List Piece) → IsLowerOf f g end ps → Each (λ p. LineFitsAt p.x p.line) ps
 
 -- pieces from 0 on that read, before the end, as the least of all pairs; they stand where what elements make stands,
 -- and bend only downwards between the times of the grid

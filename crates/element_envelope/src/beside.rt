@@ -3,7 +3,8 @@
 ghost use Rattle.std.specs.Prelude.{IfOk};
 ghost use Rattle.element_envelope.specs.EnvelopeWindows.{BesideRoom, IsLowerEnvelope};
 
-use crate::least::{MadePieces, envelope, lower_joined};
+use crate::least::{MadePieces, envelope};
+use curve_call::window_lower;
 use fraction128::Frac;
 use std::alloc::Global;
 use upp_curve::affine_segment::{Element, Piece};
@@ -21,5 +22,5 @@ pub fn lower_envelope(
     ensures { IfOk result (λ v. IsLowerEnvelope end own.now xs.now ys.now v.items) }
 {
     let pairs = envelope(alloc, xs, ys, end)?;
-    lower_joined(alloc, own, &pairs, end)
+    window_lower(alloc, own, &pairs, end)
 }

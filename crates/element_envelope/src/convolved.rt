@@ -9,9 +9,10 @@ ghost use Rattle.element_envelope.specs.Turnings.{AreCopies};
 
 use crate::copies::least_copies;
 use crate::cutting::cut;
-use crate::least::{MadePieces, envelope, lower_joined};
+use crate::least::{MadePieces, envelope};
 use crate::near::{near_starts, steepest};
 use crate::starts::{are_low_at_starts, turning_starts};
+use curve_call::window_lower;
 use fraction128::Frac;
 use rational::Extended;
 use std::alloc::{AllocError, Global};
@@ -53,7 +54,7 @@ fn by_starts(alloc: Global, f: &[Piece], g: &[Piece], from: Frac, end: Frac) -> 
 {
     let left = copies_at(alloc, f, g, from, end)?;
     let right = copies_at(alloc, g, f, from, end)?;
-    lower_joined(alloc, &left, &right, end)
+    window_lower(alloc, &left, &right, end)
 }
 
 // By all pairs of their elements, from 0 on.

@@ -10,8 +10,9 @@ ghost use Rattle.element_envelope.specs.JoinedWindows.{lead_of};
 ghost use Rattle.element_envelope.specs.CopyWindows.{CopyRoom, IsCopyWindow};
 ghost use Rattle.element_envelope.specs.CopyPieces.{copy_start, skipped};
 
-use crate::least::{lower_joined, nothing};
+use crate::least::nothing;
 use crate::window::lead;
+use curve_call::window_lower;
 use fraction128::{Frac, difference, is_less, sum};
 use rational::Extended;
 use std::alloc::{AllocError, Global};
@@ -30,15 +31,6 @@ fn copy_start(x: Frac, pieces: &[Piece]) -> Frac
     }
 }
 
-// Infinity from 0 on, up to a later start, with room for more pieces.
-fn lead_with_room(alloc: Global, start: Frac, room: usize) -> Result<Vec<Piece>, AllocError>
-    ensures { IfOk result (λ v. v.items ≡ lead_of start) }
-{
-    let mut pieces = lead(alloc, start)?;
-    pieces.reserve_exact(room)?;
-    Ok(pieces)
-}
-
 // The pieces x later and v higher, of those that then start before `end`; infinite before the first.
 fn copy_of(
     alloc: Global,
@@ -52,7 +44,8 @@ fn copy_of(
     ensures { IfOk result (λ w. w.items ≡ lead_of (copy_start x pieces.now) ++ upto end (each_later x v pieces.now)) }
 {
     let left = difference(end, x);
-    let mut copy = lead_with_room(alloc, copy_start(x, pieces), count_before(pieces, left))?;
+    let room = pieces.len().saturating_add(1);
+    let mut copy = lead(alloc, copy_start(x, pieces), room)?;
     for p in pieces {
         if !is_less(p.x, left) {
             return Ok(copy);
@@ -109,7 +102,7 @@ pub(crate) fn least_copies(
         let (front, back) = starts.split_at(starts.len() / 2);
         let f = least_copies(alloc, front, pieces, from, end)?;
         let g = least_copies(alloc, back, pieces, from, end)?;
-        return lower_joined(alloc, &f, &g, end);
+        return window_lower(alloc, &f, &g, end);
     }
     copy_window(alloc, &starts[0], pieces, from, end)
 }

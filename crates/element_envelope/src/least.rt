@@ -3,12 +3,9 @@
 ghost use Rattle.std.specs.Prelude.{◌≡◌, pos, [], ◌∷◌, length, IfOk, IsTrue, All};
 ghost use Rattle.rational.specs.Rational.{int, ◌+ℚ◌, ◌≤ℚ◌};
 ghost use Rattle.upp_curve.specs.affine_segment.Elements.{start_of};
-ghost use Rattle.upp_curve.specs.affine_segment.Pieces.{StartsAtZero};
-ghost use Rattle.curve_call.specs.Stretches.{CutsFit};
-ghost use Rattle.curve_call.specs.Lower.{LowerFits, IsLowerOf};
 ghost use Rattle.upp_curve.specs.Unrolled.{upto};
 ghost use Rattle.upp_curve.specs.affine_segment.Reading.{nothing_at};
-ghost use Rattle.element_envelope.specs.EnvelopeWindows.{EnvelopeRoom, LowerJoins, IsEnvelopeWindow};
+ghost use Rattle.element_envelope.specs.EnvelopeWindows.{EnvelopeRoom, IsEnvelopeWindow};
 
 use crate::pair::joined;
 use crate::window::joined_window;
@@ -17,7 +14,7 @@ use fraction128::{Frac, is_less};
 use rational::Extended;
 use std::alloc::{AllocError, Global};
 use upp_curve::affine_segment::{Element, Piece, start_of};
-use upp_normal::{count_before, merged};
+use upp_normal::count_before;
 
 /// Pieces, or want of memory.
 pub(crate) type MadePieces = Result<Vec<Piece>, AllocError>;
@@ -52,19 +49,6 @@ fn pair_window(alloc: Global, a: &Element, b: &Element, end: Frac) -> Result<Vec
 {
     let pieces = joined_window(alloc, &joined(a, b))?;
     Ok(early(pieces, end))
-}
-
-/// The lower of two windows, with neighbours joined that are one piece.
-pub(crate) fn lower_joined(alloc: Global, f: &[Piece], g: &[Piece], end: Frac) -> MadePieces
-    requires left { StartsAtZero f.now }
-    requires right { StartsAtZero g.now }
-    requires cuts { CutsFit f.now g.now }
-    requires fits { LowerFits end f.now g.now }
-    requires joins { LowerJoins end f.now g.now }
-    ensures { IfOk result (λ v. IsLowerOf f.now g.now end v.items) }
-{
-    let pieces = window_lower(alloc, f, g, end)?;
-    merged(alloc, &pieces)
 }
 
 // Whether two elements make nothing that starts before `end`.
@@ -125,13 +109,13 @@ pub fn envelope(
         let (front, back) = xs.split_at(xs.len() / 2);
         let f = envelope(alloc, front, ys, end)?;
         let g = envelope(alloc, back, ys, end)?;
-        return lower_joined(alloc, &f, &g, end);
+        return window_lower(alloc, &f, &g, end);
     }
     if ys.len() > 1 {
         let (front, back) = ys.split_at(ys.len() / 2);
         let f = envelope(alloc, xs, front, end)?;
         let g = envelope(alloc, xs, back, end)?;
-        return lower_joined(alloc, &f, &g, end);
+        return window_lower(alloc, &f, &g, end);
     }
     pair_window(alloc, &xs[0], &ys[0], end)
 }

@@ -101,7 +101,7 @@ pub(crate) fn near_starts(
 ) -> Result<Vec<Piece>, AllocError>
     ensures { IfOk result (λ v. IsNear r first.now starts.now v.items) }
 {
-    let mut kept = Vec::new(alloc);
+    let mut kept = Vec::with_capacity(alloc, starts.len())?;
     for q in starts {
         if !is_far(r, first, q) {
             kept.push(*q)?;

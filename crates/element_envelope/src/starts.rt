@@ -94,7 +94,7 @@ pub(crate) fn turning_starts(alloc: Global, pieces: &[Piece]) -> Result<Vec<Piec
     requires { (end : ℚ) × HaveWindowRoom end pieces.now }
     ensures { IfOk result (λ v. IsThinned None pieces.now v.items) }
 {
-    let mut kept = Vec::new(alloc);
+    let mut kept = Vec::with_capacity(alloc, pieces.len())?;
     let mut before = None;
     for p in pieces {
         if !bends_down(&before, p) {

@@ -12,6 +12,9 @@ use std::alloc::{AllocError, Global};
 use std::cmp::Ordering;
 use upp_curve::affine_segment::{Element, Joined, Piece, start_of};
 
+/// So many pieces two elements make at most: what is before them, the two parts, and what is after.
+const MOST_JOINED: usize = 4;
+
 // Infinity from an end on.
 fn push_end(pieces: &mut Vec<Piece>, end: &Ext) -> Result<(), AllocError>
     ensures { OnOk result (pieces.new.items ≡ pieces.old.items ++ after_end end.now) }
@@ -100,11 +103,11 @@ fn push_joined(pieces: &mut Vec<Piece>, j: &Joined) -> Result<(), AllocError>
     }
 }
 
-/// Infinity from 0 on, up to a later start.
-pub(crate) fn lead(alloc: Global, start: Frac) -> Result<Vec<Piece>, AllocError>
+/// Infinity from 0 on, up to a later start, with room for so many pieces.
+pub(crate) fn lead(alloc: Global, start: Frac, room: usize) -> Result<Vec<Piece>, AllocError>
     ensures { IfOk result (λ v. v.items ≡ lead_of start) }
 {
-    let mut pieces = Vec::new(alloc);
+    let mut pieces = Vec::with_capacity(alloc, room)?;
     match start.cmp(&Frac::zero()) {
         Ordering::Greater => {
             pieces.push(Piece {
@@ -124,7 +127,7 @@ pub fn joined_window(alloc: Global, j: &Joined) -> Result<Vec<Piece>, AllocError
     requires adjoined { AreAdjoined j.now.first j.now.join j.now.second }
     ensures { IfOk result (λ v. IsWindowOf j.now v.items) }
 {
-    let mut pieces = lead(alloc, start_of(&j.first))?;
+    let mut pieces = lead(alloc, start_of(&j.first), MOST_JOINED)?;
     push_joined(&mut pieces, j)?;
     Ok(pieces)
 }

@@ -13,20 +13,16 @@ both c = record {
   second = subst (AreCopies c.args.from c.args.end c.args.g.now c.args.f.now) (sym c.deref-2.ensures.value) c.in_ok-right.ensures;
 }
 
-pub lower_joined-requires-clause-cuts : goal.lower_joined-requires-clause-cuts
-lower_joined-requires-clause-cuts c =
-    (both_ready c.args.from c.args.end c.args.f.now c.args.g.now _ _ c.requires.windows (both (goal.at.lower_joined-requires-clause-cuts c).After-deref-2)).cuts
+pub window_lower-requires-clause-cuts : goal.window_lower-requires-clause-cuts
+window_lower-requires-clause-cuts c =
+    (both_ready c.args.from c.args.end c.args.f.now c.args.g.now _ _ c.requires.windows (both (goal.at.window_lower-requires-clause-cuts c).After-deref-2)).cuts
 
-pub lower_joined-requires-clause-fits : goal.lower_joined-requires-clause-fits
-lower_joined-requires-clause-fits c =
-    (both_ready c.args.from c.args.end c.args.f.now c.args.g.now _ _ c.requires.windows (both (goal.at.lower_joined-requires-clause-fits c).After-deref-2)).fits
-
-pub lower_joined-requires-clause-joins : goal.lower_joined-requires-clause-joins
-lower_joined-requires-clause-joins c =
-    (both_ready c.args.from c.args.end c.args.f.now c.args.g.now _ _ c.requires.windows (both (goal.at.lower_joined-requires-clause-joins c).After-deref-2)).joins
+pub window_lower-requires-clause-fits : goal.window_lower-requires-clause-fits
+window_lower-requires-clause-fits c =
+    (both_ready c.args.from c.args.end c.args.f.now c.args.g.now _ _ c.requires.windows (both (goal.at.window_lower-requires-clause-fits c).After-deref-2)).fits
 
 pub returns : goal.returns
 returns c =
-    ok_both c.lower_joined.result c.args.from c.args.end c.deref.result.now c.deref-2.result.now c.args.f.now c.args.g.now
+    ok_both c.window_lower.result c.args.from c.args.end c.deref.result.now c.deref-2.result.now c.args.f.now c.args.g.now
     (λ qs L. both_convolve c.args.from c.args.end c.args.f.now c.args.g.now _ _ qs c.requires.windows c.requires.left c.requires.right (both (goal.at.returns c).After-deref-2) L)
-    c.lower_joined.ensures
+    c.window_lower.ensures

@@ -25,33 +25,26 @@ least_copies-requires-then-starts-gt1 t c = (
   rest_room c.args.from c.args.end c.args.starts.now c.split_at.result.0.now c.split_at.result.1.now c.args.pieces.now (joined_is _ _ c.args.starts.now _ c.split_at.ensures.front c.split_at.ensures.back) c.requires,
 )
 
-pub lower_joined-requires-clause-cuts : goal.lower_joined-requires-clause-cuts
-lower_joined-requires-clause-cuts t c =
+pub window_lower-requires-clause-cuts : goal.window_lower-requires-clause-cuts
+window_lower-requires-clause-cuts t c =
     (halves_ready c.args.from c.args.end c.args.starts.now c.split_at.result.0.now c.split_at.result.1.now c.args.pieces.now c.deref.result.now c.deref-then-starts-gt1.result.now
     (joined_is _ _ c.args.starts.now _ c.split_at.ensures.front c.split_at.ensures.back) c.requires
     (subst (IsCopyWindow c.args.from c.args.end c.split_at.result.0.now c.args.pieces.now) (sym c.deref.ensures.value) c.in_ok-f.ensures)
     (subst (IsCopyWindow c.args.from c.args.end c.split_at.result.1.now c.args.pieces.now) (sym c.deref-then-starts-gt1.ensures.value) c.in_ok-g.ensures)).cuts
 
-pub lower_joined-requires-clause-fits : goal.lower_joined-requires-clause-fits
-lower_joined-requires-clause-fits t c =
+pub window_lower-requires-clause-fits : goal.window_lower-requires-clause-fits
+window_lower-requires-clause-fits t c =
     (halves_ready c.args.from c.args.end c.args.starts.now c.split_at.result.0.now c.split_at.result.1.now c.args.pieces.now c.deref.result.now c.deref-then-starts-gt1.result.now
     (joined_is _ _ c.args.starts.now _ c.split_at.ensures.front c.split_at.ensures.back) c.requires
     (subst (IsCopyWindow c.args.from c.args.end c.split_at.result.0.now c.args.pieces.now) (sym c.deref.ensures.value) c.in_ok-f.ensures)
     (subst (IsCopyWindow c.args.from c.args.end c.split_at.result.1.now c.args.pieces.now) (sym c.deref-then-starts-gt1.ensures.value) c.in_ok-g.ensures)).fits
 
-pub lower_joined-requires-clause-joins : goal.lower_joined-requires-clause-joins
-lower_joined-requires-clause-joins t c =
-    (halves_ready c.args.from c.args.end c.args.starts.now c.split_at.result.0.now c.split_at.result.1.now c.args.pieces.now c.deref.result.now c.deref-then-starts-gt1.result.now
-    (joined_is _ _ c.args.starts.now _ c.split_at.ensures.front c.split_at.ensures.back) c.requires
-    (subst (IsCopyWindow c.args.from c.args.end c.split_at.result.0.now c.args.pieces.now) (sym c.deref.ensures.value) c.in_ok-f.ensures)
-    (subst (IsCopyWindow c.args.from c.args.end c.split_at.result.1.now c.args.pieces.now) (sym c.deref-then-starts-gt1.ensures.value) c.in_ok-g.ensures)).joins
-
 pub returns-then-starts-gt1 : goal.returns-then-starts-gt1
 returns-then-starts-gt1 t c =
-    ok_halves c.lower_joined.result c.args.from c.args.end c.deref.result.now c.deref-then-starts-gt1.result.now c.args.starts.now c.args.pieces.now
+    ok_halves c.window_lower.result c.args.from c.args.end c.deref.result.now c.deref-then-starts-gt1.result.now c.args.starts.now c.args.pieces.now
     (λ ps L.
     halves c.args.from c.args.end c.args.starts.now c.split_at.result.0.now c.split_at.result.1.now c.args.pieces.now c.deref.result.now c.deref-then-starts-gt1.result.now ps
     (joined_is _ _ c.args.starts.now _ c.split_at.ensures.front c.split_at.ensures.back)
     (subst (IsCopyWindow c.args.from c.args.end c.split_at.result.0.now c.args.pieces.now) (sym c.deref.ensures.value) c.in_ok-f.ensures)
     (subst (IsCopyWindow c.args.from c.args.end c.split_at.result.1.now c.args.pieces.now) (sym c.deref-then-starts-gt1.ensures.value) c.in_ok-g.ensures) L)
-    c.lower_joined.ensures
+    c.window_lower.ensures

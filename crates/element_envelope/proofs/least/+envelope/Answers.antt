@@ -41,60 +41,45 @@ envelope-requires-then-ys-gt1-2 t c = (
   right_back c.args.end c.args.xs.now c.args.ys.now c.split_at-then-ys-gt1.result.0.now c.split_at-then-ys-gt1.result.1.now (joined_is _ _ c.args.ys.now _ c.split_at-then-ys-gt1.ensures.front c.split_at-then-ys-gt1.ensures.back) c.requires,
 )
 
-pub lower_joined-requires-clause-cuts : goal.lower_joined-requires-clause-cuts
-lower_joined-requires-clause-cuts t c =
+pub window_lower-requires-clause-cuts : goal.window_lower-requires-clause-cuts
+window_lower-requires-clause-cuts t c =
     (left_ready c.args.end c.args.xs.now c.split_at.result.0.now c.split_at.result.1.now c.args.ys.now c.deref.result.now c.deref-then-xs-gt1.result.now
     (joined_is _ _ c.args.xs.now _ c.split_at.ensures.front c.split_at.ensures.back) c.requires
     (subst (IsEnvelopeWindow c.args.end c.split_at.result.0.now c.args.ys.now) (sym c.deref.ensures.value) c.in_ok-f.ensures)
     (subst (IsEnvelopeWindow c.args.end c.split_at.result.1.now c.args.ys.now) (sym c.deref-then-xs-gt1.ensures.value) c.in_ok-g.ensures)).cuts
 
-pub lower_joined-requires-clause-fits : goal.lower_joined-requires-clause-fits
-lower_joined-requires-clause-fits t c =
+pub window_lower-requires-clause-fits : goal.window_lower-requires-clause-fits
+window_lower-requires-clause-fits t c =
     (left_ready c.args.end c.args.xs.now c.split_at.result.0.now c.split_at.result.1.now c.args.ys.now c.deref.result.now c.deref-then-xs-gt1.result.now
     (joined_is _ _ c.args.xs.now _ c.split_at.ensures.front c.split_at.ensures.back) c.requires
     (subst (IsEnvelopeWindow c.args.end c.split_at.result.0.now c.args.ys.now) (sym c.deref.ensures.value) c.in_ok-f.ensures)
     (subst (IsEnvelopeWindow c.args.end c.split_at.result.1.now c.args.ys.now) (sym c.deref-then-xs-gt1.ensures.value) c.in_ok-g.ensures)).fits
 
-pub lower_joined-requires-clause-joins : goal.lower_joined-requires-clause-joins
-lower_joined-requires-clause-joins t c =
-    (left_ready c.args.end c.args.xs.now c.split_at.result.0.now c.split_at.result.1.now c.args.ys.now c.deref.result.now c.deref-then-xs-gt1.result.now
-    (joined_is _ _ c.args.xs.now _ c.split_at.ensures.front c.split_at.ensures.back) c.requires
-    (subst (IsEnvelopeWindow c.args.end c.split_at.result.0.now c.args.ys.now) (sym c.deref.ensures.value) c.in_ok-f.ensures)
-    (subst (IsEnvelopeWindow c.args.end c.split_at.result.1.now c.args.ys.now) (sym c.deref-then-xs-gt1.ensures.value) c.in_ok-g.ensures)).joins
-
-pub lower_joined-requires-then-ys-gt1-clause-cuts : goal.lower_joined-requires-then-ys-gt1-clause-cuts
-lower_joined-requires-then-ys-gt1-clause-cuts t c =
+pub window_lower-requires-then-ys-gt1-clause-cuts : goal.window_lower-requires-then-ys-gt1-clause-cuts
+window_lower-requires-then-ys-gt1-clause-cuts t c =
     let s = c.split_at-then-ys-gt1 in
     (right_ready c.args.end c.args.xs.now c.args.ys.now s.result.0.now s.result.1.now c.deref-then-ys-gt1.result.now c.deref-then-ys-gt1-2.result.now
     (joined_is _ _ c.args.ys.now _ s.ensures.front s.ensures.back) c.requires
     (subst (IsEnvelopeWindow c.args.end c.args.xs.now s.result.0.now) (sym c.deref-then-ys-gt1.ensures.value) c.in_ok-f-2.ensures)
     (subst (IsEnvelopeWindow c.args.end c.args.xs.now s.result.1.now) (sym c.deref-then-ys-gt1-2.ensures.value) c.in_ok-g-2.ensures)).cuts
 
-pub lower_joined-requires-then-ys-gt1-clause-fits : goal.lower_joined-requires-then-ys-gt1-clause-fits
-lower_joined-requires-then-ys-gt1-clause-fits t c =
+pub window_lower-requires-then-ys-gt1-clause-fits : goal.window_lower-requires-then-ys-gt1-clause-fits
+window_lower-requires-then-ys-gt1-clause-fits t c =
     let s = c.split_at-then-ys-gt1 in
     (right_ready c.args.end c.args.xs.now c.args.ys.now s.result.0.now s.result.1.now c.deref-then-ys-gt1.result.now c.deref-then-ys-gt1-2.result.now
     (joined_is _ _ c.args.ys.now _ s.ensures.front s.ensures.back) c.requires
     (subst (IsEnvelopeWindow c.args.end c.args.xs.now s.result.0.now) (sym c.deref-then-ys-gt1.ensures.value) c.in_ok-f-2.ensures)
     (subst (IsEnvelopeWindow c.args.end c.args.xs.now s.result.1.now) (sym c.deref-then-ys-gt1-2.ensures.value) c.in_ok-g-2.ensures)).fits
 
-pub lower_joined-requires-then-ys-gt1-clause-joins : goal.lower_joined-requires-then-ys-gt1-clause-joins
-lower_joined-requires-then-ys-gt1-clause-joins t c =
-    let s = c.split_at-then-ys-gt1 in
-    (right_ready c.args.end c.args.xs.now c.args.ys.now s.result.0.now s.result.1.now c.deref-then-ys-gt1.result.now c.deref-then-ys-gt1-2.result.now
-    (joined_is _ _ c.args.ys.now _ s.ensures.front s.ensures.back) c.requires
-    (subst (IsEnvelopeWindow c.args.end c.args.xs.now s.result.0.now) (sym c.deref-then-ys-gt1.ensures.value) c.in_ok-f-2.ensures)
-    (subst (IsEnvelopeWindow c.args.end c.args.xs.now s.result.1.now) (sym c.deref-then-ys-gt1-2.ensures.value) c.in_ok-g-2.ensures)).joins
-
 pub returns-then-xs-gt1 : goal.returns-then-xs-gt1
 returns-then-xs-gt1 t c =
-    ok_lower c.lower_joined.result c.deref.result.now c.deref-then-xs-gt1.result.now c.args.end c.args.xs.now c.args.ys.now
+    ok_lower c.window_lower.result c.deref.result.now c.deref-then-xs-gt1.result.now c.args.end c.args.xs.now c.args.ys.now
     (λ ps L.
     left_halves c.args.end c.args.xs.now c.split_at.result.0.now c.split_at.result.1.now c.args.ys.now c.deref.result.now c.deref-then-xs-gt1.result.now ps
     (joined_is _ _ c.args.xs.now _ c.split_at.ensures.front c.split_at.ensures.back)
     (subst (IsEnvelopeWindow c.args.end c.split_at.result.0.now c.args.ys.now) (sym c.deref.ensures.value) c.in_ok-f.ensures)
     (subst (IsEnvelopeWindow c.args.end c.split_at.result.1.now c.args.ys.now) (sym c.deref-then-xs-gt1.ensures.value) c.in_ok-g.ensures) L)
-    c.lower_joined.ensures
+    c.window_lower.ensures
 
 pub returns-then-are_late : goal.returns-then-are_late
 returns-then-are_late t c =
@@ -103,10 +88,10 @@ returns-then-are_late t c =
 pub returns-then-ys-gt1 : goal.returns-then-ys-gt1
 returns-then-ys-gt1 t c =
     let s = c.split_at-then-ys-gt1 in
-    ok_lower c.lower_joined-then-ys-gt1.result c.deref-then-ys-gt1.result.now c.deref-then-ys-gt1-2.result.now c.args.end c.args.xs.now c.args.ys.now
+    ok_lower c.window_lower-then-ys-gt1.result c.deref-then-ys-gt1.result.now c.deref-then-ys-gt1-2.result.now c.args.end c.args.xs.now c.args.ys.now
     (λ ps L.
     right_halves c.args.end c.args.xs.now c.args.ys.now s.result.0.now s.result.1.now c.deref-then-ys-gt1.result.now c.deref-then-ys-gt1-2.result.now ps
     (joined_is _ _ c.args.ys.now _ s.ensures.front s.ensures.back)
     (subst (IsEnvelopeWindow c.args.end c.args.xs.now s.result.0.now) (sym c.deref-then-ys-gt1.ensures.value) c.in_ok-f-2.ensures)
     (subst (IsEnvelopeWindow c.args.end c.args.xs.now s.result.1.now) (sym c.deref-then-ys-gt1-2.ensures.value) c.in_ok-g-2.ensures) L)
-    c.lower_joined-then-ys-gt1.ensures
+    c.window_lower-then-ys-gt1.ensures

@@ -8,7 +8,7 @@ use Rattle.element_envelope.proofs.near.near_starts.Goals as goal
 use Rattle.element_envelope.proofs.near.near_starts.Goals.{then-not-is_far+in_ok-push, else-not-is_far}
 
 pub loop-q-init : goal.loop-q-init
-loop-q-init c = near_none c.args.r c.args.first.now c.args.starts.now c.new-kept.result.items c.new-kept.ensures.items
+loop-q-init c = near_none c.args.r c.args.first.now c.args.starts.now c.in_ok-kept.kept.items c.in_ok-kept.ensures.items
 
 pub loop-q-preserved : goal.loop-q-preserved
 loop-q-preserved c =

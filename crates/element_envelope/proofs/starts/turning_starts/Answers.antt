@@ -7,7 +7,7 @@ use Rattle.element_envelope.proofs.starts.turning_starts.Goals as goal
 use Rattle.element_envelope.proofs.starts.turning_starts.Goals.{then-not-bends_down+in_ok-push, else-not-bends_down}
 
 pub loop-p-init : goal.loop-p-init
-loop-p-init c = (thinned_none c.args.pieces.now c.new-kept.result.items c.new-kept.ensures.items, λ z end h. tt)
+loop-p-init c = (thinned_none c.args.pieces.now c.in_ok-kept.kept.items c.in_ok-kept.ensures.items, λ z end h. tt)
 
 pub bends_down-requires : goal.bends_down-requires
 bends_down-requires c =
