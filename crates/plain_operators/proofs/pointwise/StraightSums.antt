@@ -1,14 +1,16 @@
 -- Curves of one line each: that they are curves, their numbers, and that a sum of two is within the limits where its numbers are small.
-use Rattle.std.specs.Prelude.{◌≡◌, ℕ, ◌+◌, ◌-◌, ◌*◌, ◌/◌, ◌<◌, ◌≤◌, ◌^◌, nat_abs, pos, Bool, true, false, cond, length, map, List, [], ◌∷◌, ◌++◌, Some, None}
+use Rattle.std.specs.Prelude.{◌≡◌, ℕ, suc, ◌+◌, ◌*◌, ◌<◌, ◌≤◌, ◌^◌, nat_abs, pos, Bool, true, false, cond, length, map, List, [], ◌∷◌, ◌++◌, Some, None}
 use Rattle.std.specs.List.{AllByRecursion, flat_map}
 use Rattle.std.proofs.Common.{arith, sym, ap, ap₂, ◌∙◌, refl, subst}
 use Rattle.std.proofs.Math.Nat.{max-le}
-use native.Mathlib.Nat.{div-one, le_of_dvd, mul-le-mul_right}
+use Rattle.std.proofs.lemmas.Nat.{mul-le}
+use native.Mathlib.Nat.{dvd-mul_left, le-mul_of_pos_right, le_of_dvd, zero-lt-suc}
 use Rattle.rational.specs.Rational.{ℚ, ◌+ℚ◌, ◌*ℚ◌, ◌≤ℚ◌, ◌<ℚ◌, int, den, le_q}
 use Rattle.rational.specs.MinMax.{max_q}
 use Rattle.rational.specs.Grid.{Whole, Within}
 use Rattle.rational.specs.Ratio.{IsSmall}
-use Rattle.rational.specs.Gauge.{common_den, bound_of, size_up, up_over}
+use Rattle.rational.specs.Fractions.{frac_self}
+use Rattle.rational.specs.Gauge.{common_den, bound_of}
 use Rattle.rational.specs.Extended.{◌+ₑ◌}
 use Rattle.rational.specs.declared.Extended.TheVariants.{Fin}
 use Rattle.rational.proofs.Laws.{le_refl, le_trans, le_of_lt, mul_zero, add_zero, mul_le_mul}
@@ -16,7 +18,7 @@ use Rattle.rational.proofs.Linear.{with1}
 use Rattle.rational.proofs.Integers.{int_add, int_mul, nat_le, nat_nonneg}
 use Rattle.rational.proofs.MinMax.{max_q_ge_left, max_q_le}
 use Rattle.rational.proofs.Over.{lt_q_out}
-use Rattle.rational.proofs.Grid.{whole_int, whole_add, whole_den, max_whole, within_add, within_weaken}
+use Rattle.rational.proofs.Grid.{whole_int, whole_add, whole_both, whole_den, whole_weaken, max_whole, within_add}
 use Rattle.upp_curve.specs.affine_segment.Values.{line_at, line_value}
 use Rattle.upp_curve.specs.affine_segment.Reading.{read, piece_in, piece_value}
 use Rattle.upp_curve.specs.affine_segment.Pieces.{Each}
@@ -33,8 +35,7 @@ use Rattle.upp_limits.specs.Limits.{Numbers, Sizes, no_numbers, joined, curve_nu
 use Rattle.upp_limits.specs.Sized.{Stands}
 use Rattle.upp_limits.specs.Gauges.{numbers_over, gauge_over, tally_over, gauge_at, tally_at}
 use Rattle.upp_limits.specs.Outcome.{IsWithin}
-use Rattle.upp_limits.proofs.Every.{every_weaken}
-use Rattle.upp_limits.proofs.CommonDen.{common_den_pos, common_den_least, bound_least, size_up_within}
+use Rattle.upp_limits.proofs.CommonDen.{common_den_pos, common_den_least, bound_least, within_parts}
 use Rattle.upp_limits.proofs.Rounding.{whole_up_most}
 use Rattle.upp_limits.proofs.CurveStands.{are_sizes}
 use Rattle.upp_limits.proofs.Stands.{sizes_stand}
@@ -146,23 +147,18 @@ unfolding window_at common_period
 ends s t = end_after (both_steady (straight_curve s) (straight_curve t)) (later_of (steady (straight_curve s)) (steady (straight_curve t)) (begins s) (begins t))
 
 -- ---- small numbers
-little_size : (x : ℚ) → den x ≡ 1 → nat_abs x.num ≤ 2 ^ 48 → size_up x ≤ 2 ^ 48
-unfolding size_up
-little_size x e h =
-    let over : (nat_abs x.num + (1 - 1)) / 1 ≡ nat_abs x.num + (1 - 1) = div-one (nat_abs x.num + (1 - 1)) in
-    let most : up_over (nat_abs x.num) 1 ≤ 2 ^ 48 = omega (arith, over, h) in
-    subst (λ d. up_over (nat_abs x.num) d ≤ 2 ^ 48) (sym e) most
+num_within : (n : ℕ) (x : ℚ) → nat_abs x.num ≤ n → Within (int (pos n)) x
+num_within n x h =
+    let more : n ≤ n * suc x.pre = le-mul_of_pos_right n (zero-lt-suc x.pre) in
+    subst (λ y. Within (int (pos n)) y) (sym (frac_self x)) (within_parts n x.num x.pre (omega (arith, h, more)))
 
-pub little_in : (x : ℚ) → den x ≡ 1 → nat_abs x.num ≤ 2 ^ 48 → IsLittle x
-little_in x e h = record {
-  whole = subst (λ d. Whole d x) e (whole_den x);
-  within = within_weaken (int (pos (size_up x))) (int (pos (2 ^ 48))) x (nat_le (size_up x) (2 ^ 48) (little_size x e h)) (size_up_within x);
-}
+pub little_in : (x : ℚ) (d n : ℕ) → den x ≡ d → nat_abs x.num ≤ n → IsLittle d n x
+little_in x d n e h = record { whole = subst (λ y. Whole y x) e (whole_den x); within = num_within n x h }
 
-twice_within : (x : ℚ) → Within (int (pos (2 ^ 48))) x → Within (int (pos (2 ^ 49))) (int (pos 2) *ℚ x)
-twice_within x h =
-    let v = int (pos (2 ^ 48)) in
-    subst (λ y. Within (int (pos (2 ^ 49))) y) (two_times x) (subst (λ w. Within w (x +ℚ x)) (int_add (pos (2 ^ 48)) (pos (2 ^ 48))) (within_add v v x x h h))
+twice_within : (n : ℕ) (x : ℚ) → Within (int (pos n)) x → Within (int (pos (n + n))) (int (pos 2) *ℚ x)
+twice_within n x h =
+    let v = int (pos n) in
+    subst (λ y. Within (int (pos (n + n))) y) (two_times x) (subst (λ w. Within w (x +ℚ x)) (int_add (pos n) (pos n)) (within_add v v x x h h))
 
 den_small : (xs : List ℚ) → AllByRecursion (Whole 1) xs → common_den xs ≡ 1
 den_small xs h =
@@ -171,49 +167,71 @@ den_small xs h =
     let some = common_den_pos xs in
     omega arith
 
-all_whole : (xs : List ℚ) → AllByRecursion IsLittle xs → AllByRecursion (Whole 1) xs
-all_whole xs h = every_weaken {P = IsLittle} {Q = Whole 1} (λ v k. k.whole) xs h
+-- of two grids
+den_of_both : (d e n : ℕ) (xs : List ℚ) → 0 < d → 0 < e → d ≤ n → e ≤ n → AllByRecursion (Whole (d * e)) xs → common_den xs ≤ n * n
+den_of_both d e n xs h k l m on =
+    let one : 1 * 1 ≤ d * e = mul-le 1 1 d e (omega arith) (omega arith) in
+    let some : 0 < d * e = omega (arith, one) in
+    let a : common_den xs ≤ d * e = le_of_dvd some (common_den_least (d * e) xs on) in
+    let b : d * e ≤ n * n = mul-le d e n n l m in
+    omega (arith, a, b)
 
-bound_small : (xs : List ℚ) → AllByRecursion IsLittle xs → bound_of xs ≤ 2 ^ 48
-bound_small xs h = bound_least (2 ^ 48) xs (omega arith) (every_weaken {P = IsLittle} {Q = Within (int (pos (2 ^ 48)))} (λ v k. k.within) xs h)
+on_right : (d e : ℕ) (x : ℚ) → Whole e x → Whole (d * e) x
+on_right d e x h = whole_weaken e (d * e) x (dvd-mul_left e d) h
 
-small_product : (v s dv dt ds : ℕ) → v ≤ 2 ^ 50 → s ≤ 2 ^ 49 → dv ≡ 1 → dt ≡ 1 → ds ≡ 1 → 64 * (v * s * dv * dt * ds * ds) < 2 ^ 120
-small_product v s dv dt ds hv hs a b c =
-    let m : v * s ≤ 2 ^ 50 * s = mul-le-mul_right s hv in
-    rw (a, b, c) (omega (arith, m, hs))
+-- numbers of which the gauge is made, that leave it below its limit
+record IsRoom (fine steep most : ℕ) : Type 0 where
+  pub some : 1 ≤ steep + steep
+  pub values : 2 ^ 48 ≤ most
+  pub far : (steep + steep) * 2 ≤ most
+  pub gauge : 64 * (most * (steep + steep) * (fine * fine)) < 2 ^ 120
+
+small_product : (v s dv dt ds V S D : ℕ) → v ≤ V → s ≤ S → dv ≤ D → dt ≡ 1 → ds ≡ 1 → 64 * (V * S * D) < 2 ^ 120 → 64 * (v * s * dv * dt * ds * ds) < 2 ^ 120
+small_product v s dv dt ds V S D hv hs hd b c h =
+    let m : v * s ≤ V * S = mul-le v s V S hv hs in
+    let n : v * s * dv ≤ V * S * D = mul-le (v * s) dv (V * S) D m hd in
+    rw (b, c) (omega (arith, n, h))
 
 icept_is : (s : Straight) → line_at s.line (int (pos 0)) ≡ s.line.icept
 icept_is s = ap (λ y. s.line.icept +ℚ y) (mul_zero s.line.slope) ∙ add_zero s.line.icept
 
-at_icept : (s : Straight) → AreLittle s → IsLittle (line_at s.line (int (pos 0)))
-at_icept s h = subst IsLittle (sym (icept_is s)) h.icept
+at_icept : (s : Straight) (d n : ℕ) → IsLittle d n s.line.icept → IsLittle d n (line_at s.line (int (pos 0)))
+at_icept s d n h = subst (IsLittle d n) (sym (icept_is s)) h
 
-reach_small : (n : ℕ) (end : ℚ) → n ≤ 2 ^ 49 → end ≤ℚ int (pos 2) → int (pos n) *ℚ end ≤ℚ int (pos (2 ^ 50))
-reach_small n end h l =
-    le_trans (mul_le_mul (int (pos n)) (nat_nonneg n) l) (subst (λ y. y ≤ℚ int (pos (2 ^ 50))) (sym (int_mul (pos n) (pos 2))) (nat_le (n * 2) (2 ^ 50) (omega arith)))
+reach_small : (n S V : ℕ) (end : ℚ) → n ≤ S → S * 2 ≤ V → end ≤ℚ int (pos 2) → int (pos n) *ℚ end ≤ℚ int (pos V)
+reach_small n S V end h k l =
+    le_trans (mul_le_mul (int (pos n)) (nat_nonneg n) l) (subst (λ y. y ≤ℚ int (pos V)) (sym (int_mul (pos n) (pos 2))) (nat_le (n * 2) V (omega (arith, h, k))))
 
-both_small : (s t : Straight) (end : ℚ) → IsEnd end → AreLittle s → AreLittle t → gauge_of (sizes_of end (joined no_numbers (joined (straight_numbers s) (straight_numbers t)))) < 2 ^ 120
+both_small : (s t : Straight) (d k v : ℕ) (end : ℚ) → IsEnd end → AreLittle d k s → AreLittle d k t → IsRoom d k v
+    → gauge_of (sizes_of end (joined no_numbers (joined (straight_numbers s) (straight_numbers t)))) < 2 ^ 120
 unfolding gauge_of
-both_small s t end E S T =
+both_small s t d k v end E S T R =
     let zero = whole_int 1 (pos 0) in
     let n = joined no_numbers (joined (straight_numbers s) (straight_numbers t)) in
-    let values : AllByRecursion IsLittle n.values = (S.at, (at_icept s S, (T.at, (at_icept t T, tt)))) in
+    let si = at_icept s S.grid (2 ^ 48) S.icept in
+    let ti = at_icept t T.grid (2 ^ 48) T.icept in
+    let left = λ (x : ℚ) (h : IsLittle S.grid (2 ^ 48) x). whole_both S.grid T.grid x h.whole in
+    let right = λ (x : ℚ) (h : IsLittle T.grid (2 ^ 48) x). on_right S.grid T.grid x h.whole in
+    let grid : AllByRecursion (Whole (S.grid * T.grid)) n.values = (left s.at S.at, (left (line_at s.line (int (pos 0))) si, (right t.at T.at, (right (line_at t.line (int (pos 0))) ti, tt)))) in
+    let values : AllByRecursion (Within (int (pos (2 ^ 48)))) n.values = (S.at.within, (si.within, (T.at.within, (ti.within, tt)))) in
     let times : AllByRecursion (Whole 1) (end ∷ n.times) = (E.whole, (zero, (zero, (zero, (zero, tt))))) in
     let slopes : AllByRecursion (Whole 1) n.slopes = (S.slope.whole, (T.slope.whole, tt)) in
-    let twices : AllByRecursion (Within (int (pos (2 ^ 49)))) (twice n.slopes) = (twice_within s.line.slope S.slope.within, (twice_within t.line.slope T.slope.within, tt)) in
-    let steep : bound_of (twice n.slopes) ≤ 2 ^ 49 = bound_least (2 ^ 49) (twice n.slopes) (omega arith) twices in
-    let value = bound_small n.values values in
-    let below : bound_of n.values ≤ 2 ^ 50 = omega (arith, value) in
-    let far = whole_up_most (int (pos (bound_of (twice n.slopes))) *ℚ end) (2 ^ 50) (reach_small (bound_of (twice n.slopes)) end steep E.most) in
+    let twices : AllByRecursion (Within (int (pos (k + k)))) (twice n.slopes) = (twice_within k s.line.slope S.slope.within, (twice_within k t.line.slope T.slope.within, tt)) in
+    let steep : bound_of (twice n.slopes) ≤ k + k = bound_least (k + k) (twice n.slopes) R.some twices in
+    let value : bound_of n.values ≤ 2 ^ 48 = bound_least (2 ^ 48) n.values (omega arith) values in
+    let room = R.values in
+    let below : bound_of n.values ≤ v = omega (arith, value, room) in
+    let far = whole_up_most (int (pos (bound_of (twice n.slopes))) *ℚ end) v (reach_small (bound_of (twice n.slopes)) (k + k) v end steep R.far E.most) in
     let z = sizes_of end n in
-    small_product z.largest z.steepness z.dv z.dt z.ds (max-le below far) steep (den_small n.values (all_whole n.values values)) (den_small (end ∷ n.times) times) (den_small n.slopes slopes)
+    let dv = den_of_both S.grid T.grid d n.values S.some T.some S.most T.most grid in
+    small_product z.largest z.steepness z.dv z.dt z.ds v (k + k) (d * d) (max-le below far) steep dv (den_small (end ∷ n.times) times) (den_small n.slopes slopes) R.gauge
 
-little_gauge : (s t : Straight) → AreLittle s → AreLittle t → gauge_at Sum (straight_curve s) (straight_curve t) 0 0 < 2 ^ 120
+little_gauge : (s t : Straight) (d k v : ℕ) → AreLittle d k s → AreLittle d k t → IsRoom d k v → gauge_at Sum (straight_curve s) (straight_curve t) 0 0 < 2 ^ 120
 unfolding gauge_over
-little_gauge s t S T =
+little_gauge s t d k v S T R =
     let E = ends s t in
     let end = window_at Sum (straight_curve s) (straight_curve t) 0 0 in
-    subst (λ (n : Numbers). gauge_of (sizes_of end (joined no_numbers n)) < 2 ^ 120) (sym (ap₂ joined (numbers_are s end E.some) (numbers_are t end E.some))) (both_small s t end E S T)
+    subst (λ (n : Numbers). gauge_of (sizes_of end (joined no_numbers n)) < 2 ^ 120) (sym (ap₂ joined (numbers_are s end E.some) (numbers_are t end E.some))) (both_small s t d k v end E S T R)
 
 few : (s t : Straight) → tally_at Sum (straight_curve s) (straight_curve t) 0 0 ≤ 2 ^ 20
 unfolding tally_over
@@ -225,8 +243,8 @@ few s t =
     let all : count (straight_curve s) end + count (straight_curve t) end ≤ 2 ^ 20 = omega (arith, a, b) in
     all
 
-little_within : (s t : Straight) → AreLittle s → AreLittle t → IsSumWithin (straight_curve s) (straight_curve t)
-little_within s t S T = record { gauge = little_gauge s t S T; tally = few s t }
+little_within : (s t : Straight) (d k v : ℕ) → AreLittle d k s → AreLittle d k t → IsRoom d k v → IsSumWithin (straight_curve s) (straight_curve t)
+little_within s t d k v S T R = record { gauge = little_gauge s t d k v S T R; tally = few s t }
 
 -- ---- the steps of a sum within the limits fit
 piece_stands : (z : Sizes) (end : ℚ) (s : Straight) → IsCurve (straight_curve s) → AreLimited z end → int (pos 0) <ℚ end → Stands z (curve_numbers end (straight_curve s))
@@ -266,5 +284,15 @@ pub steps_fit : (f g : SpecCurve) (s t : Straight) → f ≡ straight_curve s �
 steps_fit f g s t a b F G W =
     total_fits s t (subst IsCurve a F) (subst IsCurve b G) (subst (λ x. IsSumWithin (straight_curve s) x) b (subst (λ x. IsSumWithin x g) a W))
 
-pub small_within : (f g : SpecCurve) (s t : Straight) → f ≡ straight_curve s → g ≡ straight_curve t → AreLittle s → AreLittle t → IsSumWithin f g
-small_within f g s t a b S T = subst (λ x. IsSumWithin x g) (sym a) (subst (λ x. IsSumWithin (straight_curve s) x) (sym b) (little_within s t S T))
+small_within : (f g : SpecCurve) (s t : Straight) (d k v : ℕ) → f ≡ straight_curve s → g ≡ straight_curve t → AreLittle d k s × AreLittle d k t → IsRoom d k v → IsSumWithin f g
+small_within f g s t d k v a b L R =
+    subst (λ x. IsSumWithin x g) (sym a) (subst (λ x. IsSumWithin (straight_curve s) x) (sym b) (little_within s t d k v L.0 L.1 R))
+
+-- whole numbers, and such with denominators where the slopes are less steep
+pub whole_within : (f g : SpecCurve) (s t : Straight) → f ≡ straight_curve s → g ≡ straight_curve t → AreLittle 1 (2 ^ 48) s × AreLittle 1 (2 ^ 48) t → IsSumWithin f g
+whole_within f g s t a b L =
+    small_within f g s t 1 (2 ^ 48) (2 ^ 50) a b L record { some = omega arith; values = omega arith; far = omega arith; gauge = omega arith }
+
+pub fractions_within : (f g : SpecCurve) (s t : Straight) → f ≡ straight_curve s → g ≡ straight_curve t → AreLittle (2 ^ 16) (2 ^ 32) s × AreLittle (2 ^ 16) (2 ^ 32) t → IsSumWithin f g
+fractions_within f g s t a b L =
+    small_within f g s t (2 ^ 16) (2 ^ 32) (2 ^ 48) a b L record { some = omega arith; values = omega arith; far = omega arith; gauge = omega arith }

@@ -1,6 +1,6 @@
 -- A curve of one piece: a value at 0, and after it one line for ever; and numbers so small that a sum of two such
 -- curves is within both limits. (Le Boudec and Thiran: a token bucket, whose value at 0 is any one here.) Own choice.
-use Rattle.std.specs.Prelude.{◌<◌, ◌≤◌, ◌^◌, pos, [], ◌∷◌, Some}
+use Rattle.std.specs.Prelude.{ℕ, ◌<◌, ◌≤◌, ◌^◌, pos, [], ◌∷◌, Some}
 use Rattle.rational.specs.Rational.{ℚ, ◌+ℚ◌, int}
 use Rattle.rational.specs.Grid.{Whole, Within}
 use Rattle.rational.specs.Ratio.{SumFits}
@@ -38,12 +38,17 @@ pub record IsSumWithin (f g : SpecCurve) : Type 0 where
   pub tally : tally_at Sum f g 0 0 ≤ 2 ^ 20
 
 -- ---- small numbers
--- a whole number of at most 2 ^ 48 in size
-pub record IsLittle (x : ℚ) : Type 0 where
-  pub whole : Whole 1 x
-  pub within : Within (int (pos (2 ^ 48))) x
+-- a whole multiple of 1 / d, and at most n in size
+pub record IsLittle (d n : ℕ) (x : ℚ) : Type 0 where
+  pub whole : Whole d x
+  pub within : Within (int (pos n)) x
 
-pub record AreLittle (s : Straight) : Type 0 where
-  pub at : IsLittle s.at
-  pub icept : IsLittle s.line.icept
-  pub slope : IsLittle s.line.slope
+-- both values are whole multiples of one fraction, 1 over at most `fine`, and at most 2 ^ 48 in size; the slope is whole
+-- and at most `steep` in size
+pub record AreLittle (fine steep : ℕ) (s : Straight) : Type 0 where
+  pub grid : ℕ
+  pub some : 0 < grid
+  pub most : grid ≤ fine
+  pub at : IsLittle grid (2 ^ 48) s.at
+  pub icept : IsLittle grid (2 ^ 48) s.line.icept
+  pub slope : IsLittle 1 steep s.line.slope

@@ -17,8 +17,8 @@ ghost use Rattle.plain_operators.specs.pointwise.LatticeCall.{IsLatticeFrame};
 
 use crate::pointwise::leaning::{bounds_by_lines, is_slower};
 use curve_call::{
-    CallWindow, Frame, first_window, framed_answer, least_periods, period_bounds, refuse_between,
-    rise_over, window_excess, window_max, window_min, within,
+    CallWindow, FirstLook, Frame, first_look, framed_answer, least_periods, period_bounds,
+    refuse_between, rise_over, window_excess, window_max, window_min, within_after,
 };
 use fraction128::{Frac, difference};
 use outcomes::Steps;
@@ -26,7 +26,7 @@ use std::alloc::{AllocError, Global};
 use std::sync::ledger::Ledger;
 use upp_curve::Curve;
 use upp_curve::affine_segment::Piece;
-use upp_limits::{OpFault, OpKind, is_few};
+use upp_limits::{OpFault, OpKind};
 use upp_normal::unrolled;
 
 /// What is made of two curves.
@@ -156,30 +156,29 @@ fn refuse_early(of: Lattice, f: &Curve, g: &Curve, first: &CallWindow) -> Result
     }
 }
 
-// As `refuse_early`, by lines that each curve lies under or over; not where the pairs of pieces are few with no period.
+// As `refuse_early`, by lines that each curve lies under or over.
 fn refuse_by_lines(of: Lattice, f: &Curve, g: &Curve, first: &CallWindow) -> Result<(), OpFault>
     requires curves { IsCurve f.now × IsCurve g.now }
     requires window { IsFirstWindow (kind_of of) f.now g.now first.now }
     ensures { IfErr result (IsCauseOf (kind_of of) f.now g.now) }
 {
-    let kind = kind_of(of);
-    if is_few(&kind, f, g, first.end) {
-        return Ok(());
-    }
     match bounds_by_lines(f, g, first.start, first.period) {
         None => Ok(()),
-        Some(bounds) => refuse_between(&kind, f, g, bounds.low, bounds.high),
+        Some(bounds) => refuse_between(&kind_of(of), f, g, bounds.low, bounds.high),
     }
 }
 
-// The same by either.
-fn refuse_over(of: Lattice, f: &Curve, g: &Curve, first: &CallWindow) -> Result<(), OpFault>
+// The same by either. Where the pieces are few with no period a walk over them is short, and no bounds are looked for.
+fn refuse_over(of: Lattice, f: &Curve, g: &Curve, look: &FirstLook) -> Result<(), OpFault>
     requires curves { IsCurve f.now × IsCurve g.now }
-    requires window { IsFirstWindow (kind_of of) f.now g.now first.now }
+    requires window { IsFirstWindow (kind_of of) f.now g.now look.now.window }
     ensures { IfErr result (IsCauseOf (kind_of of) f.now g.now) }
 {
-    refuse_early(of, f, g, first)?;
-    refuse_by_lines(of, f, g, first)
+    if look.frame.is_some() {
+        return Ok(());
+    }
+    refuse_early(of, f, g, &look.window)?;
+    refuse_by_lines(of, f, g, &look.window)
 }
 
 // The frame of a call within both limits, with the least number of periods that is enough.
@@ -189,11 +188,12 @@ fn least_frame(of: Lattice, f: &Curve, g: &Curve) -> Result<Frame, OpFault>
     ensures refused { IfErr result (IsCauseOf (kind_of of) f.now g.now) }
 {
     let kind = kind_of(of);
-    let first = first_window(&kind, f, g)?;
-    refuse_over(of, f, g, &first)?;
-    match least_periods(f, g, first.start, first.period) {
+    let look = first_look(&kind, f, g)?;
+    refuse_over(of, f, g, &look)?;
+    let window = &look.window;
+    match least_periods(f, g, window.start, window.period) {
         None => Err(OpFault::TooWide),
-        Some(periods) => within(&kind, f, g, periods),
+        Some(periods) => within_after(&look, &kind, f, g, periods),
     }
 }
 

@@ -14,11 +14,11 @@ ghost use Rattle.curve_call.specs.Bounds.{AreBounds, own_or};
 ghost use Rattle.curve_call.specs.Compared.{AreCompared};
 ghost use Rattle.plain_operators.specs.pointwise.Leaning.{IsUnder, IsOver, IsSpan, IsUnderUntil, IsOverUntil};
 
-use curve_call::{Bounds, Side, earlier, period_or};
+use curve_call::{Bounds, Side, earlier, line_there, period_or};
 use fraction128::{Ext, Frac, greater, is_less, lesser};
 use rational::Extended;
 use upp_curve::Curve;
-use upp_curve::affine_segment::{Line, value};
+use upp_curve::affine_segment::Line;
 use upp_normal::stretch_at;
 
 /// So many steps are looked at; of a curve that has more, nothing is told.
@@ -95,19 +95,6 @@ fn lower(v: Ext, t: Frac, rate: Frac, icept: Frac) -> Option<Frac>
     match v {
         Extended::Inf => Some(icept),
         Extended::Fin(x) => number_lower(x, t, rate, icept),
-    }
-}
-
-// The value of a line that may be missing, where its steps fit.
-fn line_there(line: &Option<Line>, t: Frac) -> Option<Ext>
-    ensures { IfSome result (λ v. v ≡ line_value line.now t) }
-{
-    match line {
-        None => Some(Extended::Inf),
-        Some(l) => match value(l, t) {
-            Ok(v) => Some(Extended::Fin(v)),
-            Err(_) => None,
-        },
     }
 }
 

@@ -19,8 +19,8 @@ ghost use Rattle.plain_operators.specs.pointwise.Lattice.{RisesBy, made_of, rise
 ghost use Rattle.plain_operators.specs.pointwise.LatticeCall.{IsLatticeFrame};
 
 use curve_call::{
-    Frame, Side, first_window, framed_answer, is_slower, rise_over, side_periods, window_excess,
-    within,
+    Frame, Side, first_look, framed_answer, is_slower, rise_over, side_periods, window_excess,
+    within_after,
 };
 use fraction128::{Frac, difference};
 use outcomes::Steps;
@@ -97,10 +97,11 @@ fn least_frame(f: &Curve, l: Frac) -> Result<Frame, OpFault>
     ensures refused { IfErr result (IsCauseOf (PosMinus l) f.now f.now) }
 {
     let kind = OpKind::PosMinus(l);
-    let first = first_window(&kind, f, f)?;
-    match side_periods(&Side::of(f), &Side::level(l), first.start, first.period) {
+    let look = first_look(&kind, f, f)?;
+    let window = &look.window;
+    match side_periods(&Side::of(f), &Side::level(l), window.start, window.period) {
         None => Err(OpFault::TooWide),
-        Some(periods) => within(&kind, f, f, periods),
+        Some(periods) => within_after(&look, &kind, f, f, periods),
     }
 }
 

@@ -87,36 +87,60 @@ fn total_of(alloc: Global, f: &Straight, g: &Straight) -> Result<Curve, AllocErr
     curve_of(alloc, &both)
 }
 
-// Whether a number is whole and at most 2^48 in size.
-fn is_little(x: Frac) -> bool
-    ensures { IsTrue result → IsLittle x }
+// Whether a number has this denominator, and a numerator of at most this size.
+fn is_little(x: Frac, denominator: u128, size: u128) -> bool
+    ensures { IsTrue result → IsLittle denominator size x }
 {
-    if x.denominator() != 1 {
+    if x.denominator() != denominator {
         return false;
     }
-    if x.numerator_size() > 1 << 48 {
+    if x.numerator_size() > size {
         return false;
     }
     true
 }
 
-fn are_little(s: &Straight) -> bool
-    ensures { IsTrue result → AreLittle s.now }
+// Whether both values have one denominator, `fine` at most, and numerators of at most 2^48, and the slope is whole and at
+// most `steep` in size.
+fn are_little(s: &Straight, fine: u128, steep: u128) -> bool
+    ensures { IsTrue result → AreLittle fine steep s.now }
 {
-    is_little(s.at) && is_little(s.line.icept) && is_little(s.line.slope)
+    let most = 1 << 48;
+    let grid = s.at.denominator();
+    if grid > fine {
+        return false;
+    }
+    if !is_little(s.at, grid, most) {
+        return false;
+    }
+    if !is_little(s.line.icept, grid, most) {
+        return false;
+    }
+    is_little(s.line.slope, 1, steep)
 }
 
-// Refuses a sum over a limit. Where all numbers are small none is, and no gauge is looked at.
+fn both_little(left: &Straight, right: &Straight, fine: u128, steep: u128) -> bool
+    ensures { IsTrue result → AreLittle fine steep left.now × AreLittle fine steep right.now }
+{
+    if !are_little(left, fine, steep) {
+        return false;
+    }
+    are_little(right, fine, steep)
+}
+
+// Refuses a sum over a limit. Where all numbers are small none is, and no gauge is looked at: whole ones, and such with
+// denominators, as the rates of other flows leave them.
 fn refuse_sum(f: &Curve, g: &Curve, left: &Straight, right: &Straight) -> Result<(), OpFault>
     requires left { f.now ≡ straight_curve left.now }
     requires right { g.now ≡ straight_curve right.now }
     ensures within { IfOk result (λ u. IsSumWithin f.now g.now) }
     ensures refused { IfErr result (IsRefusedAt OpKind.Sum f.now g.now 0 0) }
 {
-    if are_little(left) {
-        if are_little(right) {
-            return Ok(());
-        }
+    if both_little(left, right, 1, 1 << 48) {
+        return Ok(());
+    }
+    if both_little(left, right, 1 << 16, 1 << 32) {
+        return Ok(());
     }
     match within(&OpKind::Sum, f, g, 0) {
         Ok(_) => Ok(()),

@@ -14,13 +14,15 @@ ghost use Rattle.min_plus.specs.Functions.{IsFinite, IsRising, IsNonnegative};
 ghost use Rattle.upp_limits.specs.Outcome.{KeepsLimits, IsCauseOf, IsWithin};
 ghost use Rattle.plain_operators.specs.running.Behind.{IsServed};
 ghost use Rattle.plain_operators.specs.running.Moved.{moved_right, PieceMoves};
-ghost use Rattle.plain_operators.specs.running.LeftCall.{IsLeftBeside, IsLeftFrame, IsLeftWindow};
+ghost use Rattle.plain_operators.specs.running.LeftCall.{IsLeftBeside, IsLeftFrame, IsLeftGate, IsLeftWindow};
 
 use crate::running::behind::{behind_bounds, enough_periods, rises_apart};
 use crate::running::lowest::lowest_pieces;
 use crate::running::moved::moved_right;
 use crate::running::parts::left_pieces;
-use curve_call::{Frame, first_window, framed_answer, overlay, refuse_between, within};
+use curve_call::{
+    FirstLook, Frame, first_look, framed_answer, overlay, refuse_between, within_after,
+};
 use fraction128::{Ext, Frac, difference, sum};
 use outcomes::Steps;
 use rational::Extended;
@@ -83,6 +85,20 @@ fn left_within(
     framed_answer(alloc, lowest, from, rise, frame)
 }
 
+// Refuses a call where bounds of the number of its periods tell that it is over a limit; not where the pieces are few
+// with no period, so that a walk over them is short.
+fn refuse_behind(beta: &Curve, cross: &Curve, theta: Frac, look: &FirstLook) -> Result<(), OpFault>
+    requires { IsLeftGate beta.now cross.now theta look.now.window }
+    ensures { IfErr result (IsCauseOf (FifoLeft (Fin theta)) beta.now cross.now) }
+{
+    if look.frame.is_some() {
+        return Ok(());
+    }
+    let kind = OpKind::FifoLeft(Extended::Fin(theta));
+    let bounds = behind_bounds(beta, cross, theta, &look.window);
+    refuse_between(&kind, beta, cross, bounds.low, bounds.high)
+}
+
 // The frame of a call within both limits, with the least number of periods that is enough.
 fn least_frame(beta: &Curve, cross: &Curve, theta: Frac) -> Result<Frame, OpFault>
     requires { IsServed (value_at beta.now) (value_at cross.now) theta }
@@ -91,11 +107,10 @@ fn least_frame(beta: &Curve, cross: &Curve, theta: Frac) -> Result<Frame, OpFaul
     ensures refused { IfErr result (IsCauseOf (FifoLeft (Fin theta)) beta.now cross.now) }
 {
     let kind = OpKind::FifoLeft(Extended::Fin(theta));
-    let first = first_window(&kind, beta, cross)?;
-    let bounds = behind_bounds(beta, cross, theta, &first);
-    refuse_between(&kind, beta, cross, bounds.low, bounds.high)?;
-    let periods = enough_periods(beta, cross, theta, &first);
-    within(&kind, beta, cross, periods)
+    let look = first_look(&kind, beta, cross)?;
+    refuse_behind(beta, cross, theta, &look)?;
+    let periods = enough_periods(beta, cross, theta, &look.window);
+    within_after(&look, &kind, beta, cross, periods)
 }
 
 // What is left after a finite wait.
