@@ -66,6 +66,8 @@ pub(crate) fn on_document(
     match bounds_of(alloc, &document.network) {
         Ok(table) => {
             let report = report_of(alloc, document, &table)?;
+            // The text is as large, and then takes its room.
+            drop(table);
             reported(alloc, form, &report)
         }
         Err(Fault::Cycle(ports)) => goes_round(alloc, &document.port_names, &ports),

@@ -30,6 +30,7 @@ use Rattle.document_tables.proofs.BranchRows.{HasRows, IsRowOf, rows_read}
 use Rattle.document_tables.proofs.Reading.{inner}
 use Rattle.document_tables.proofs.RowRanges.{link_says}
 use Rattle.document_tables.proofs.SameRounded.{same_down, same_up}
+use Rattle.document_tables.proofs.StopOrder.{unwrapped}
 use Rattle.document_tables.proofs.TableRanges.{links_in_range}
 use Rattle.document_tables.proofs.TreeFacts.{clash, equal, or_left, or_right, same_self}
 
@@ -108,10 +109,6 @@ module _ (ports : List PortText) (priority : ℕ) (stops : List Stop) where
   last_some : (xs : List ℕ) (i : ℕ) → (j : ℕ) × (last_of (Some i) xs ≡ Some j)
   last_some [] i = (i, refl)
   last_some (x ∷ xs) i = last_some xs x
-
-  unwrapped : (o : Option ℕ) (j : ℕ) → o ≡ Some j → o ≡ Some (unwrap_or o 0)
-  unwrapped None j h = cc
-  unwrapped (Some k) j h = refl
 
   ended : (places : List ℕ) (o : Option ℕ) → 1 ≤ length places → last_of None places ≡ o → last_of None places ≡ Some (unwrap_or o 0)
   ended [] o some h = absurd (omega arith)

@@ -14,6 +14,8 @@ pub mod RowTaken
 pub mod TableRanges
 pub mod GridSteps
 pub mod StopOrder
+pub mod Hung
+pub mod FewStops
 pub mod SameRounded
 pub mod BranchFacts
 pub mod LinkFacts

@@ -1,10 +1,10 @@
 -- Links, one row after another.
-use Rattle.std.proofs.Common.{◌≡◌, ℕ, ◌+◌, ◌<◌, ◌≤◌, ◌==◌, ◌||◌, Bool, true, false, cond, List, [], ◌∷◌, ◌++◌, map, filter, length, set, get_or, position, Option, Some, None, Ok, Err, refl, sym, ap, ap₂, subst, ◌∙◌, arith, length-append, length-set, ⊎_elim, ◌⊎◌, inl, inr}
+use Rattle.std.proofs.Common.{◌≡◌, ℕ, ◌+◌, ◌<◌, ◌≤◌, ◌==◌, ◌||◌, Bool, true, false, cond, List, [], ◌∷◌, ◌++◌, map, filter, length, take, drop, suc, set, get_or, position, Option, Some, None, Ok, Err, refl, sym, ap, ap₂, subst, ◌∙◌, arith, length-append, length-set, ⊎_elim, ◌⊎◌, inl, inr}
 use Rattle.std.specs.Prelude.{slice_get, nat_le}
 use Rattle.std.specs.List.{list_any, position_from}
 use Rattle.std.specs.Str.{bytes_eq}
 use Rattle.std.proofs.lemmas.Iterator.Adapters.{position_from-zero}
-use Rattle.std.proofs.lemmas.List.{get_or_append_left, get_or-set_same, get_or-set_other, map-append, append-nil, length-map}
+use Rattle.std.proofs.lemmas.List.{take_all, take-append-le, drop_all, drop-append-le, length-drop, get_or_append_left, get_or-set_same, get_or-set_other, map-append, append-nil, length-map}
 use Rattle.std.proofs.lemmas.List.Elements.{filter-append}
 use Rattle.std.proofs.lemmas.Option.{slice_get-get_or, slice_get_within}
 use Rattle.std.proofs.lemmas.Bool.{eq-eqb, ne_eqb, cases_lt, cases_eq, le-leb, lt-leb}
@@ -25,7 +25,7 @@ use Rattle.document_tables.specs.declared.links.LinkTable.{LinkTable}
 use Rattle.document_tables.specs.declared.trees.Tree.{Tree}
 use Rattle.document_tables.specs.Growing.{Grows}
 use Rattle.document_tables.specs.LinkTrees.{AreTrees, MakesLink}
-use Rattle.document_tables.specs.Links.{Links, BranchText, branch_view, keys_of, with_link, has_room, number_or_next, with_path, with_branch, with_text, with_row, paths_of, most_branches}
+use Rattle.document_tables.specs.Links.{Links, BranchText, branch_view, branches_of, passed_by, keys_of, with_link, has_room, number_or_next, with_path, with_branch, with_text, with_row, paths_of, most_branches}
 use Rattle.document_tables.specs.Paths.{path_ports}
 use Rattle.document_tables.specs.Ports.{Ports}
 use Rattle.document_tables.specs.Tables.{Makes}
@@ -105,6 +105,36 @@ paths_same link bs b e =
     one : (b : BranchText) → (b.link == link) ≡ false → filter (λ (b : BranchText). b.link == link) (b ∷ []) ≡ []
     one b t = rw t refl
 
+-- ---- the ports of paths
+module _ (passed path : List ℕ) where
+  path_kept : (b : Branch) → b.first + b.count ≤ length passed → passed_by (passed ++ path) b ≡ passed_by passed b
+  path_kept b h =
+      let n = length-drop b.first passed in
+      ap (take b.count) (drop-append-le b.first passed path (omega (arith, h))) ∙ take-append-le b.count (drop b.first passed) path (omega (arith, n, h))
+
+  pub path_last : (b : Branch) → b.first ≡ length passed → b.count ≡ length path → passed_by (passed ++ path) b ≡ path
+  path_last b first count =
+      ap (take b.count) (drop-append-le b.first passed path (omega (arith, first)) ∙ ap (λ (ns : List ℕ). ns ++ path) (drop_all b.first passed (omega (arith, first))))
+      ∙ take_all b.count path (omega (arith, count))
+
+  abbrev AreInside : List Branch → Type 0
+  AreInside bs = (k : ℕ) (b : Branch) → slice_get bs k ≡ Some b → b.first + b.count ≤ length passed
+
+  views_kept : (bs : List Branch) → AreInside bs → map (branch_view (passed ++ path)) bs ≡ map (branch_view passed) bs
+  views_kept [] h = refl
+  views_kept (b ∷ bs) h =
+      ap₂ (λ (p : List ℕ) (ts : List BranchText). record { link = b.link; path = p; deadline = b.deadline } ∷ ts) (path_kept b (h 0 b refl)) (views_kept bs (λ k x e. h (suc k) x e))
+
+  -- a branch over a path more
+  pub branch_more : (bs : List Branch) (b : Branch) → AreInside bs → b.first ≡ length passed → b.count ≡ length path
+      → map (branch_view (passed ++ path)) (bs ++ b ∷ []) ≡ map (branch_view passed) bs ++ record { link = b.link; path = path; deadline = b.deadline } ∷ []
+  branch_more bs b inside first count =
+      map-append (branch_view (passed ++ path)) bs (b ∷ [])
+      ∙ ap₂ (λ (ts : List BranchText) (p : List ℕ). ts ++ record { link = b.link; path = p; deadline = b.deadline } ∷ []) (views_kept bs inside) (path_last b first count)
+
+  pub same_path : (b : Branch) → b.first + b.count ≤ length passed → passed_by passed b ≡ passed_by (passed ++ path) b
+  same_path b h = sym (path_kept b h)
+
 -- ---- branches
 module _ (link : ℕ) (before : Links) (path : List ℕ) (deadline : Option Amount) where
   abbrev pub grown : Links
@@ -120,7 +150,7 @@ module _ (link : ℕ) (before : Links) (path : List ℕ) (deadline : Option Amou
 
 -- the tree of a link
 pub tree_there : (table : LinkTable) (link : ℕ) (tree : Tree) → AreTrees table → link < length table.keys.items → tree ≡ get_or table.trees.items link tree
-    → IsTreeOf (paths_of link (map branch_view table.branches.items)) tree
+    → IsTreeOf (paths_of link (branches_of table)) tree
 tree_there table link tree kept below is = kept.each link tree (slice_get-get_or table.trees.items link tree (omega (arith, kept.trees, below)) ∙ ap Some (sym is))
 
 module _ (ports : Ports) (overhead link : ℕ) (before : Links) (row : LinkText) where
@@ -205,5 +235,7 @@ pub is_not_full : (most n : ℕ) → n < most → nat_le most n ≡ false
 is_not_full most n h = lt-leb most n h
 
 -- the rows before one are fewer than a table may have
-pub few_rows : (branches : List Branch) → length branches < most_branches → nat_le most_branches (length (map branch_view branches)) ≡ false
-few_rows branches h = let n = length-map branches branch_view in is_not_full most_branches (length (map branch_view branches)) (omega (arith, n, h))
+pub few_rows : (table : LinkTable) → length table.branches.items < most_branches → nat_le most_branches (length (branches_of table)) ≡ false
+few_rows table h =
+    let n = length-map table.branches.items (branch_view table.passed.items) in
+    is_not_full most_branches (length (branches_of table)) (omega (arith, n, h))

@@ -1,14 +1,16 @@
 -- Stops of paths that begin at one port: each of them once, behind the one after which it comes.
 use Rattle.std.proofs.Common.{◌≡◌, ℕ, suc, ◌+◌, ◌<◌, ◌≤◌, ◌||◌, nat_eq, Bool, true, false, cond, List, [], ◌∷◌, ◌++◌, map, length, position, Option, Some, None, refl, sym, ap, subst, ◌∙◌, arith, ⊎_elim, inl, inr, ◌⊎◌, All}
-use Rattle.std.specs.Prelude.{slice_get, if◌then◌else◌}
+use Rattle.std.specs.Prelude.{slice_get, unwrap_or, if◌then◌else◌}
 use Rattle.std.specs.List.{list_any, position_from}
 use Rattle.std.proofs.lemmas.Bool.{eq-eqb}
 use Rattle.std.proofs.lemmas.Iterator.Adapters.{position_from-zero}
 use Rattle.std.proofs.lemmas.List.{length-map, map-append}
 use Rattle.std.proofs.lemmas.List.Elements.{All-head, All-tail}
-use Rattle.document_tables.specs.Grids.{place_of}
+use Rattle.document_tables.specs.Grids.{end_of, place_after, place_of}
 use Rattle.document_tables.specs.Stops.{Stop, has_stop, with_stop, with_path, with_paths, stops_of}
+use Rattle.document_tables.specs.Trees.{last_of}
 use Rattle.document_tables.proofs.LinkSteps.{each_push}
+use Rattle.document_tables.proofs.StopSteps.{one_path_more}
 
 -- ---- first places
 from_keep_at : {X : Type 0} (p : X → Bool) (n j : ℕ) (b : Bool) (xs ys : List X) → (position_from p (n + 1) xs ≡ Some j → position_from p (n + 1) (xs ++ ys) ≡ Some j)
@@ -40,11 +42,12 @@ from_any p n [] h = cc
 from_any p n (x ∷ xs) h = from_any_at p n (p x) xs h (from_any p (n + 1) xs)
 
 -- ---- places of stops
-keeps_place : (stops : List Stop) (s : Stop) (q j : ℕ) → place_of stops q ≡ Some j → place_of (stops ++ s ∷ []) q ≡ Some j
-keeps_place stops s q j h =
+pub keeps_place : (stops more : List Stop) (q j : ℕ) → place_of stops q ≡ Some j → place_of (stops ++ more) q ≡ Some j
+keeps_place stops more q j h =
     let ports = map (λ (s : Stop). s.0) stops in
-    ap (position (nat_eq q)) (map-append (λ (s : Stop). s.0) stops (s ∷ []))
-    ∙ (position_from-zero (nat_eq q) (ports ++ s.0 ∷ []) ∙ from_keep (nat_eq q) 0 j ports (s.0 ∷ []) (sym (position_from-zero (nat_eq q) ports) ∙ h))
+    let others = map (λ (s : Stop). s.0) more in
+    ap (position (nat_eq q)) (map-append (λ (s : Stop). s.0) stops more)
+    ∙ (position_from-zero (nat_eq q) (ports ++ others) ∙ from_keep (nat_eq q) 0 j ports others (sym (position_from-zero (nat_eq q) ports) ∙ h))
 
 new_place : (stops : List Stop) (port : ℕ) (after : Option ℕ) → has_stop stops port ≡ false → place_of (stops ++ (port, after) ∷ []) port ≡ Some (length stops)
 new_place stops port after h =
@@ -81,12 +84,12 @@ module _ (T : ℕ → Type 0) where
 
   follows_more : (stops : List Stop) (s : Stop) (i : ℕ) (after : Option ℕ) → Follows stops i after → Follows (stops ++ s ∷ []) i after
   follows_more stops s i None f = f
-  follows_more stops s i (Some q) f = (f.0, f.1, keeps_place stops s q f.0 f.2)
+  follows_more stops s i (Some q) f = (f.0, f.1, keeps_place stops (s ∷ []) q f.0 f.2)
 
   put : (stops : List Stop) (port : ℕ) (after : Option ℕ) → AreInOrder T stops → has_stop stops port ≡ false → Follows stops (length stops) after → T port → AreInOrder T (stops ++ (port, after) ∷ [])
   put stops port after o new f t =
       each_push (IsStopAt T (stops ++ (port, after) ∷ [])) stops (port, after)
-      (λ i s h. let a = o i s h in record { own = keeps_place stops (port, after) s.0 i a.own; follows = follows_more stops (port, after) i s.1 a.follows; is = a.is })
+      (λ i s h. let a = o i s h in record { own = keeps_place stops ((port, after) ∷ []) s.0 i a.own; follows = follows_more stops (port, after) i s.1 a.follows; is = a.is })
       (record { own = new_place stops port after new; follows = follows_more stops (port, after) (length stops) after f; is = t })
 
   stop_more : (stops : List Stop) (port : ℕ) (after : Option ℕ) → AreInOrder T stops → (has_stop stops port ≡ false → Follows stops (length stops) after) → T port → AreInOrder T (with_stop stops port after)
@@ -131,6 +134,43 @@ path_stays : (stops : List Stop) (behind : Option ℕ) (path : List ℕ) (q : �
 unfolding with_path
 path_stays stops behind [] q h = h
 path_stays stops behind (port ∷ path) q h = path_stays (with_stop stops port behind) (Some port) path q (stays stops port behind q h)
+
+-- ---- where a path ends
+place_stays : (stops : List Stop) (port : ℕ) (after : Option ℕ) (q j : ℕ) → place_of stops q ≡ Some j → place_of (with_stop stops port after) q ≡ Some j
+place_stays stops port after q j h = by (has_stop stops port)
+  where
+    by : (b : Bool) → place_of (if b then stops else stops ++ (port, after) ∷ []) q ≡ Some j
+    by true = h
+    by false = keeps_place stops ((port, after) ∷ []) q j h
+
+place_kept : (stops : List Stop) (behind : Option ℕ) (path : List ℕ) (q j : ℕ) → place_of stops q ≡ Some j → place_of (with_path stops behind path) q ≡ Some j
+unfolding with_path
+place_kept stops behind [] q j h = h
+place_kept stops behind (port ∷ path) q j h = place_kept (with_stop stops port behind) (Some port) path q j (place_stays stops port behind q j h)
+
+-- it is the same with one path more
+pub end_kept : (paths : List (List ℕ)) (path : List ℕ) (last : Option ℕ) (j : ℕ) → place_after (stops_of paths) last ≡ Some j → place_after (stops_of (paths ++ path ∷ [])) last ≡ Some j
+end_kept paths path None j h = cc
+end_kept paths path (Some q) j h = ap (λ (stops : List Stop). place_of stops q) (one_path_more [] paths path) ∙ place_kept (stops_of paths) None path q j h
+
+last_there : (stops : List Stop) (behind : Option ℕ) (port : ℕ) (path : List ℕ) → (q : ℕ) × (last_of behind (port ∷ path) ≡ Some q) × (has_stop (with_path stops behind (port ∷ path)) q ≡ true)
+unfolding with_path
+last_there stops behind port [] = (port, refl, is_there stops port behind)
+last_there stops behind port (next ∷ path) = last_there (with_stop stops port behind) (Some port) next path
+
+pub unwrapped : (o : Option ℕ) (j : ℕ) → o ≡ Some j → o ≡ Some (unwrap_or o 0)
+unwrapped None j h = cc
+unwrapped (Some k) j h = refl
+
+-- the newest path has an end
+pub end_there : (paths : List (List ℕ)) (path : List ℕ) → 0 < length path → place_after (stops_of (paths ++ path ∷ [])) (last_of None path) ≡ Some (end_of (stops_of (paths ++ path ∷ [])) path)
+end_there paths [] some = absurd (omega (arith, some))
+end_there paths (port ∷ path) some =
+    let last = last_there (stops_of paths) None port path in
+    let stops = with_path (stops_of paths) None (port ∷ path) in
+    let at = some_place stops last.0 last.2 in
+    subst (λ (stops : List Stop). place_after stops (last_of None (port ∷ path)) ≡ Some (end_of stops (port ∷ path))) (sym (one_path_more [] paths (port ∷ path)))
+    (unwrapped (place_after stops (last_of None (port ∷ path))) at.0 (ap (place_after stops) last.1 ∙ at.2))
 
 -- ---- paths
 module _ (T : ℕ → Type 0) where

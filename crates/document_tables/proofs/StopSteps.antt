@@ -2,17 +2,17 @@
 use Rattle.std.proofs.Common.{◌≡◌, ℕ, ◌+◌, ◌<◌, ◌==◌, ◌||◌, nat_eq, Bool, true, false, cond, List, [], ◌∷◌, ◌++◌, map, length, Option, Some, None, IfSome, option_map, refl, sym, ap, ap₂, subst, ◌∙◌, arith}
 use Rattle.std.specs.Prelude.{not, nat_lt, position, slice_get, is_some}
 use Rattle.std.specs.BTreeMap.{BTreeMap, get}
-use Rattle.std.specs.Cmp.{nat_eq_equiv, unsigned_tied}
+use Rattle.std.specs.Cmp.{nat_eq_equiv}
 use Rattle.std.specs.List.{find, position_or_len}
 use Rattle.std.specs.Map.{lookup}
-use Rattle.std.specs.Ordering.{is_eq, nat_cmp}
+use Rattle.std.specs.Ordering.{nat_cmp}
 use Rattle.std.proofs.lemmas.Bool.{eq-eqb}
 use Rattle.std.proofs.lemmas.List.{length-map, map-append}
 use Rattle.std.proofs.lemmas.List.Folds.{find_at}
 use Rattle.std.proofs.lemmas.List.Quantifiers.{position-Some}
 use Rattle.std.proofs.lemmas.Map.Made.{is_some-lookup}
 use Rattle.document_tables.specs.Trees.{last_of, AreKept}
-use Rattle.document_tables.specs.Stops.{Stop, ArePlacesOf, has_stop, with_stop, with_path, with_paths, stops_of}
+use Rattle.document_tables.specs.Stops.{Stop, has_stop, is_at, with_stop, with_path, with_paths, stops_of}
 use Rattle.document_tables.proofs.LinkSteps.{nowhere_any}
 use Rattle.document_tables.proofs.Named.{added}
 use Rattle.document_tables.proofs.TreeFacts.{clash, some_none, equal}
@@ -131,6 +131,9 @@ first_place : (p : ℕ → Bool) (es : List Stop) → position_or_len p (ports_o
 first_place p [] = refl
 first_place p (e ∷ es) = ap (λ (n : ℕ). cond (not (p e.0)) (1 + n) 0) (first_place p es)
 
+pub place_by_stops : (port : ℕ) (es : List Stop) → position (is_at port) es ≡ position (nat_eq port) (ports_of es)
+place_by_stops port es = ap₂ (λ (k n : ℕ). cond (nat_lt k n) (Some k) None) (sym (first_place (nat_eq port) es)) (sym (length-map es (λ (s : Stop). s.0)))
+
 placed : (b : Bool) (m k : ℕ) → cond b (Some m) None ≡ Some k → m ≡ k
 placed true m k h = cc
 placed false m k h = cc
@@ -155,13 +158,13 @@ place_within es p (Some k) h =
     omega (arith, n, w)
 
 -- ---- one stop more in the map of places
-pub place_more : (places more : BTreeMap ℕ ℕ) (es : List Stop) (port place : ℕ) (after : Option ℕ) → ArePlacesOf places es → position (nat_eq port) (ports_of es) ≡ None → place ≡ length es
-    → ((q : ℕ) → get nat_cmp more q ≡ cond (is_eq (nat_cmp port q)) (Some place) (get nat_cmp places q)) → ArePlacesOf more (es ++ (port, after) ∷ [])
-place_more places more es port place after are none next updates = λ q.
+pub place_more : (places more : BTreeMap ℕ ℕ) (es : List Stop) (port place : ℕ) (after : Option ℕ) (q : ℕ) → get nat_cmp places q ≡ position (nat_eq q) (ports_of es)
+    → position (nat_eq port) (ports_of es) ≡ None → place ≡ length es → get nat_cmp more q ≡ cond (nat_eq port q) (Some place) (get nat_cmp places q)
+    → get nat_cmp more q ≡ position (nat_eq q) (ports_of (es ++ (port, after) ∷ []))
+place_more places more es port place after q are none next noted =
     let n = length-map es (λ (s : Stop). s.0) in
     let at : place ≡ length (ports_of es) = omega (arith, n, next) in
     let each = map-append (λ (s : Stop). s.0) es ((port, after) ∷ []) in
-    updates q
-    ∙ (ap (λ (b : Bool). cond b (Some place) (get nat_cmp places q)) (unsigned_tied port q)
-    ∙ (ap₂ (λ (k : ℕ) (o : Option ℕ). cond (nat_eq port q) (Some k) o) at (are q)
-    ∙ (added nat_eq equal eq-eqb (ports_of es) port q none ∙ ap (position (nat_eq q)) (sym each))))
+    noted
+    ∙ (ap₂ (λ (k : ℕ) (o : Option ℕ). cond (nat_eq port q) (Some k) o) at are
+    ∙ (added nat_eq equal eq-eqb (ports_of es) port q none ∙ ap (position (nat_eq q)) (sym each)))

@@ -1,22 +1,30 @@
 -- What the calls that read links keep and answer: for each link the tree of its paths.
-use Rattle.std.specs.Prelude.{◌≡◌, ℕ, ◌≤◌, [], length, map, slice_get, Some, Result, Ok, Err}
+use Rattle.std.specs.Prelude.{◌≡◌, ℕ, ◌+◌, ◌≤◌, List, [], length, slice_get, None, Some, Result, Ok, Err}
 use Rattle.document_rows.specs.declared.fault.CellFault.{CellFault}
 use Rattle.document_rows.specs.declared.fault.RowError.{RowError}
 use Rattle.document_rows.specs.declared.fault.RowError.TheVariants.{Cell, NoMemory}
 use Rattle.document_rows.specs.Reads.{RowRead}
+use Rattle.document_tables.specs.declared.links.Branch.{Branch}
 use Rattle.document_tables.specs.declared.links.LinkKeys.{LinkKeys}
 use Rattle.document_tables.specs.declared.links.LinkTable.{LinkTable}
 use Rattle.document_tables.specs.declared.trees.Tree.{Tree}
-use Rattle.document_tables.specs.Links.{Links, paths_of, branch_view}
-use Rattle.document_tables.specs.Trees.{IsTreeOf}
+use Rattle.document_tables.specs.Grids.{place_after}
+use Rattle.document_tables.specs.Links.{Links, BranchText, branches_of, passed_by, paths_of}
+use Rattle.document_tables.specs.Stops.{stops_of}
+use Rattle.document_tables.specs.Trees.{IsTreeOf, last_of}
 
--- each link has a name, what its rows agree in, and the tree of its paths; a branch is of one of them
+-- the ports of a branch's path are there, and it has the place of the last of them in the tree of its link
+pub record IsHung (passed : List ℕ) (branches : List BranchText) (b : Branch) : Type 0 where
+  pub inside : b.first + b.count ≤ length passed
+  pub ends : place_after (stops_of (paths_of b.link branches)) (last_of None (passed_by passed b)) ≡ Some b.node
+
+-- each link has a name, what its rows agree in, and the tree of its paths; a branch is of one of them, and hangs on its tree
 pub record AreTrees (table : LinkTable) : Type 0 where
   pub names : length table.names ≡ length table.keys.items
   pub trees : length table.trees.items ≡ length table.keys.items
-  pub each : (k : ℕ) (tree : Tree) → slice_get table.trees.items k ≡ Some tree
-      → IsTreeOf (paths_of k (map branch_view table.branches.items)) tree
-  pub others : (k : ℕ) → length table.keys.items ≤ k → paths_of k (map branch_view table.branches.items) ≡ []
+  pub each : (k : ℕ) (tree : Tree) → slice_get table.trees.items k ≡ Some tree → IsTreeOf (paths_of k (branches_of table)) tree
+  pub others : (k : ℕ) → length table.keys.items ≤ k → paths_of k (branches_of table) ≡ []
+  pub hung : (k : ℕ) (b : Branch) → slice_get table.branches.items k ≡ Some b → IsHung table.passed.items (branches_of table) b
 
 -- a row agrees, or differs as it is read
 abbrev pub AreAlike : Result (Unit {0}) CellFault → RowRead LinkKeys → Type 0

@@ -1,5 +1,5 @@
 -- The table of links. Own choice.
-use Rattle.std.specs.Prelude.{ℕ, ◌==◌, not, List, [], ◌∷◌, ◌++◌, length, map, filter, nat_le, Option, Some, None, slice_get, Ok, Err, if◌then◌else◌}
+use Rattle.std.specs.Prelude.{ℕ, ◌==◌, not, List, [], ◌∷◌, ◌++◌, length, map, take, drop, filter, nat_le, Option, Some, None, slice_get, Ok, Err, if◌then◌else◌}
 use Rattle.std.specs.List.{position}
 use Rattle.std.specs.Str.{bytes_eq}
 use Rattle.csv_rows.specs.Rows.{Row}
@@ -31,12 +31,18 @@ pub record Links : Type 0 where
   pub keys : List LinkKeys
   pub branches : List BranchText
 
-abbrev pub branch_view : Branch → BranchText
-branch_view b = record { link = b.link; path = b.path.items; deadline = b.deadline }
+-- of a branch, where these are the ports of all paths, one path after the other
+abbrev pub passed_by : List ℕ → Branch → List ℕ
+passed_by passed b = take b.count (drop b.first passed)
+
+abbrev pub branch_view : List ℕ → Branch → BranchText
+branch_view passed b = record { link = b.link; path = passed_by passed b; deadline = b.deadline }
+
+abbrev pub branches_of : LinkTable → List BranchText
+branches_of t = map (branch_view t.passed.items) t.branches.items
 
 abbrev pub links_view : LinkTable → Links
-links_view t =
-    record { names = t.names; keys = t.keys.items; branches = map branch_view t.branches.items }
+links_view t = record { names = t.names; keys = t.keys.items; branches = branches_of t }
 
 -- ---- the rows of one link
 abbrev pub keys_of : LinkText → LinkKeys

@@ -1,5 +1,5 @@
 -- The tree over which a link goes, by the paths of its rows: the ports that they pass, each with the port before it.
-use Rattle.std.specs.Prelude.{◌≡◌, ℕ, nat_eq, Bool, List, [], ◌∷◌, ◌++◌, map, position, Option, Some, None, if◌then◌else◌}
+use Rattle.std.specs.Prelude.{◌≡◌, ℕ, ◌<◌, ◌≤◌, nat_eq, take, Bool, List, [], ◌∷◌, ◌++◌, map, position, Option, Some, None, if◌then◌else◌}
 use Rattle.std.specs.BTreeMap.{BTreeMap, get}
 use Rattle.std.specs.List.{list_any}
 use Rattle.std.specs.Ordering.{nat_cmp}
@@ -8,12 +8,26 @@ use Rattle.std.specs.Ordering.{nat_cmp}
 abbrev pub Stop : Type 0
 Stop = ℕ × Option ℕ
 
--- a port has the place of its stop, and none where it has no stop
+-- so many stops are found by looking at them all
+abbrev pub few : ℕ
+few = 16
+
+-- a port that has none of the first few has the place of its stop, and none where it has no stop
 abbrev pub ArePlacesOf : BTreeMap ℕ ℕ → List Stop → Type 0
-ArePlacesOf places stops = (port : ℕ) → get nat_cmp places port ≡ position (nat_eq port) (map (λ s. s.0) stops)
+ArePlacesOf places stops = (port : ℕ) → position (nat_eq port) (map (λ s. s.0) (take few stops)) ≡ None
+    → get nat_cmp places port ≡ position (nat_eq port) (map (λ s. s.0) stops)
+
+-- a place is noted, where it is past the first few
+pub record IsNoted (old new : BTreeMap ℕ ℕ) (port place : ℕ) : Type 0 where
+  pub before : place < few → (q : ℕ) → get nat_cmp new q ≡ get nat_cmp old q
+  pub past : few ≤ place → (q : ℕ) → get nat_cmp new q ≡ (if nat_eq port q then Some place else get nat_cmp old q)
 
 abbrev pub has_stop : List Stop → ℕ → Bool
 has_stop stops port = list_any (nat_eq port) (map (λ s. s.0) stops)
+
+-- it is the stop of this port
+abbrev pub is_at : (port : ℕ) → Stop → Bool
+is_at port stop = nat_eq port stop.0
 
 -- a port that is passed right after this one: it comes behind the others where it is new
 abbrev pub with_stop : List Stop → (port : ℕ) → (after : Option ℕ) → List Stop

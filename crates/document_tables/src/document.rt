@@ -5,7 +5,7 @@ ghost use Rattle.csv_rows.specs.Coming.{Stands, rows_of};
 ghost use Rattle.tree_network.specs.Networks.{IsNetwork};
 ghost use Rattle.document_tables.specs.Documents as spec;
 ghost use Rattle.document_tables.specs.Grids as grids;
-ghost use Rattle.document_tables.specs.Links.{branch_view, links_view};
+ghost use Rattle.document_tables.specs.Links.{branches_of, links_view};
 ghost use Rattle.document_tables.specs.LinkTrees.{AreTrees};
 ghost use Rattle.document_tables.specs.Ports.{ports_view};
 ghost use Rattle.document_tables.specs.Ranges.{IsPortText, AreLinkKeys};
@@ -53,15 +53,12 @@ fn in_file(file: TableFile, error: LineError) -> DocumentError
 }
 
 // Where a branch ends.
-fn branch_end(table: &LinkTable, branch: &Branch) -> BranchEnd
-    requires there { branch.now.link < length table.now.keys.items }
-    requires trees { AreTrees table.now }
-    ensures { spec.end_view result
-        ≡ grids.branch_on_grid (map branch_view table.now.branches.items) (branch_view branch.now) }
+fn branch_end(branch: Branch) -> BranchEnd
+    ensures { result ≡ record { link = branch.link; node = branch.node; deadline = branch.deadline } }
 {
     BranchEnd {
         link: branch.link,
-        node: table.trees[branch.link].place_of_last(&branch.path),
+        node: branch.node,
         deadline: branch.deadline,
     }
 }
@@ -70,12 +67,11 @@ fn branch_end(table: &LinkTable, branch: &Branch) -> BranchEnd
 fn branch_ends(alloc: Global, table: &LinkTable) -> Result<Vec<BranchEnd>, AllocError>
     requires trees { AreTrees table.now }
     ensures { IfOk result (λ ends. map spec.end_view ends.items
-        ≡ map (grids.branch_on_grid (map branch_view table.now.branches.items))
-        (map branch_view table.now.branches.items)) }
+        ≡ map (grids.branch_on_grid (branches_of table.now)) (branches_of table.now)) }
 {
     let mut ends = Vec::with_capacity(alloc, table.branches.len())?;
     for place in 0..table.branches.len() {
-        ends.push(branch_end(table, &table.branches[place]))?;
+        ends.push(branch_end(table.branches[place]))?;
     }
     Ok(ends)
 }
@@ -94,7 +90,7 @@ fn network_of(
     ensures ports { IfOk result (λ n. map grids.grid_port n.ports.items
         ≡ map grids.port_on_grid (ports_view ports.now).ports) }
     ensures links { IfOk result (λ n. map grids.grid_link n.links.items
-        ≡ grids.links_from (ports_view ports.now).ports overhead (map branch_view table.now.branches.items) 0
+        ≡ grids.links_from (ports_view ports.now).ports overhead (branches_of table.now) 0
         table.now.keys.items) }
 {
     let links = links_on_grid(alloc, ports, overhead, table)?;

@@ -1,11 +1,13 @@
 //! Why a document is refused.
 
 ghost use Rattle.std.specs.Prelude.{◌≡◌};
+ghost use Rattle.document_rows.specs.declared.fault.Column.TheVariants as column;
 ghost use Rattle.document_rows.specs.declared.fault.RowError.{RowError as SpecError};
+ghost use Rattle.document_rows.specs.declared.fault.RowError.TheVariants as row_errors;
 ghost use Rattle.document_tables.specs.declared.fault.LineError.TheVariants as errors;
 ghost use Rattle.document_tables.specs.Tables as spec;
 
-use document_rows::{Column, RowError, Wrong};
+use document_rows::{CellFault, Column, RowError, Wrong};
 use std::alloc::{AllocError, AllocFailed};
 
 /// The first fault of a table. Lines count from 1.
@@ -54,6 +56,16 @@ pub enum DocumentError {
     Fault(TableFile, LineFault),
     /// An allocation was refused.
     NoMemory,
+}
+
+/// Something is wrong with the name of a row.
+pub(crate) fn wrong_name(wrong: Wrong) -> RowError
+    ensures { result ≡ row_errors.Cell (record { column = column.Name; wrong = wrong }) }
+{
+    RowError::Cell(CellFault {
+        column: Column::Name,
+        wrong,
+    })
 }
 
 /// A fault of the row of a line.

@@ -4,7 +4,7 @@ ghost use Rattle.std.specs.Prelude.{◌≡◌, ◌≤◌, ◌<◌, All, map, len
 ghost use Rattle.document_rows.specs.Disciplines.{discipline_view};
 ghost use Rattle.document_rows.specs.PortRows.{port_view};
 ghost use Rattle.document_tables.specs.Grids as spec;
-ghost use Rattle.document_tables.specs.Links.{branch_view};
+ghost use Rattle.document_tables.specs.Links.{branches_of};
 ghost use Rattle.document_tables.specs.LinkTrees.{AreTrees};
 ghost use Rattle.document_tables.specs.Ports.{ports_view};
 ghost use Rattle.document_tables.specs.Ranges.{IsGate, IsPortText, AreLinkKeys};
@@ -148,7 +148,7 @@ pub(crate) fn links_on_grid(
     requires keys { All AreLinkKeys table.now.keys.items }
     requires trees { AreTrees table.now }
     ensures { IfOk result (λ links. map spec.grid_link links.items
-        ≡ spec.links_from (ports_view ports.now).ports overhead (map branch_view table.now.branches.items) 0
+        ≡ spec.links_from (ports_view ports.now).ports overhead (branches_of table.now) 0
         table.now.keys.items) }
 {
     let mut links = Vec::with_capacity(alloc, table.keys.len())?;

@@ -1,6 +1,6 @@
 //! The table of links.
 
-ghost use Rattle.std.specs.Prelude.{◌≡◌, ◌+◌, ◌<◌, ◌≤◌, None, Ok, Err, map, position, length, slice_get, OnOk, IfOk};
+ghost use Rattle.std.specs.Prelude.{◌≡◌, ◌+◌, ◌<◌, ◌≤◌, ◌++◌, ◌∷◌, [], None, Ok, Err, map, position, length, slice_get, OnOk, IfOk};
 ghost use Rattle.std.specs.Option.{ForSome};
 ghost use Rattle.std.specs.Str.{bytes_eq};
 ghost use Rattle.csv.specs.Records.{fields_of};
@@ -8,7 +8,6 @@ ghost use Rattle.csv_rows.specs.Coming.{Stands, rows_of};
 ghost use Rattle.document_rows.specs.LinkRows.{link_view};
 ghost use Rattle.document_rows.specs.Reads.{Tells, at};
 ghost use Rattle.document_rows.specs.declared.fault.Column.TheVariants as column;
-ghost use Rattle.document_rows.specs.declared.fault.RowError.TheVariants as errors;
 ghost use Rattle.document_rows.specs.declared.fault.Wrong.TheVariants as wrongs;
 ghost use Rattle.document_tables.specs.Growing.{HasOwnPorts};
 ghost use Rattle.document_tables.specs.Links as spec;
@@ -18,8 +17,8 @@ ghost use Rattle.document_tables.specs.Ports.{ports_view};
 ghost use Rattle.document_tables.specs.Ranges.{IsLinkText};
 ghost use Rattle.document_tables.specs.Tables.{Makes, TellsTable, after_rows, line_row};
 
-use crate::fault::{LineError, line_error, no_head};
-use crate::names::{Names, add_name, number_near};
+use crate::fault::{LineError, line_error, no_head, wrong_name};
+use crate::names::{Names, number_near, push_name};
 use crate::paths::path_ports;
 use crate::ports::PortTable;
 use crate::trees::Tree;
@@ -46,32 +45,26 @@ pub struct LinkKeys {
     pub priority: u64,
 }
 
-/// A row of the table: the number of its link, those of the ports of its path, and its deadline in microseconds, where
-/// it has one.
-#[derive(Drop)]
+/// A row of the table: the number of its link, which of the ports of all paths are those of its own, the place of the last
+/// of these in the tree of the link, and its deadline in microseconds, where it has one.
+#[derive(Clone, Copy)]
 pub struct Branch {
     pub link: usize,
-    pub path: Vec<usize>,
+    pub first: usize,
+    pub count: usize,
+    pub node: usize,
     pub deadline: Option<Amount>,
 }
 
 /// The links of a table by their numbers, in the order of their first rows: the names, what the rows agree in, and the
-/// trees; and the branches in the order of the rows.
+/// trees; the numbers of the ports of all paths, one path after the other; and the branches in the order of the rows.
 #[derive(Drop)]
 pub struct LinkTable {
     pub names: Names,
     pub keys: Vec<LinkKeys>,
     pub trees: Vec<Tree>,
+    pub passed: Vec<usize>,
     pub branches: Vec<Branch>,
-}
-
-fn wrong_name(wrong: Wrong) -> RowError
-    ensures { result ≡ errors.Cell (record { column = column.Name; wrong = wrong }) }
-{
-    RowError::Cell(CellFault {
-        column: Column::Name,
-        wrong,
-    })
 }
 
 fn keys_of(row: &LinkRow) -> LinkKeys
@@ -150,7 +143,7 @@ fn new_link(
     ensures more { OnOk result (length table.new.keys.items ≡ length table.old.keys.items + 1) }
     ensures kept { OnOk result (AreTrees table.new) }
 {
-    let _ = add_name(alloc, &mut table.names, name)?;
+    push_name(alloc, &mut table.names, name)?;
     table.keys.push(row)?;
     table.trees.push(Tree::new(alloc))?;
     Ok(())
@@ -185,6 +178,31 @@ fn add_link(
     }
 }
 
+// Puts a branch behind the others, and the ports of its path behind those of theirs.
+fn push_branch(
+    passed: &mut Vec<usize>,
+    branches: &mut Vec<Branch>,
+    link: usize,
+    node: usize,
+    path: &[usize],
+    deadline: Option<Amount>,
+) -> Result<(), AllocError>
+    ensures ports { OnOk result (passed.new.items ≡ passed.old.items ++ path.now) }
+    ensures branch { OnOk result (branches.new.items ≡ branches.old.items
+        ++ record { link = link; first = length passed.old.items; count = length path.now; node = node; deadline = deadline } ∷ []) }
+{
+    let first = passed.len();
+    passed.extend_from_slice(path)?;
+    branches.push(Branch {
+        link,
+        first,
+        count: path.len(),
+        node,
+        deadline,
+    })?;
+    Ok(())
+}
+
 // Puts a branch over a path behind the others, and its ports into the tree of its link.
 fn hang(
     table: &mut LinkTable,
@@ -200,19 +218,24 @@ fn hang(
         (spec.links_view table.new) }
     ensures kept { OnOk result (AreTrees table.new) }
 {
-    table.trees[link].grow(&path)?;
-    table.branches.push(Branch {
+    let tree = &mut table.trees[link];
+    tree.grow(&path)?;
+    let node = tree.place_of_last(&path);
+    push_branch(
+        &mut table.passed,
+        &mut table.branches,
         link,
-        path,
+        node,
+        &path,
         deadline,
-    })?;
+    )?;
     Ok(())
 }
 
 // The path of the newest branch.
 fn newest_path(table: &LinkTable) -> &[usize] {
     match table.branches.last() {
-        Some(branch) => branch.path.as_slice(),
+        Some(branch) => table.passed.get(branch.first..).unwrap_or(&[]),
         None => &[],
     }
 }
@@ -323,6 +346,7 @@ fn no_links(alloc: Global) -> LinkTable
         names: Names::new(alloc),
         keys: Vec::new(alloc),
         trees: Vec::new(alloc),
+        passed: Vec::new(alloc),
         branches: Vec::new(alloc),
     }
 }

@@ -170,6 +170,17 @@ fn push_text(
     Ok(())
 }
 
+/// Puts a name that is new behind others.
+pub(crate) fn push_name(alloc: Global, names: &mut Names, name: &str) -> Result<(), AllocError>
+    requires { position (bytes_eq name.now) names.old ≡ None }
+    ensures { OnOk result (names.new ≡ names.old ++ name.now ∷ []) }
+{
+    let number = names.texts.len();
+    push_text(alloc, &mut names.texts, &mut names.numbers, name)?;
+    take_slot(alloc, &mut names.slots, name, number)?;
+    Ok(())
+}
+
 /// Puts a name behind others, and says whether it is new.
 pub(crate) fn add_name(alloc: Global, names: &mut Names, name: &str) -> Result<bool, AllocError>
     ensures new { IfOk result (λ is_new. is_new ≡ not (list_any (bytes_eq name.now) names.old)) }
@@ -178,8 +189,6 @@ pub(crate) fn add_name(alloc: Global, names: &mut Names, name: &str) -> Result<b
     if number_of(names, name).is_some() {
         return Ok(false);
     }
-    let number = names.texts.len();
-    push_text(alloc, &mut names.texts, &mut names.numbers, name)?;
-    take_slot(alloc, &mut names.slots, name, number)?;
+    push_name(alloc, names, name)?;
     Ok(true)
 }

@@ -4,16 +4,12 @@ ghost use Rattle.std.specs.Prelude.{◌≡◌, map, length};
 ghost use Rattle.csv.specs.Records.{fields_of};
 ghost use Rattle.document_tables.specs.Ports as spec;
 ghost use Rattle.document_tables.specs.Tables.{Makes, TellsTable, after_rows, row_view};
-ghost use Rattle.document_rows.specs.declared.fault.Column.TheVariants as column;
-ghost use Rattle.document_rows.specs.declared.fault.RowError.TheVariants as errors;
 
-use crate::fault::{LineError, line_error, no_head};
+use crate::fault::{LineError, line_error, no_head, wrong_name};
 use crate::names::{Names, add_name};
 use csv::ByteRecord;
 use csv_rows::TableRow;
-use document_rows::{
-    CellFault, Column, PortHead, PortRow, RowError, Wrong, port_head, port_row, row_name,
-};
+use document_rows::{PortHead, PortRow, RowError, Wrong, port_head, port_row, row_name};
 use std::alloc::Global;
 
 const MOST_PORTS: usize = 4_096;
@@ -23,16 +19,6 @@ const MOST_PORTS: usize = 4_096;
 pub struct PortTable {
     pub names: Names,
     pub ports: Vec<PortRow>,
-}
-
-// Something is wrong with the name of a row.
-fn wrong_name(wrong: Wrong) -> RowError
-    ensures { result ≡ errors.Cell (record { column = column.Name; wrong = wrong }) }
-{
-    RowError::Cell(CellFault {
-        column: Column::Name,
-        wrong,
-    })
 }
 
 // No port.

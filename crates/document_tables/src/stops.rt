@@ -1,16 +1,22 @@
 //! The ports of a tree by their places.
 
-ghost use Rattle.std.specs.Prelude.{◌≡◌, ◌<◌, [], nat_eq, length, slice_get, IfSome, OnOk};
+ghost use Rattle.std.specs.Prelude.{◌≡◌, ◌<◌, ℕ, [], nat_eq, length, position, slice_get, take, IfSome, OnErr, OnOk};
+ghost use Rattle.std.specs.BTreeMap.{get};
 ghost use Rattle.std.specs.Map.{lookup};
+ghost use Rattle.std.specs.Ordering.{nat_cmp};
 ghost use Rattle.document_tables.specs.Grids.{place_of};
-ghost use Rattle.document_tables.specs.Stops.{with_stop};
+ghost use Rattle.document_tables.specs.Stops.{ArePlacesOf, IsNoted, few, is_at, with_stop};
 
 use std::alloc::{AllocError, Global};
 use std::collections::BTreeMap;
 use std::marker::Model;
 
+/// Among so few ports each is found by looking at them all.
+const FEW: usize = 16;
+
 /// Ports, each with the one after which it comes, in the order in which they were first passed: contracts see the list of
-/// both. Each is found among the others in the order of their numbers, so that no choice of ports makes it slow.
+/// both. Past the first few each is found among the others in the order of their numbers, so that no choice of ports makes
+/// it slow.
 #[derive(Drop)]
 pub struct Stops {
     stops: Vec<(usize, Option<usize>)>,
@@ -26,6 +32,50 @@ impl Model for Stops {
     ghost view = { λ s. s.stops.items };
 
     ghost invariant = { λ s. ArePlacesOf s.places s.stops.items };
+}
+
+// The place of a port among these.
+fn place_among(stops: &[(usize, Option<usize>)], port: usize) -> Option<usize>
+    ensures { result ≡ position (is_at port) stops.now }
+{
+    stops.iter().position(|stop| port == stop.0)
+}
+
+// The first few of these.
+fn first_few(stops: &[(usize, Option<usize>)]) -> &[(usize, Option<usize>)]
+    ensures { result.now ≡ take few stops.now }
+{
+    if stops.len() <= FEW {
+        return stops;
+    }
+    &stops[..FEW]
+}
+
+// The place of a port among these, where the places of those past the first few are noted.
+fn place_in(
+    stops: &[(usize, Option<usize>)],
+    places: &BTreeMap<usize, usize>,
+    port: usize,
+) -> Option<usize>
+    requires { ArePlacesOf places.now stops.now }
+    ensures { result ≡ place_of stops.now port }
+{
+    match place_among(first_few(stops), port) {
+        Some(place) => Some(place),
+        None => places.get(&port).copied(),
+    }
+}
+
+// Notes the place of a port, where it is past the first few.
+fn note(places: &mut BTreeMap<usize, usize>, port: usize, place: usize) -> Result<(), AllocError>
+    ensures noted { OnOk result (IsNoted places.old places.new port place) }
+    ensures same { OnErr result ((q : ℕ) → get nat_cmp places.new q ≡ get nat_cmp places.old q) }
+{
+    if place < FEW {
+        return Ok(());
+    }
+    places.insert(port, place)?;
+    Ok(())
 }
 
 impl Stops {
@@ -59,7 +109,7 @@ impl Stops {
         ensures value { result ≡ place_of self.now port }
         ensures within { IfSome result (λ place. place < length self.now) }
     {
-        self.places.get(&port).copied()
+        place_in(&self.stops, &self.places, port)
     }
 
     /// The one after which a port comes, where the port is there.
@@ -81,7 +131,7 @@ impl Stops {
         }
         let place = self.stops.len();
         self.stops.reserve(1)?;
-        self.places.insert(port, place)?;
+        note(&mut self.places, port, place)?;
         self.stops.push_reserved((port, after));
         Ok(())
     }

@@ -16,11 +16,14 @@ fn push_word<'a>(words: &mut Vec<&'a [u8]>, word: &'a [u8]) -> Result<(), AllocE
     Ok(())
 }
 
+/// Room for so many words is made at once: most cells have no more.
+const USUAL_WORDS: usize = 8;
+
 /// What stands between the blanks of a cell (ASCII white space), in order.
 pub fn words_in(alloc: Global, cell: &[u8]) -> Result<Vec<&[u8]>, AllocError>
     ensures { IfOk result (λ words. map (λ word. word.now) words.items ≡ spec.words_of cell.now) }
 {
-    let mut words = Vec::new(alloc);
+    let mut words = Vec::with_capacity(alloc, USUAL_WORDS)?;
     let mut start = 0;
     for (at, byte) in cell.iter().enumerate() {
         if byte.is_ascii_whitespace() {

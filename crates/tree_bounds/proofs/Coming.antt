@@ -28,7 +28,7 @@ use Rattle.tree_bounds.specs.Grouping.{AreInGroups, grouped}
 use Rattle.tree_bounds.specs.Groups.{groups_at, pace_line, parts_in, incoming_of_groups, incoming_at, incomings_at}
 use Rattle.tree_bounds.specs.Lines.{line_of}
 use Rattle.tree_bounds.specs.declared.groups.Group.{Group}
-use Rattle.tree_bounds.proofs.Bunched.{among_more}
+use Rattle.tree_bounds.proofs.Bunched.{among_more, arriving_length}
 use Rattle.tree_bounds.proofs.Grouped.{grouped_at, in_groups, in_queue, run_of, spots_in_queue}
 
 -- ---- the spots of a queue
@@ -138,6 +138,15 @@ some_arrive net spots stair s q groups lines parts ws is some are =
     ∙ ap₂ (λ (o : Option (List Part)) (n : ℕ). arriving (option_map (λ ps. map (bunch_of_group net spots stair s q) groups) o) n) e l
 
 -- ---- all queues
+-- as many as there are queues
+pub stairs_count : (net : Network) (stair : ℕ → Option Stair) (s count : ℕ) (stairs : List StairArrivals) → map arriving_of (stairs_in stairs) ≡ arriving_below net (spots_of net) stair s count → length stairs ≡ count
+stairs_count net stair s count stairs are =
+    let many = length-map stairs stairs_of in
+    let seen = length-map (stairs_in stairs) arriving_of in
+    let same = ap length are in
+    let queues = arriving_length net (spots_of net) stair s count in
+    omega (arith, many, seen, same, queues)
+
 pub none_coming : (net : Network) (stair : ℕ → Option Stair) (s : ℕ) → IsComing net stair s 0 [] []
 unfolding arriving_below incomings_at
 none_coming net stair s = record { lines = refl; stairs = refl }

@@ -129,6 +129,14 @@ came net spots n a w h e =
     let c = subst P e (w.each n h).comes in
     (c.0, c.1)
 
+-- one of the ports in their order, as it is gone through
+pub port_in_order : (net : Network) (order these : List ℕ) (k : ℕ) → IsOrderOf (spots_of net) (length net.ports.items) order → these ≡ order → k < length these → get_or these k 0 < length net.ports.items
+port_in_order net order these k o same h =
+    let inside = ap length same in
+    let is = ap (λ (l : List ℕ). get_or l k 0) same in
+    let lt = o.small k (omega (arith, h, inside, o.count)) in
+    omega (arith, is, lt)
+
 -- ---- one port more
 pub can_pass : (net : Network) (order : List ℕ) (k p queues stairs : ℕ) → AreSpots net (spots_of net) → IsOrderOf (spots_of net) (length net.ports.items) order
     → k < length net.ports.items → p ≡ get_or order k 0 → queues ≡ queues_of (port_at net p).discipline → stairs ≡ length (spots_of net)

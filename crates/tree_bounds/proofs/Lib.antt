@@ -1,4 +1,5 @@
 pub mod Grouped
+pub mod Gathered
 pub mod Bounded
 pub mod Onwards
 pub mod LineLimits

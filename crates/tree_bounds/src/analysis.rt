@@ -105,6 +105,8 @@ pub fn bounds_of(alloc: Global, network: &Network) -> Result<Table, Fault>
 {
     let plan = plan_of(alloc, network)?;
     let rows = rows_in_order(alloc, network, &plan)?;
+    // The bounds are as large, and then take its room.
+    drop(plan);
     let bounds = all_bounds(alloc, network, &rows)?;
     Ok(Table { rows, bounds })
 }

@@ -9,7 +9,7 @@ ghost use Rattle.arrival_stairs.specs.Views.{bunch_of, bunches};
 ghost use Rattle.port_bounds.specs.Incoming.{incoming_of};
 ghost use Rattle.port_bounds.specs.StairsIncoming.{stairs_of};
 ghost use Rattle.tree_bounds.specs.Bunches.{arriving_at, arriving_of, arriving_of_groups, bunch_of_group, stair_list, stairs_among};
-ghost use Rattle.tree_bounds.specs.Coming.{IsComing, is_of_queue};
+ghost use Rattle.tree_bounds.specs.Coming.{IsComing, IsGrouped, is_of_queue};
 ghost use Rattle.tree_bounds.specs.Grouping.{AreInGroups};
 ghost use Rattle.tree_bounds.specs.Groups.{incoming_at, incoming_of_groups, pace_line};
 ghost use Rattle.tree_bounds.specs.Lines.{line_of};
@@ -42,6 +42,15 @@ struct Both {
     stairs: StairArrivals,
 }
 
+/// The spots of a queue, the groups in which their links come, and what these bring by lines.
+#[derive(Drop)]
+struct Grouped {
+    /// The numbers of the spots, one group after the other.
+    numbers: Vec<usize>,
+    groups: Vec<Group>,
+    lines: Arrivals,
+}
+
 /// Adds the stair, if there is one.
 fn keep(stairs: &mut Vec<Stair>, stair: Option<Stair>) -> Result<(), AllocError>
     ensures { OnOk result (stairs.new.items ≡ stairs.old.items ++ stair_list stair) }
@@ -62,7 +71,7 @@ fn of_queue(
     requires { All (λ n. n < length spots.now) numbers.now }
     ensures { IfOk result (λ v. v.items ≡ filter (is_of_queue spots.now q) numbers.now) }
 {
-    let mut found = Vec::new(alloc);
+    let mut found = Vec::with_capacity(alloc, numbers.len())?;
     for n in numbers {
         if spots[*n].queue as usize == q {
             found.push(*n)?;
@@ -162,6 +171,32 @@ fn stair_arrivals(
     }
 }
 
+/// The spots of queue q of a port, and what arrives there by lines.
+fn grouped_at(
+    alloc: Global,
+    network: &Network,
+    plan: &Plan,
+    stairs: &[Option<Stair>],
+    port: usize,
+    q: usize,
+) -> Result<Grouped, AllocError>
+    requires network { IsNetwork network.now }
+    requires plan { IsPlanOf network.now plan.now }
+    requires stairs { length stairs.now ≡ length plan.now.spots.items }
+    requires range { AreAllStairs stairs.now }
+    requires port { port < length network.now.ports.items }
+    ensures { IfOk result (λ g. IsGrouped network.now (λ n. stair_in stairs.now n) port q g.numbers.items g.groups.items g.lines) }
+{
+    let numbers = of_queue(alloc, &plan.spots, &plan.at[port], q)?;
+    let groups = groups_of(alloc, &plan.spots, &numbers, stairs)?;
+    let lines = arrivals(alloc, network, &groups)?;
+    Ok(Grouped {
+        numbers,
+        groups,
+        lines,
+    })
+}
+
 /// What arrives at a queue of a port, both ways.
 fn arrivals_at(
     alloc: Global,
@@ -181,11 +216,19 @@ fn arrivals_at(
     ensures stairs { IfOk result (λ b. arriving_of (stairs_of b.stairs)
         ≡ arriving_at network.now (spots_of network.now) (λ n. stair_in stairs.now n) port q) }
 {
-    let numbers = of_queue(alloc, &plan.spots, &plan.at[port], q)?;
-    let groups = groups_of(alloc, &plan.spots, &numbers, stairs)?;
-    let lines = arrivals(alloc, network, &groups)?;
-    let stairs = stair_arrivals(alloc, network, stairs, &numbers, &groups, &lines)?;
-    Ok(Both { lines, stairs })
+    let found = grouped_at(alloc, network, plan, stairs, port, q)?;
+    let stairs = stair_arrivals(
+        alloc,
+        network,
+        stairs,
+        &found.numbers,
+        &found.groups,
+        &found.lines,
+    )?;
+    Ok(Both {
+        lines: found.lines,
+        stairs,
+    })
 }
 
 /// What arrives at each of so many queues of a port.

@@ -1,6 +1,6 @@
 //! The links that come to a queue, by where they come from.
 
-ghost use Rattle.std.specs.Prelude.{◌≡◌, ◌<◌, ◌++◌, ◌∷◌, [], All, length, max, IfOk, OnOk};
+ghost use Rattle.std.specs.Prelude.{◌≡◌, ◌<◌, ◌++◌, ◌∷◌, [], All, length, map, max, IfOk, OnOk};
 ghost use Rattle.tree_bounds.specs.Groups.{longest_group};
 ghost use Rattle.tree_bounds.specs.Grouping.{FitTogether, IsOfOne, both_groups, group_of_spot, grouped, last_with, with_group};
 ghost use Rattle.tree_bounds.specs.Lines.{line_of};
@@ -116,6 +116,25 @@ fn add_group(groups: &mut Vec<Group>, next: Group) -> Result<(), AllocError>
     }
 }
 
+/// The stairs of these spots, side by side. They stand far apart among those of all spots: here none of them waits for another one
+/// to be fetched, as it would behind the divisions of a line.
+fn stairs_at(
+    alloc: Global,
+    stairs: &[Option<Stair>],
+    numbers: &[usize],
+) -> Result<Vec<Option<Stair>>, AllocError>
+    requires inside { All (λ n. n < length stairs.now) numbers.now }
+    requires range { AreAllStairs stairs.now }
+    ensures same { IfOk result (λ v. v.items ≡ map (λ n. stair_in stairs.now n) numbers.now) }
+    ensures range { IfOk result (λ v. AreAllStairs v.items) }
+{
+    let mut found = Vec::with_capacity(alloc, numbers.len())?;
+    for n in numbers {
+        found.push(stairs[*n])?;
+    }
+    Ok(found)
+}
+
 /// These spots of a queue, by their sources.
 pub(crate) fn groups_of(
     alloc: Global,
@@ -128,10 +147,11 @@ pub(crate) fn groups_of(
     requires range { AreAllStairs stairs.now }
     ensures { IfOk result (λ v. v.items ≡ grouped spots.now (λ n. line_of (stair_in stairs.now n)) numbers.now) }
 {
+    let own = stairs_at(alloc, stairs, numbers)?;
     let mut groups = Vec::new(alloc);
-    for n in numbers {
-        let line = line_by(stairs, *n);
-        add_group(&mut groups, group_of_one(spots[*n], line))?;
+    for place in 0..numbers.len() {
+        let line = line_by(&own, place);
+        add_group(&mut groups, group_of_one(spots[numbers[place]], line))?;
     }
     Ok(groups)
 }

@@ -4,7 +4,7 @@ use Rattle.std.proofs.lemmas.List.{map-append}
 use Rattle.std.proofs.lemmas.Option.{slice_get-get_or}
 use Rattle.tree_network.specs.declared.network.Link.{Link}
 use Rattle.document_tables.specs.Grids.{LinkOnGrid, grid_link, link_on_grid, links_from}
-use Rattle.document_tables.specs.Links.{branch_view, paths_of}
+use Rattle.document_tables.specs.Links.{branches_of, paths_of}
 use Rattle.document_tables.specs.Ports.{ports_view}
 use Rattle.document_tables.specs.Stops.{stops_of}
 use Rattle.document_tables.proofs.GridSteps.{links_more, links_all}
@@ -13,7 +13,7 @@ use Rattle.document_tables.proofs.grid.links_on_grid.Goals as goal
 pub loop-number-preserved : goal.loop-number-preserved
 loop-number-preserved c =
     let ports = (ports_view c.args.ports.now).ports in
-    let branches = map branch_view c.args.table.now.branches.items in
+    let branches = branches_of c.args.table.now in
     let keys = c.args.table.now.keys.items in
     let trees = c.args.table.now.trees.items in
     let kept = c.requires.trees in
@@ -35,5 +35,5 @@ loop-number-preserved c =
 pub returns : goal.returns
 returns c =
     let ports = (ports_view c.args.ports.now).ports in
-    let branches = map branch_view c.args.table.now.branches.items in
+    let branches = branches_of c.args.table.now in
     sym (links_all ports c.args.overhead branches (map grid_link c.loop-number.links.items) c.args.table.now.keys.items c.loop-number.number (omega arith)) ∙ c.loop-number.invariant

@@ -16,7 +16,7 @@ returns-then-len-ge-MOST_BRANCHES-clause-value c =
     let ports = ports_view c.args.ports.now in
     let before = links_view c.args.table.now in
     let row = fields_of c.args.row.now in
-    let n = length-map c.args.table.now.branches.items branch_view in
+    let n = length-map c.args.table.now.branches.items (branch_view c.args.table.now.passed.items) in
     let full : nat_le most_branches (length before.branches) ≡ true = is_full most_branches (length before.branches) (omega (arith, n, c.len.ensures, c.if-len-ge-MOST_BRANCHES.true)) in
     subst (λ e. Makes (Err e) (with_row ports c.args.overhead c.args.head.now before row) before) (sym c.wrong_name.ensures) (too_many ports c.args.overhead c.args.head.now before row full)
 
@@ -25,7 +25,7 @@ returns-in_err-name-clause-value c =
     let ports = ports_view c.args.ports.now in
     let before = links_view c.args.table.now in
     let row = fields_of c.args.row.now in
-    let few = few_rows c.args.table.now.branches.items (omega (arith, c.len.ensures, c.if-len-ge-MOST_BRANCHES.false)) in
+    let few = few_rows c.args.table.now (omega (arith, c.len.ensures, c.if-len-ge-MOST_BRANCHES.false)) in
     handed_on c.from_residual.result (Cell c.in_err-name.field-0.0) (with_row ports c.args.overhead c.args.head.now before row) before c.from_residual.ensures.1
     (no_name ports c.args.overhead c.args.head.now before row few c.in_err-name.field-0.0 (sym c.in_err-name.ensures))
 
@@ -34,7 +34,7 @@ returns-in_err-number-clause-value c =
     let ports = ports_view c.args.ports.now in
     let before = links_view c.args.table.now in
     let row = fields_of c.args.row.now in
-    let few = few_rows c.args.table.now.branches.items (omega (arith, c.len.ensures, c.if-len-ge-MOST_BRANCHES.false)) in
+    let few = few_rows c.args.table.now (omega (arith, c.len.ensures, c.if-len-ge-MOST_BRANCHES.false)) in
     handed_on c.from_residual-in_err-number.result (Cell c.in_err-number.field-0.0) (with_row ports c.args.overhead c.args.head.now before row) before c.from_residual-in_err-number.ensures.1
     (no_room ports c.args.overhead c.args.head.now before row few c.in_ok-name.name.now (sym c.in_ok-name.ensures) c.in_err-number.field-0.0
     (ap (has_room before) (sym c.number_near.ensures.value) ∙ sym c.in_err-number.ensures.value))
@@ -44,7 +44,7 @@ returns-in_err-row-clause-value c =
     let ports = ports_view c.args.ports.now in
     let before = links_view c.args.table.now in
     let row = fields_of c.args.row.now in
-    let few = few_rows c.args.table.now.branches.items (omega (arith, c.len.ensures, c.if-len-ge-MOST_BRANCHES.false)) in
+    let few = few_rows c.args.table.now (omega (arith, c.len.ensures, c.if-len-ge-MOST_BRANCHES.false)) in
     handed_on c.from_residual-in_err-row.result c.in_err-row.field-0.0 (with_row ports c.args.overhead c.args.head.now before row) before c.from_residual-in_err-row.ensures.1
     (no_text ports c.args.overhead c.args.head.now before row few c.in_ok-name.name.now (sym c.in_ok-name.ensures) c.in_ok-number.number
     (ap (has_room before) (sym c.number_near.ensures.value) ∙ sym c.in_ok-number.ensures.value) link_view c.in_err-row.field-0.0 before c.in_err-row.ensures)
@@ -57,7 +57,7 @@ returns-clause-value c =
     let ports = ports_view c.args.ports.now in
     let before = links_view c.args.table.now in
     let row = fields_of c.args.row.now in
-    let few = few_rows c.args.table.now.branches.items (omega (arith, c.len.ensures, c.if-len-ge-MOST_BRANCHES.false)) in
+    let few = few_rows c.args.table.now (omega (arith, c.len.ensures, c.if-len-ge-MOST_BRANCHES.false)) in
     let same = to_text ports c.args.overhead c.args.head.now before row few c.in_ok-name.name.now (sym c.in_ok-name.ensures) c.in_ok-number.number
     (ap (has_room before) (sym c.number_near.ensures.value) ∙ sym c.in_ok-number.ensures.value) (link_view c.in_ok-row.row) c.in_ok-row.ensures
     in

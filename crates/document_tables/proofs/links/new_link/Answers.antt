@@ -1,26 +1,23 @@
-use Rattle.std.specs.Prelude.{not, slice_get}
-use Rattle.std.specs.Str.{bytes_eq}
-use Rattle.std.proofs.Common.{◌∷◌, [], List, ℕ, map, length, Ok, sym, ap, subst, ◌∙◌, arith, length-append}
-use Rattle.document_tables.specs.Links.{branch_view, paths_of}
+use Rattle.std.specs.Prelude.{slice_get}
+use Rattle.std.proofs.Common.{◌∷◌, [], List, ℕ, length, Ok, sym, ap, subst, ◌∙◌, arith, length-append}
+use Rattle.document_tables.specs.Links.{branches_of, paths_of}
 use Rattle.document_tables.specs.Trees.{IsTreeOf}
 use Rattle.document_tables.specs.declared.trees.Tree.{Tree}
-use Rattle.document_tables.proofs.LinkSteps.{nowhere_any, each_push}
+use Rattle.document_tables.proofs.LinkSteps.{each_push}
 use Rattle.document_tables.proofs.links.new_link.Goals as goal
 
 pub returns-clause-value : goal.returns-clause-value
 returns-clause-value c =
-    let any = nowhere_any (bytes_eq c.args.name.now) c.args.table.now.names c.requires.new in
-    let grown = c.in_ok-add_name.ensures.grown (c.in_ok-add_name.ensures.new ∙ ap not any) in
+    let grown = c.in_ok-push_name.ensures in
     let keys = c.in_ok-push.ensures.items in
-    λ i. Ok (record { names = sym grown i; keys = sym keys i; branches = map branch_view c.args.table.now.branches.items })
+    λ i. Ok (record { names = sym grown i; keys = sym keys i; branches = branches_of c.args.table.now })
 
 pub returns-clause-kept : goal.returns-clause-kept
 returns-clause-kept c =
     let old = c.args.table.now in
-    let branches = map branch_view old.branches.items in
+    let branches = branches_of old in
     let kept = c.requires.kept in
-    let any = nowhere_any (bytes_eq c.args.name.now) old.names c.requires.new in
-    let grown = c.in_ok-add_name.ensures.grown (c.in_ok-add_name.ensures.new ∙ ap not any) in
+    let grown = c.in_ok-push_name.ensures in
     let keys = c.in_ok-push.ensures.items in
     let trees = c.in_ok-push-2.ensures.items in
     let more_names = ap length grown in
@@ -36,4 +33,5 @@ returns-clause-kept c =
           (subst (λ (paths : List (List ℕ)). IsTreeOf paths c.new.result) (sym (kept.others (length old.trees.items) (omega (arith, kept.trees)))) c.new.ensures)
           k tree (ap (λ (ts : List Tree). slice_get ts k) (sym trees) ∙ h);
       others = λ k h. kept.others k (omega (arith, h, more_keys, one_key));
+      hung = kept.hung;
     }

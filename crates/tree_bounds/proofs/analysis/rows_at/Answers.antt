@@ -5,13 +5,14 @@ use Rattle.tree_network.specs.Networks.{PortIsInRange, no_port, queues_of}
 use Rattle.tree_network.specs.declared.network.Port.{Port}
 use Rattle.tree_network.specs.Spots.{spots_of}
 use Rattle.port_bounds.specs.Incoming.{incoming, incoming_of}
-use Rattle.port_bounds.specs.StairsIncoming.{AreStairsInRange, line_incomings, stairs_in, stairs_of}
+use Rattle.port_bounds.specs.StairsIncoming.{AreStairsInRange, line_incomings, stairs_in}
 use Rattle.port_bounds.specs.StairRows.{AreStairRows}
 use Rattle.port_bounds.specs.declared.stair_arrivals.StairArrivals.{StairArrivals}
 use Rattle.tree_bounds.specs.Bunches.{arriving_below, arriving_of}
 use Rattle.tree_bounds.specs.Lines.{line_of}
 use Rattle.tree_bounds.specs.Onward.{stair_in}
-use Rattle.tree_bounds.proofs.Bunched.{arriving_length, lines_of_coming}
+use Rattle.tree_bounds.proofs.Bunched.{lines_of_coming}
+use Rattle.tree_bounds.proofs.Coming.{stairs_count}
 use Rattle.tree_bounds.proofs.InLimits.{rows_are, stairs_in_range}
 use Rattle.tree_bounds.proofs.Ranged.{incomings_length}
 use Rattle.tree_bounds.proofs.analysis.rows_at.Goals as goal
@@ -20,12 +21,9 @@ pub stair_rows-requires-clause-count : goal.stair_rows-requires-clause-count
 stair_rows-requires-clause-count c =
     let net = c.args.network.now in
     let stair = λ (n : ℕ). stair_in c.args.stairs.now n in
-    let many = length-map c.in_ok-queues.queues.stairs.items stairs_of in
-    let seen = length-map (stairs_in c.in_ok-queues.queues.stairs.items) arriving_of in
-    let are = ap length c.in_ok-queues.ensures.stairs in
-    let count = arriving_length net (spots_of net) stair c.args.port c.queue_count-count.result in
+    let many = stairs_count net stair c.args.port c.queue_count-count.result c.in_ok-queues.queues.stairs.items c.in_ok-queues.ensures.stairs in
     let slice = ap length c.deref.ensures.value in
-    omega (arith, slice, many, seen, are, count, c.queue_count-count.ensures)
+    omega (arith, slice, many, c.queue_count-count.ensures)
 
 pub stair_rows-requires-clause-range : goal.stair_rows-requires-clause-range
 stair_rows-requires-clause-range c =
@@ -50,16 +48,13 @@ pub stair_rows-requires-clause-same : goal.stair_rows-requires-clause-same
 stair_rows-requires-clause-same c =
     let net = c.args.network.now in
     let stair = λ (n : ℕ). stair_in c.args.stairs.now n in
-    let many = length-map c.in_ok-queues.queues.stairs.items stairs_of in
-    let seen = length-map (stairs_in c.in_ok-queues.queues.stairs.items) arriving_of in
-    let are = ap length c.in_ok-queues.ensures.stairs in
-    let count = arriving_length net (spots_of net) stair c.args.port c.queue_count-count.result in
+    let many = stairs_count net stair c.args.port c.queue_count-count.result c.in_ok-queues.queues.stairs.items c.in_ok-queues.ensures.stairs in
     let lines = length-map c.in_ok-queues.queues.lines.items incoming_of in
     let known = ap length c.in_ok-queues.ensures.lines in
     let few = incomings_length net (spots_of net) (λ n. line_of (stair n)) c.args.port c.queue_count-count.result in
     let slice = ap length c.deref.ensures.value in
     let other = ap length c.deref-2.ensures.value in
-    omega (arith, slice, other, many, seen, are, count, lines, known, few)
+    omega (arith, slice, other, many, lines, known, few)
 
 pub returns : goal.returns
 returns c =

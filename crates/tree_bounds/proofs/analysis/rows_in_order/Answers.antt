@@ -12,7 +12,7 @@ use Rattle.tree_network.proofs.InRange.{in_range}
 use Rattle.tree_bounds.specs.Onward.{BeginStairs, CanBePassedOn, ArePassedOn, stair_in}
 use Rattle.tree_bounds.specs.Solved.{AreAllStairs, AreDone}
 use Rattle.tree_bounds.specs.Tables.{items_of}
-use Rattle.tree_bounds.proofs.Done.{none_done, one_done, all_done, can_pass}
+use Rattle.tree_bounds.proofs.Done.{none_done, one_done, all_done, can_pass, port_in_order}
 use Rattle.tree_bounds.proofs.Bunched.{arriving_length}
 use Rattle.tree_bounds.proofs.analysis.rows_in_order.Goals as goal
 
@@ -42,24 +42,13 @@ rows_at-requires-clause-range c =
 
 pub rows_at-requires-clause-port : goal.rows_at-requires-clause-port
 rows_at-requires-clause-port c =
-    let o = c.requires.plan.order in
-    let same = c.deref-port-items.ensures.value in
-    let k = c.loop-port.port-index in
-    let inside = ap length same in
-    let is = ap (λ (l : List ℕ). get_or l k 0) same in
-    let lt = o.small k (omega (arith, c.loop-port-test.true, inside, o.count)) in
-    omega (arith, is, lt)
+    port_in_order c.args.network.now c.args.plan.now.order.items c.deref-port-items.result.now c.loop-port.port-index c.requires.plan.order c.deref-port-items.ensures.value c.loop-port-test.true
 
 pub hand_on-requires-clause-inside : goal.hand_on-requires-clause-inside
 hand_on-requires-clause-inside c =
-    let o = c.requires.plan.order in
-    let same = c.deref-port-items.ensures.value in
-    let k = c.loop-port.port-index in
-    let inside = ap length same in
-    let is = ap (λ (l : List ℕ). get_or l k 0) same in
-    let lt = o.small k (omega (arith, c.loop-port-test.true, inside, o.count)) in
+    let lt = port_in_order c.args.network.now c.args.plan.now.order.items c.deref-port-items.result.now c.loop-port.port-index c.requires.plan.order c.deref-port-items.ensures.value c.loop-port-test.true in
     let count = length-map c.args.plan.now.sources.items (λ v. v.items) in
-    omega (arith, is, lt, count, c.requires.plan.sources.count)
+    omega (arith, lt, count, c.requires.plan.sources.count)
 
 pub hand_on-requires-clause-sources : goal.hand_on-requires-clause-sources
 hand_on-requires-clause-sources c =

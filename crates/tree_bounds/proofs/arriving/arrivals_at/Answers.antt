@@ -1,125 +1,45 @@
-use Rattle.std.proofs.Common.{◌<◌, ◌+◌, ℕ, List, length, sym, ◌∙◌, ap, subst, arith}
+use Rattle.std.proofs.Common.{◌<◌, ℕ, List, length, sym, ◌∙◌, ap, subst, arith}
+use Rattle.std.specs.List.{sum_by}
 use Rattle.std.specs.Prelude.{All}
 use Rattle.tree_network.specs.Spots.{spots_of}
-use Rattle.tree_network.proofs.InRange.{in_range}
-use Rattle.tree_network.proofs.Those.{port_pass}
 use Rattle.tree_bounds.specs.Bunches.{arriving_of_groups}
+use Rattle.tree_bounds.specs.Grouping.{AreInGroups}
 use Rattle.tree_bounds.specs.Groups.{incoming_of_groups}
-use Rattle.tree_bounds.specs.Lines.{line_of}
 use Rattle.tree_bounds.specs.Onward.{stair_in}
 use Rattle.tree_bounds.specs.Parts.{IsOfNetwork}
 use Rattle.tree_bounds.specs.declared.groups.Group.{Group}
-use Rattle.tree_bounds.proofs.Coming.{are_in_groups, at_port, queue_groups, queue_spots}
-use Rattle.tree_bounds.proofs.Grouped.{counts_are, queue_pass}
-use Rattle.tree_bounds.proofs.Ranged.{of_network}
+use Rattle.tree_bounds.proofs.Grouped.{counts_are}
 use Rattle.tree_bounds.proofs.arriving.arrivals_at.Goals as goal
-
-pub of_queue-requires : goal.of_queue-requires
-of_queue-requires c =
-    let net = c.args.network.now in
-    let plan = c.args.plan.now in
-    let at = at_port net plan c.args.port c.index.result.now c.deref-2.result.now c.requires.plan c.requires.port c.index.ensures c.deref-2.ensures.value in
-    let Q : ℕ → Type 0 = λ n. n < length c.deref.result.now in
-    let P : List ℕ → Type 0 = λ xs. All Q xs in
-    let same = ap length (c.deref.ensures.value ∙ c.requires.plan.spots) in
-    subst P (sym at) (port_pass Q (spots_of net) c.args.port (length net.ports.items + 1) (λ n h e. omega (arith, h, same)))
-
-pub groups_of-requires-clause-inside : goal.groups_of-requires-clause-inside
-groups_of-requires-clause-inside c =
-    let net = c.args.network.now in
-    let plan = c.args.plan.now in
-    let q = c.args.q in
-    let found = queue_spots net plan c.args.port q c.deref.result.now c.index.result.now c.deref-2.result.now c.in_ok-numbers.numbers.items c.requires.plan c.requires.port
-    c.index.ensures c.deref-2.ensures.value c.deref.ensures.value c.in_ok-numbers.ensures in
-    let Q : ℕ → Type 0 = λ n. n < length c.deref-3.result.now in
-    let P : List ℕ → Type 0 = λ xs. All Q xs in
-    let same = ap length (c.deref-3.ensures.value ∙ c.requires.plan.spots) in
-    subst P (sym (c.deref-4.ensures.value ∙ found)) (queue_pass Q (spots_of net) c.args.port q (length net.ports.items + 1) (λ n h. omega (arith, h, same)))
-
-pub groups_of-requires-clause-stairs : goal.groups_of-requires-clause-stairs
-groups_of-requires-clause-stairs c = let same = ap length c.deref-3.ensures.value in omega (arith, same, c.requires.stairs)
-
-pub arrivals-requires : goal.arrivals-requires
-arrivals-requires c =
-    let net = c.args.network.now in
-    let plan = c.args.plan.now in
-    let q = c.args.q in
-    let stair = λ (n : ℕ). stair_in c.args.stairs.now n in
-    let are = queue_groups net plan stair c.args.port q c.deref.result.now c.index.result.now c.deref-2.result.now c.in_ok-numbers.numbers.items
-    c.deref-3.result.now c.deref-4.result.now c.in_ok-groups.groups.items c.requires.plan c.requires.port
-    c.index.ensures c.deref-2.ensures.value c.deref.ensures.value c.in_ok-numbers.ensures c.deref-3.ensures.value c.deref-4.ensures.value c.in_ok-groups.ensures in
-    let P : List Group → Type 0 = λ gs. All (IsOfNetwork net) gs in
-    subst P (sym (c.deref-5.ensures.value ∙ are))
-    (of_network net (spots_of net) (λ n. line_of (stair n)) c.args.port q (length net.ports.items + 1) (in_range net c.requires.network) (omega arith))
 
 pub stair_arrivals-requires-clause-inside : goal.stair_arrivals-requires-clause-inside
 stair_arrivals-requires-clause-inside c =
-    let net = c.args.network.now in
-    let plan = c.args.plan.now in
-    let q = c.args.q in
-    let found = queue_spots net plan c.args.port q c.deref.result.now c.index.result.now c.deref-2.result.now c.in_ok-numbers.numbers.items c.requires.plan c.requires.port
-    c.index.ensures c.deref-2.ensures.value c.deref.ensures.value c.in_ok-numbers.ensures in
-    let Q : ℕ → Type 0 = λ n. n < length c.args.stairs.now in
-    let P : List ℕ → Type 0 = λ xs. All Q xs in
     let same = ap length c.requires.plan.spots in
-    subst P (sym (c.deref-6.ensures.value ∙ found))
-    (queue_pass Q (spots_of net) c.args.port q (length net.ports.items + 1) (λ n h. omega (arith, h, same, c.requires.stairs)))
+    subst (λ (xs : List ℕ). All (λ n. n < length c.args.stairs.now) xs) (sym c.deref.ensures.value)
+    (λ i d h. let lt = c.in_ok-found.ensures.inside i d h in omega (arith, lt, same, c.requires.stairs))
 
 pub stair_arrivals-requires-clause-groups : goal.stair_arrivals-requires-clause-groups
 stair_arrivals-requires-clause-groups c =
-    let net = c.args.network.now in
-    let plan = c.args.plan.now in
-    let q = c.args.q in
-    let stair = λ (n : ℕ). stair_in c.args.stairs.now n in
-    let are = queue_groups net plan stair c.args.port q c.deref.result.now c.index.result.now c.deref-2.result.now c.in_ok-numbers.numbers.items
-    c.deref-3.result.now c.deref-4.result.now c.in_ok-groups.groups.items c.requires.plan c.requires.port
-    c.index.ensures c.deref-2.ensures.value c.deref.ensures.value c.in_ok-numbers.ensures c.deref-3.ensures.value c.deref-4.ensures.value c.in_ok-groups.ensures in
-    let P : List Group → Type 0 = λ gs. All (IsOfNetwork net) gs in
-    subst P (sym (c.deref-7.ensures.value ∙ are))
-    (of_network net (spots_of net) (λ n. line_of (stair n)) c.args.port q (length net.ports.items + 1) (in_range net c.requires.network) (omega arith))
+    subst (λ (gs : List Group). All (IsOfNetwork c.args.network.now) gs) (sym c.deref-2.ensures.value) c.in_ok-found.ensures.of_network
 
 pub stair_arrivals-requires-clause-count : goal.stair_arrivals-requires-clause-count
 stair_arrivals-requires-clause-count c =
-    let net = c.args.network.now in
-    let plan = c.args.plan.now in
-    let q = c.args.q in
-    let stair = λ (n : ℕ). stair_in c.args.stairs.now n in
-    let found = queue_spots net plan c.args.port q c.deref.result.now c.index.result.now c.deref-2.result.now c.in_ok-numbers.numbers.items c.requires.plan c.requires.port
-    c.index.ensures c.deref-2.ensures.value c.deref.ensures.value c.in_ok-numbers.ensures in
-    let are = queue_groups net plan stair c.args.port q c.deref.result.now c.index.result.now c.deref-2.result.now c.in_ok-numbers.numbers.items
-    c.deref-3.result.now c.deref-4.result.now c.in_ok-groups.groups.items c.requires.plan c.requires.port
-    c.index.ensures c.deref-2.ensures.value c.deref.ensures.value c.in_ok-numbers.ensures c.deref-3.ensures.value c.deref-4.ensures.value c.in_ok-groups.ensures in
-    counts_are (spots_of net) c.args.port q c.deref-7.result.now c.deref-6.result.now
-    (are_in_groups net (λ n. line_of (stair n)) c.args.port q c.deref-7.result.now c.deref-6.result.now
-    (c.deref-7.ensures.value ∙ are) (c.deref-6.ensures.value ∙ found))
+    let found = c.in_ok-found.found in
+    ap (sum_by (λ (g : Group). g.count)) c.deref-2.ensures.value
+    ∙ counts_are (spots_of c.args.network.now) c.args.port c.args.q found.groups.items found.numbers.items c.in_ok-found.ensures.in_groups
+    ∙ ap length (sym c.deref.ensures.value)
 
 pub stair_arrivals-requires-clause-lines : goal.stair_arrivals-requires-clause-lines
 stair_arrivals-requires-clause-lines c =
-    c.in_ok-lines.ensures ∙ ap (incoming_of_groups c.args.network.now) (c.deref-5.ensures.value ∙ sym c.deref-7.ensures.value)
+    c.in_ok-found.ensures.lines_are ∙ ap (incoming_of_groups c.args.network.now) (sym c.deref-2.ensures.value)
 
 pub returns-clause-lines : goal.returns-clause-lines
-returns-clause-lines c =
-    let net = c.args.network.now in
-    let plan = c.args.plan.now in
-    let q = c.args.q in
-    let stair = λ (n : ℕ). stair_in c.args.stairs.now n in
-    let are = queue_groups net plan stair c.args.port q c.deref.result.now c.index.result.now c.deref-2.result.now c.in_ok-numbers.numbers.items
-    c.deref-3.result.now c.deref-4.result.now c.in_ok-groups.groups.items c.requires.plan c.requires.port
-    c.index.ensures c.deref-2.ensures.value c.deref.ensures.value c.in_ok-numbers.ensures c.deref-3.ensures.value c.deref-4.ensures.value c.in_ok-groups.ensures in
-    c.in_ok-lines.ensures ∙ ap (incoming_of_groups net) (c.deref-5.ensures.value ∙ are)
+returns-clause-lines c = c.in_ok-found.ensures.lines_are ∙ ap (incoming_of_groups c.args.network.now) c.in_ok-found.ensures.groups_are
 
 pub returns-clause-stairs : goal.returns-clause-stairs
 returns-clause-stairs c =
     let net = c.args.network.now in
-    let plan = c.args.plan.now in
-    let q = c.args.q in
-    let stair = λ (n : ℕ). stair_in c.args.stairs.now n in
-    let found = queue_spots net plan c.args.port q c.deref.result.now c.index.result.now c.deref-2.result.now c.in_ok-numbers.numbers.items c.requires.plan c.requires.port
-    c.index.ensures c.deref-2.ensures.value c.deref.ensures.value c.in_ok-numbers.ensures in
-    let are = queue_groups net plan stair c.args.port q c.deref.result.now c.index.result.now c.deref-2.result.now c.in_ok-numbers.numbers.items
-    c.deref-3.result.now c.deref-4.result.now c.in_ok-groups.groups.items c.requires.plan c.requires.port
-    c.index.ensures c.deref-2.ensures.value c.deref.ensures.value c.in_ok-numbers.ensures c.deref-3.ensures.value c.deref-4.ensures.value c.in_ok-groups.ensures in
-    c.in_ok-stairs.ensures c.args.port q
-    (are_in_groups net (λ n. line_of (stair n)) c.args.port q c.deref-7.result.now c.deref-6.result.now
-    (c.deref-7.ensures.value ∙ are) (c.deref-6.ensures.value ∙ found))
-    ∙ ap (arriving_of_groups net (spots_of net) stair c.args.port q) (c.deref-7.ensures.value ∙ are)
+    let found = c.in_ok-found.found in
+    let G : List Group → Type 0 = λ gs. AreInGroups (spots_of net) c.args.port c.args.q gs c.deref.result.now in
+    let N : List ℕ → Type 0 = λ ns. AreInGroups (spots_of net) c.args.port c.args.q found.groups.items ns in
+    c.in_ok-stairs.ensures c.args.port c.args.q (subst G (sym c.deref-2.ensures.value) (subst N (sym c.deref.ensures.value) c.in_ok-found.ensures.in_groups))
+    ∙ ap (arriving_of_groups net (spots_of net) (λ (n : ℕ). stair_in c.args.stairs.now n) c.args.port c.args.q) (c.deref-2.ensures.value ∙ c.in_ok-found.ensures.groups_are)

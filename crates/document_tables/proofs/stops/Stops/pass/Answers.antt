@@ -1,9 +1,10 @@
 use Rattle.std.specs.Prelude.{nat_eq}
 use Rattle.std.specs.List.{position}
 use Rattle.std.proofs.Common.{◌≡◌, false, List, [], ◌∷◌, ◌++◌, map, length, None, sym, ap, subst, ◌∙◌, arith}
-use Rattle.document_tables.specs.Stops.{Stop, has_stop}
+use Rattle.document_tables.specs.Stops.{Stop, ArePlacesOf, has_stop}
+use Rattle.document_tables.proofs.FewStops.{noted_more}
 use Rattle.document_tables.proofs.Named.{any_by_number, no_number}
-use Rattle.document_tables.proofs.StopSteps.{keeps, grows, place_more}
+use Rattle.document_tables.proofs.StopSteps.{keeps, grows}
 use Rattle.document_tables.proofs.stops.Stops.pass.Goals as goal
 
 pub returns-then-is_some : goal.returns-then-is_some
@@ -21,9 +22,8 @@ invariant_of-self-2 c =
     subst (λ (xs : List Stop). position (nat_eq port) (map (λ (s : Stop). s.0) xs) ≡ None) (sym c.self.view_is) nowhere
     in
     let next : c.len-place.result ≡ length es = omega (arith, c.len-place.ensures) in
-    let are = place_more c.self.inside.places c.insert.new.self es port c.len-place.result c.args.after c.self.invariant none next c.in_ok-insert.ensures.updates.0 in
     let more = c.push_reserved.ensures.items ∙ ap (λ (xs : List Stop). xs ++ (port, c.args.after) ∷ []) c.reserve.ensures.items in
-    λ q. are q ∙ ap (λ (xs : List Stop). position (nat_eq q) (map (λ (s : Stop). s.0) xs)) (sym more)
+    subst (ArePlacesOf c.note.new.places) (sym more) (noted_more c.self.inside.places c.note.new.places es port c.len-place.result c.args.after c.self.invariant none next c.in_ok-note.ensures.noted)
 
 pub returns : goal.returns
 returns c =
