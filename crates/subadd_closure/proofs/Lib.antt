@@ -54,3 +54,8 @@ pub mod HeavyCalls
 pub mod LatticeCurves
 pub mod ElementSums
 mod FirstFrames
+pub mod SumSizes
+pub mod SumPieces
+pub mod SumCurves
+pub mod ZeroCalls
+pub mod ZeroStars
