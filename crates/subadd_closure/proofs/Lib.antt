@@ -59,3 +59,4 @@ pub mod SumPieces
 pub mod SumCurves
 pub mod ZeroCalls
 pub mod ZeroStars
+pub mod OrderedCurves
