@@ -58,20 +58,24 @@ part_under e (Some k) t p low =
     (subst (λ x. f (t +ℚ int (pos 0) *ℚ k.period) ≤ₑ x) (value_zero (element_value e t) k.rise) (p.copied.1.at 0 t
     low))
 
-element_low : (c : SpecCurve) (e : Element) (t : ℚ) → IsNormal c → IsFinite (value_at c) → IsNonnegative (value_at c)
-    → IsElementOf c e → Covers e t → zero_q ≤ℚ level e t
-element_low c e t n finite nonneg k covers =
+-- an element of a curve that is nowhere below 0 is nowhere below 0
+pub element_nonneg : (c : SpecCurve) (e : Element) → IsNormal c → IsFinite (value_at c) → IsNonnegative (value_at c)
+    → IsElementOf c e → IsNonnegative (element_value e)
+element_nonneg c e n finite nonneg k t low =
     let es = elements_of c.pieces (pieces_end c.tail) in
-    let low = (element_times c.pieces (pieces_end c.tail) t e n.raw.starts (starts_before c.pieces c.tail n.raw.tail)
-    k covers).0 in
     let part = part_in IsPart c.tail es e (parts_are_parts c n) k in
-    let value : element_value e t ≡ Fin (level e t) = value_in e t covers in
-    subst (λ x. Fin zero_q ≤ₑ x) value
-    (le_ext_trans (Fin zero_q) (value_at c t) (element_value e t) (nonneg t low)
+    le_ext_trans (Fin zero_q) (value_at c t) (element_value e t) (nonneg t low)
     (le_ext_trans (value_at c t) (part_value (part_of c.tail e) t) (element_value e t)
     (subst (λ x. x ≤ₑ part_value (part_of c.tail e) t) (sym (parts_make_curve c t n finite low)) (least_below t
     c.tail es e k))
-    (part_under e (copies_of c.tail e) t part low)))
+    (part_under e (copies_of c.tail e) t part low))
+
+element_low : (c : SpecCurve) (e : Element) (t : ℚ) → IsNormal c → IsFinite (value_at c) → IsNonnegative (value_at c)
+    → IsElementOf c e → Covers e t → zero_q ≤ℚ level e t
+element_low c e t n finite nonneg k covers =
+    let low = (element_times c.pieces (pieces_end c.tail) t e n.raw.starts (starts_before c.pieces c.tail n.raw.tail)
+    k covers).0 in
+    subst (λ x. Fin zero_q ≤ₑ x) (value_in e t covers) (element_nonneg c e n finite nonneg k t low)
 
 pub point_start : (c : SpecCurve) (x v : ℚ) → IsNormal c → IsElementOf c (Point x v) → zero_q ≤ℚ x
 point_start c x v n k = starts_nonneg c.pieces (pieces_end c.tail) (Point x v) n.raw.starts k

@@ -54,3 +54,9 @@ pub mod HeavyCalls
 pub mod LatticeCurves
 pub mod ElementSums
 mod FirstFrames
+pub mod SumSizes
+pub mod SumPieces
+pub mod SumCurves
+pub mod ZeroCalls
+pub mod ZeroStars
+pub mod OrderedCurves

@@ -179,7 +179,7 @@ module _ (a b : ℚ) (l : Line) (low : zero_q ≤ℚ a) (proper : a <ℚ b) wher
       is_some : {m : Line} → Some m ≡ None → ⊥
       is_some e = cc
 
-  all_last : (m : ℕ) → last_line (all_stretches a b l m []) ≡ Some (line_times (suc m) l)
+  pub all_last : (m : ℕ) → last_line (all_stretches a b l m []) ≡ Some (line_times (suc m) l)
   all_last m =
       let ps = stretch a l 1 ∷ stretches a b l 1 m [] in
       let more = last_open 0 m (suc m) (omega arith) in

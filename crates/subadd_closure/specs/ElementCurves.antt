@@ -1,7 +1,7 @@
 -- The closures of a point and of a line on an open stretch, as curves in normal form. (Bouillard, Boyer and Le Corronc:
 -- closures of elementary functions are ultimately pseudo-periodic.)
-use Rattle.std.specs.Prelude.{ℕ, zero, suc, ◌≤◌, pos, cond, List, [], ◌∷◌, Some, None}
-use Rattle.rational.specs.Rational.{ℚ, ◌*ℚ◌, ◌≤ℚ◌, int, lt_q}
+use Rattle.std.specs.Prelude.{ℕ, zero, suc, ◌≤◌, cond, List, [], ◌∷◌, Some, None}
+use Rattle.rational.specs.Rational.{ℚ, ◌≤ℚ◌, lt_q}
 use Rattle.rational.specs.Extended.{Ext, ◌≤ₑ◌, ◌<ₑ◌}
 use Rattle.rational.specs.declared.Extended.TheVariants.{Fin, Inf}
 use Rattle.upp_curve.specs.declared.affine_segment.line.Line.{Line}

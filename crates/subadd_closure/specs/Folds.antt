@@ -76,6 +76,10 @@ FoldAnswer f sofar [] r = r ≡ Ok sofar
 FoldAnswer f sofar (p ∷ ps) r =
     Then (Then (PartAnswer f p) (λ c. Applies Convolve sofar c)) (λ c. FoldAnswer f c ps) r
 
+-- a part that leaves the result so far as it is
+abbrev pub LeavesAsIs : SpecCurve → SpecCurve → Part → Type 0
+LeavesAsIs f sofar p = (star : SpecCurve) × PartAnswer f p (Ok star) × Applies Convolve sofar star (Ok sofar)
+
 -- the first part has no result before it
 abbrev pub PartsAnswer : SpecCurve → List Part → Result SpecCurve OpFault → Type 0
 PartsAnswer f [] r = ⊥

@@ -21,3 +21,4 @@ pub mod MeetLaws
 pub mod HeavyLaws
 pub mod Lattices
 pub mod ElementClosures
+pub mod IdleParts

@@ -18,6 +18,7 @@ ghost use Rattle.subadd_closure.specs.FoldWork.{part_work, parts_work, fold_work
 ghost use Rattle.subadd_closure.specs.SegmentLimits.{IsElementOf, IsOwnGauge};
 
 use crate::from_start::started_from;
+use crate::idle_parts::leaves_as_is;
 use crate::overlaps::{is_within, own_gauge};
 use crate::part::elements;
 use crate::part_stars::element_star;
@@ -32,14 +33,15 @@ use upp_curve::Curve;
 use upp_curve::affine_segment::Element;
 use upp_limits::OpFault;
 
-// What the parts so far make, convolved with the star of one more element. Where `next_within` is false, the segment of
+// What the parts so far make, convolved with the star of one more element, which is not made where it is known to leave
+// them as they are. Where `next_within` is false, the segment of
 // the next part may be over a limit: then the convolution is counted once it is answered, so that where all calls are
 // counted no want of memory is told in place of that limit.
 fn with_star<L: Ledger>(
     alloc: Global,
     f: &Curve,
     gauge: Option<u128>,
-    sofar: &Curve,
+    sofar: Curve,
     e: &Element,
     next_within: bool,
     steps: &mut Steps<L>,
@@ -48,19 +50,24 @@ fn with_star<L: Ledger>(
     requires finite { IsFinite (value_at f.now) }
     requires nonneg { IsNonnegative (value_at f.now) }
     requires curve { IsCurve f.now }
-    requires subadditive { IsSubadditive (value_at sofar.now) }
+    requires subadditive { IsSubadditive (value_at sofar) }
     requires gauge { IsOwnGauge f.now gauge }
-    ensures answer { Then (PartAnswer f.now (part_of f.now.tail e.now)) (λ c. Applies Convolve sofar.now c) result }
+    ensures answer { Then (PartAnswer f.now (part_of f.now.tail e.now)) (λ c. Applies Convolve sofar c) result }
     ensures memory { result ≡ Err OpFault.NoMemory
-        → StopsAt f.now sofar.now (part_of f.now.tail e.now) steps.old steps.new }
+        → StopsAt f.now sofar (part_of f.now.tail e.now) steps.old steps.new }
     ensures next { result ≡ Err OpFault.NoMemory
         → steps.new ≡ steps.old + (part_work (part_of f.now.tail e.now) + 1) → IsTrue next_within }
     ensures rises { steps.old ≤ steps.new }
     ensures most { steps.new ≤ steps.old + (part_work (part_of f.now.tail e.now) + 1) }
     ensures all { IfOk result (λ _. steps.new ≡ steps.old + (part_work (part_of f.now.tail e.now) + 1)) }
 {
+    if leaves_as_is(f, gauge, &sofar, e) {
+        steps.tick();
+        steps.tick();
+        return Ok(sofar);
+    }
     let star = element_star(alloc, f, gauge, e, steps)?;
-    intact(convolve_counted(alloc, sofar, &star, true, next_within, steps))
+    intact(convolve_counted(alloc, &sofar, &star, true, next_within, steps))
 }
 
 // The stars of the elements before the one at `last`, convolved one after another.
@@ -90,7 +97,7 @@ fn folded<L: Ledger>(
     for i in 1..last {
         let next = i + 1;
         let next_within = is_within(f, gauge, &es[next]);
-        sofar = with_star(alloc, f, gauge, &sofar, &es[i], next_within, steps)?;
+        sofar = with_star(alloc, f, gauge, sofar, &es[i], next_within, steps)?;
     }
     Ok(sofar)
 }

@@ -7,6 +7,7 @@ mod closing;
 mod covered;
 mod element_laws;
 mod from_start;
+mod idle_parts;
 mod lattices;
 pub mod laws;
 mod multiples;

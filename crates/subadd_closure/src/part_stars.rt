@@ -21,8 +21,8 @@ use upp_curve::affine_segment::Element;
 use upp_curve::{Curve, Tail};
 use upp_limits::OpFault;
 
-// The period and the rise of the copies of an element of a curve with this tail.
-fn turn_of(tail: &Tail, e: &Element) -> Option<(Frac, Frac)>
+/// The period and the rise of the copies of an element of a curve with this tail.
+pub(crate) fn turn_of(tail: &Tail, e: &Element) -> Option<(Frac, Frac)>
     ensures { result ≡ turn_of (part_of tail.now e.now).copies }
 {
     match part_of(tail, e).copies {

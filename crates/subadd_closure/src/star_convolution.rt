@@ -36,7 +36,9 @@ fn frame_between(
     g: &Curve,
     first: &CallWindow,
     from: Frac,
+    thin: bool,
 ) -> Result<Option<Frame>, OpFault>
+    requires thin { MayThin thin f.now g.now }
     requires curves { IsCurve f.now × IsCurve g.now }
     requires window { IsFirstWindow Convolve f.now g.now first.now }
     requires from { from ≡ first.now.end -ℚ first.now.period }
@@ -44,7 +46,7 @@ fn frame_between(
     ensures refused { IfErr result (IsCauseOf Convolve f.now g.now) }
 {
     let kind = OpKind::Convolve;
-    let Some(bounds) = quick_bounds(f, g, from, first.period, first.end) else {
+    let Some(bounds) = quick_bounds(f, g, from, first.period, first.end, thin) else {
         return Ok(None);
     };
     refuse_between(&kind, f, g, bounds.low, bounds.high)?;
@@ -80,14 +82,15 @@ fn later_frame(f: &Curve, g: &Curve, first: &Frame, from: Frac, bounds: &Bounds)
 
 // The frame of a call within both limits with no period, where few numbers tell how many are enough: mostly none, so that
 // the pieces are gone over once alone for the limits.
-fn frame_at_once(f: &Curve, g: &Curve) -> Option<Frame>
+fn frame_at_once(f: &Curve, g: &Curve, thin: bool) -> Option<Frame>
+    requires { MayThin thin f.now g.now }
     ensures { IfSome result (λ r. IsConvolveFrame f.now g.now r × IsWithin Convolve f.now g.now) }
 {
     let Ok(frame) = within(&OpKind::Convolve, f, g, 0) else {
         return None;
     };
     let from = difference(frame.end, frame.period);
-    let Some(bounds) = quick_bounds(f, g, from, frame.period, frame.end) else {
+    let Some(bounds) = quick_bounds(f, g, from, frame.period, frame.end, thin) else {
         return None;
     };
     if bounds.high > 0 {
@@ -97,26 +100,29 @@ fn frame_at_once(f: &Curve, g: &Curve) -> Option<Frame>
 }
 
 // The frame where that does not tell.
-fn searched_frame(alloc: Global, f: &Curve, g: &Curve) -> Result<Frame, OpFault>
+fn searched_frame(alloc: Global, f: &Curve, g: &Curve, thin: bool) -> Result<Frame, OpFault>
+    requires { MayThin thin f.now g.now }
     ensures frame { IfOk result (IsConvolveFrame f.now g.now) }
     ensures limits { KeepsLimits Convolve f.now g.now result }
 {
     let first = first_window(&OpKind::Convolve, f, g)?;
     let from = difference(first.end, first.period);
-    match frame_between(f, g, &first, from)? {
+    match frame_between(f, g, &first, from, thin)? {
         Some(frame) => Ok(frame),
         None => convolve_frame(alloc, f, g),
     }
 }
 
-/// The frame of the call, as `convolve_frame` of `curve_conv`, which is asked where few numbers do not tell it.
-pub(crate) fn star_frame(alloc: Global, f: &Curve, g: &Curve) -> Result<Frame, OpFault>
+/// The frame of the call, as `convolve_frame` of `curve_conv`, which is asked where few numbers do not tell it; `thin` as of
+/// `window_of`.
+pub(crate) fn star_frame(alloc: Global, f: &Curve, g: &Curve, thin: bool) -> Result<Frame, OpFault>
+    requires { MayThin thin f.now g.now }
     ensures frame { IfOk result (IsConvolveFrame f.now g.now) }
     ensures limits { KeepsLimits Convolve f.now g.now result }
 {
-    match frame_at_once(f, g) {
+    match frame_at_once(f, g, thin) {
         Some(frame) => Ok(frame),
-        None => searched_frame(alloc, f, g),
+        None => searched_frame(alloc, f, g, thin),
     }
 }
 
@@ -171,7 +177,7 @@ fn stars_convolved(alloc: Global, f: &Curve, g: &Curve, thin: bool) -> Result<Cu
         → IsConvolution (value_at f.now) (value_at g.now) t (value_at c t)) }
     ensures limits { KeepsLimits Convolve f.now g.now result }
 {
-    let frame = star_frame(alloc, f, g)?;
+    let frame = star_frame(alloc, f, g, thin)?;
     match convolved_within(alloc, f, g, &frame, thin) {
         Ok(c) => Ok(c),
         Err(_) => Err(OpFault::NoMemory),

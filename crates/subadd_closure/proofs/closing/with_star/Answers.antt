@@ -18,7 +18,7 @@ returns-in_err-star-clause-answer g c =
 pub returns-clause-answer : goal.returns-clause-answer
 returns-clause-answer g c =
     goes_on c.in_ok-star.star c.in_ok-star.ensures.answer
-    (applied_seen Convolve c.args.sofar.now c.in_ok-star.star c.convolve_counted.result c.intact.result c.intact.ensures.same
+    (applied_seen Convolve c.args.sofar c.in_ok-star.star c.convolve_counted.result c.intact.result c.intact.ensures.same
     c.convolve_counted.ensures.value c.convolve_counted.ensures.limits c.intact.ensures.kept)
 
 pub returns-clause-all : goal.returns-clause-all
@@ -45,7 +45,7 @@ returns-clause-memory g c is =
             counted = omega (arith, first, second);
             star = c.in_ok-star.star;
             made = c.in_ok-star.ensures.answer;
-            within = call_wants Convolve c.args.sofar.now c.in_ok-star.star c.convolve_counted.result c.intact.result c.intact.ensures.same
+            within = call_wants Convolve c.args.sofar c.in_ok-star.star c.convolve_counted.result c.intact.result c.intact.ensures.same
                 c.convolve_counted.ensures.limits is;
           }
       | inr same ↦
@@ -68,5 +68,20 @@ returns-clause-next g c is counted =
 
 pub convolve_counted-requires : goal.convolve_counted-requires
 convolve_counted-requires g c =
-    next_thinnable c.args.f.now c.args.sofar.now c.in_ok-star.star c.args.e.now c.requires.curve.normal c.requires.part
+    next_thinnable c.args.f.now c.args.sofar c.in_ok-star.star c.args.e.now c.requires.curve.normal c.requires.part
     c.requires.subadditive c.in_ok-star.ensures.answer
+
+pub returns-then-leaves_as_is-clause-answer : goal.returns-then-leaves_as_is-clause-answer
+returns-then-leaves_as_is-clause-answer g c =
+    let (star, made, convolved) = c.if-leaves_as_is.ensures.leaves refl in
+    goes_on star made convolved
+
+pub returns-then-leaves_as_is-clause-all : goal.returns-then-leaves_as_is-clause-all
+returns-then-leaves_as_is-clause-all g c =
+    let work = c.if-leaves_as_is.ensures.work refl in
+    omega (arith, work)
+
+pub returns-then-leaves_as_is-clause-most : goal.returns-then-leaves_as_is-clause-most
+returns-then-leaves_as_is-clause-most g c =
+    let work = c.if-leaves_as_is.ensures.work refl in
+    omega (arith, work)
