@@ -295,12 +295,15 @@ fn seen_kept(alloc: Global, entries: &[Entering], arrival: &Curve) -> usize
     more(arrival, entries, seen, repeated)
 }
 
-/// How many are seen to keep it of so many first packets, if these are not all and not all of them are seen to.
+/// A few first packets are looked at apart only where there are so many times as many in all: else that costs as much as all.
+const TIMES_A_FEW: usize = 4;
+
+/// How many are seen to keep it of so many first packets, if these are few of all and not all of them are seen to.
 fn seen_within(alloc: Global, entries: &[Entering], arrival: &Curve, most: usize) -> Option<usize>
     requires { FlowReads arrival.now entries.now }
     ensures { IfSome result (NoneCrowded (value_at arrival.now) entries.now) }
 {
-    if most >= entries.len() {
+    if most > entries.len() / TIMES_A_FEW {
         return None;
     }
     let first = &entries[..most];

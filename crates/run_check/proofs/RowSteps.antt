@@ -18,7 +18,7 @@ use Rattle.sim_servers.specs.Queues.{served_by, StandFor, work_goes_on}
 use Rattle.run_packets.specs.declared.underway.Underway.{Underway}
 use Rattle.run_check.specs.declared.site.Piece.{Piece}
 use Rattle.run_check.specs.declared.site.Site.{Site}
-use Rattle.run_check.specs.Sites.{IsUnder, AreUnder, IsSite, IsWrong, IsOut, GoesOff, IsTakenOn, rest_by, IsOtherBy, IsWrongBy, IsFresh, IsOnGrid, IsFineUnder, IsFast}
+use Rattle.run_check.specs.Sites.{IsUnder, AreUnder, IsSite, IsWrong, IsOut, GoesOff, IsTakenOn, rest_by, IsOtherBy, IsWrongBy, IsFresh, IsOfPacket, IsOnGrid, IsFineUnder, IsFast}
 use Rattle.run_packets.specs.Works.{IsOther, MayGo, rest_of}
 use Rattle.run_check.proofs.SiteSteps.{busy_of, untrue}
 
@@ -101,6 +101,19 @@ right_card d room σ before taken w fresh k n = go σ.under refl k.next_one (λ 
     go : (o : Option Under) → σ.under ≡ o → next_card o d σ.inside σ.round ≡ Some k.card → (IsOtherBy o w.packet → ⊥) → k.card.packet ≡ w.packet
     go None e i m = k.packet e
     go (Some u) e i m = ap (λ (c : Card). c.packet) (sym (same_some u.card k.card i)) ∙ elim (cases_eq u.card.packet w.packet) [ inl z ↦ z | inr z ↦ absurd (m z) ]
+
+-- work in time on a packet that is known, right by itself, and taken on
+abbrev pub of_packet : (d : Discipline) (room : ℕ) (σ : ServerState) (before taken : Site) (end : ℚ) (known : Bool) (fresh : ℚ) (w : Piece) → ¬ IsOut σ end w.start → ¬ (end <ℚ w.end)
+    → known ≡ true → ¬ IsWrongBy σ w fresh → IsTakenOn d room σ before taken w.packet → IsOfPacket d σ end known fresh w
+of_packet d room σ before taken end known fresh w timely ends is_known right k = record {
+  timely = timely;
+  ends = ends;
+  is_known = is_known;
+  right = right;
+  card = k.card;
+  packet = right_card d room σ before taken w fresh k right;
+  next_one = k.next_one;
+}
 
 -- what is yet to be worked
 pub rest_left : (d : Discipline) (σ : ServerState) (c : Card) (v : Option Underway) (p : ℕ) (fresh bits rest : ℚ) → AreUnder σ.under v → next_card σ.under d σ.inside σ.round ≡ Some c

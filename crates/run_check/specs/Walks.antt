@@ -18,6 +18,7 @@ use Rattle.run_check.specs.broken_laws.FirstBroken.{BreaksNone, BreaksFirst}
 use Rattle.run_check.specs.broken_laws.Tracked.{IsTracked, place_of, place_after, has_left}
 use Rattle.run_check.specs.declared.site.Piece.{Piece}
 use Rattle.run_check.specs.declared.site.Site.{Site}
+use Rattle.run_check.specs.declared.walk.Passage.{Passage}
 use Rattle.run_check.specs.declared.walk.Walk.{Walk}
 use Rattle.run_check.specs.Sites.{IsSite, IsFine, HasPace}
 
@@ -63,6 +64,13 @@ Told net x w k end after None =
     BreaksNone net end k.before k.state x
     × Keeps net k.room k.grid k.most (k.before ++ x ∷ []) (next_run net k.state x) after
 Told net x w k end after (Some law) = BreaksFirst net end k.before k.state x law
+
+-- ---- the rows of a packet at a server
+abbrev pub reached_by : Passage → Step
+reached_by at = Reach at.server at.packet at.time
+
+abbrev pub left_by : Passage → Step
+left_by at = Leave at.server at.packet at.time
 
 -- ---- work
 -- a row with work at server s

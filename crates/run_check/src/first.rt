@@ -1,6 +1,6 @@
 //! The first law that a recorded run breaks.
 
-ghost use Rattle.std.specs.Prelude.{◌<◌, ◌-◌, ◌^◌, [], IfOk, MatchOption, length};
+ghost use Rattle.std.specs.Prelude.{◌≡◌, ◌<◌, ◌-◌, ◌^◌, [], IfOk, MatchOption, length};
 ghost use Rattle.run_laws.specs.Lawful.{IsLawful};
 ghost use Rattle.net_model.specs.NetRoutes.{routes_of};
 ghost use Rattle.run_check.specs.broken_laws.Recorded.{AreRecorded};
@@ -53,6 +53,13 @@ fn fresh_walk(alloc: Global, net: &Network, run: &Run) -> Result<Walk, AllocErro
     })
 }
 
+/// How many rows a recorded run has.
+fn row_count(run: &Run) -> usize
+    ensures { result ≡ length run.now.steps }
+{
+    run.steps.len()
+}
+
 /// The first law that a recorded run of a network breaks, and its row: none exactly where the run is lawful. It asks
 /// for steps that name live flows and servers, for packets that are numbered in the order in which they enter, and for
 /// numbers that have room. It goes over the rows once, and is refused only for want of memory.
@@ -64,7 +71,7 @@ pub fn first_broken(alloc: Global, net: &Network, run: &Run) -> Result<Option<Br
         (λ b. IsFirstBroken (routes_of net.now) run.now b.row b.law)) }
 {
     let mut walk = fresh_walk(alloc, net, run)?;
-    let rows = run.steps.len();
+    let rows = row_count(run);
     for place in 0..rows {
         if let Some(law) = walk.tell(net, run, place)? {
             return Ok(Some(Broken {

@@ -7,7 +7,7 @@ ghost use Rattle.run_check.specs.Sites.{KeepsSome, MayTake, WorkRoom};
 ghost use Rattle.run_check.specs.Rows.{ChangesAt, Visited, Left, Worked, Arrived};
 
 use crate::broken_laws::Law;
-use crate::site::{Piece, Site};
+use crate::site::{Known, Piece, Site};
 use fraction128::Frac;
 
 /// Whether a time is before the last step of a server, or after the end of the run.
@@ -55,17 +55,16 @@ pub(crate) fn work_row(
     sites: &mut [Site],
     server: u32,
     end: Frac,
-    known: bool,
-    fresh: Frac,
-    pace: Option<Frac>,
+    known: &Known,
     piece: &Piece,
 ) -> Option<Law>
     requires known { server < length sites.old }
     requires some { (x : SpecSite) → slice_get sites.old server ≡ Some x → KeepsSome x }
-    requires room { (x : SpecSite) → slice_get sites.old server ≡ Some x → WorkRoom x fresh piece.now }
-    ensures { ChangesAt (Worked end known fresh pace piece.now result) sites.old sites.new server }
+    requires room { (x : SpecSite) → slice_get sites.old server ≡ Some x → WorkRoom x known.now.fresh piece.now }
+    ensures { ChangesAt (Worked end known.now.entered known.now.fresh known.now.pace piece.now result)
+        sites.old sites.new server }
 {
-    sites[server as usize].work_at(end, known, fresh, pace, piece)
+    sites[server as usize].work_at(end, known, piece)
 }
 
 /// A packet arrives.

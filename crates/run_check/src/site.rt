@@ -48,6 +48,15 @@ impl Piece {
     }
 }
 
+/// What is known of the packet and of the server of a row with work: whether the packet has entered, what is yet to be
+/// worked of it where none is under way, and how many bits a unit of time the server works at most, where that is limited.
+#[derive(Clone, Copy)]
+pub(crate) struct Known {
+    pub(crate) entered: bool,
+    pub(crate) fresh: Frac,
+    pub(crate) pace: Option<Frac>,
+}
+
 /// One server: the time of its last step, the end of its last work, the packet under way, and its queues.
 #[derive(Drop)]
 pub(crate) struct Site {
@@ -178,39 +187,30 @@ impl Site {
         }
     }
 
-    /// A row with work on a packet: which law it breaks first, if any; where it breaks none, the work is done. `fresh`
-    /// is what is yet to be worked of the packet where none is under way, and `pace` how many bits a unit of time the
-    /// server works at most, where that is limited.
-    pub(crate) fn work_at(
-        &mut self,
-        end: Frac,
-        known: bool,
-        fresh: Frac,
-        pace: Option<Frac>,
-        piece: &Piece,
-    ) -> Option<Law>
+    /// A row with work on a packet: which law it breaks first, if any; where it breaks none, the work is done.
+    pub(crate) fn work_at(&mut self, end: Frac, known: &Known, piece: &Piece) -> Option<Law>
         requires some { KeepsSome self.old }
-        requires room { WorkRoom self.old fresh piece.now }
+        requires room { WorkRoom self.old known.now.fresh piece.now }
         ensures answer { (d : SpecDiscipline) (room : ℕ) (σ : ServerState) → IsSite d room σ self.old
-            → IsFresh d σ piece.now.packet fresh
-            → WorkAnswer d room σ end known fresh pace piece.now self.new result }
-        ensures fine { (grid : ℕ) (most : ℚ) → IsOnGrid grid most self.old fresh piece.now → result ≡ None
+            → IsFresh d σ piece.now.packet known.now.fresh
+            → WorkAnswer d room σ end known.now.entered known.now.fresh known.now.pace piece.now self.new result }
+        ensures fine { (grid : ℕ) (most : ℚ) → IsOnGrid grid most self.old known.now.fresh piece.now → result ≡ None
             → IsFine grid most self.new }
     {
         if self.is_out_of_time(end, piece.start) || is_less(end, piece.end) {
             return Some(Law::L1);
         }
-        if !known {
+        if !known.entered {
             return Some(Law::L2);
         }
-        let rest = rest(&self.under, fresh);
+        let rest = rest(&self.under, known.fresh);
         if self.is_wrong(piece, rest) {
             return Some(Law::L4);
         }
         if !self.takes_on(piece.packet) {
             return Some(Law::L5);
         }
-        if piece.is_faster(pace) {
+        if piece.is_faster(known.pace) {
             return Some(Law::L8);
         }
         let left = difference(rest, piece.bits);

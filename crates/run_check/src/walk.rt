@@ -11,12 +11,12 @@ ghost use Rattle.run_laws.specs.declared.steps.Step.TheVariants as steps;
 ghost use Rattle.net_model.specs.NetRoutes.{routes_of};
 ghost use Rattle.run_check.specs.broken_laws.Tracked.{place_of};
 ghost use Rattle.run_check.specs.Following.{Follows, Goes};
-ghost use Rattle.run_check.specs.Walks.{work_of, Keeps, Stands, Told, fresh_for, sent_places};
+ghost use Rattle.run_check.specs.Walks.{work_of, reached_by, left_by, Keeps, Stands, Told, fresh_for, sent_places};
 
 use crate::broken_laws::Law;
 use crate::ends::some_complete;
 use crate::rows::{arrive_row, is_out_at, leave_row, visit_row, work_row};
-use crate::site::{Piece, Site};
+use crate::site::{Known, Piece, Site};
 use crate::ways::{destination, has_left, pace_of};
 use fraction128::Frac;
 use net_model::Network;
@@ -24,6 +24,14 @@ use run_laws::{Run, Step, whole};
 use run_packets::{Place, is_due, some_late};
 use simulator::sim_routes::{entrance, queue_of};
 use std::alloc::AllocError;
+
+/// A packet that reaches a server or leaves it, as a row has it.
+#[derive(Clone, Copy)]
+pub(crate) struct Passage {
+    pub(crate) server: u32,
+    pub(crate) packet: u32,
+    pub(crate) time: Frac,
+}
 
 /// What is known after some rows: the flow and the bits of each packet that has entered, where it is, and the site of
 /// each server.
@@ -46,23 +54,16 @@ impl Walk {
     }
 
     /// A row that has a packet leave.
-    pub(crate) fn leave(
-        &mut self,
-        net: &Network,
-        end: Frac,
-        server: u32,
-        packet: u32,
-        time: Frac,
-    ) -> Option<Law>
-        requires { Stands (routes_of net.now) (steps.Leave server packet time) self.old }
-        ensures { (k : Stands (routes_of net.now) (steps.Leave server packet time) self.old)
-            → Told (routes_of net.now) (steps.Leave server packet time) self.old k end self.new result }
+    pub(crate) fn leave(&mut self, net: &Network, end: Frac, at: &Passage) -> Option<Law>
+        requires { Stands (routes_of net.now) (left_by at.now) self.old }
+        ensures { (k : Stands (routes_of net.now) (left_by at.now) self.old)
+            → Told (routes_of net.now) (left_by at.now) self.old k end self.new result }
     {
-        let known = self.is_known(packet);
-        match leave_row(&mut self.sites, server, end, known, packet, time) {
+        let known = self.is_known(at.packet);
+        match leave_row(&mut self.sites, at.server, end, known, at.packet, at.time) {
             Some(law) => Some(law),
             None => {
-                self.send(net, server, packet, time);
+                self.send(net, at.server, at.packet, at.time);
                 None
             }
         }
@@ -118,38 +119,36 @@ impl Walk {
         ensures { (k : Stands (routes_of net.now) (work_of server piece.now) self.old)
             → Told (routes_of net.now) (work_of server piece.now) self.old k end self.new result }
     {
-        let known = self.is_known(piece.packet);
+        let entered = self.is_known(piece.packet);
         let fresh = self.fresh(net, server, piece.packet);
         let pace = pace_of(net, server);
-        work_row(&mut self.sites, server, end, known, fresh, pace, piece)
+        let known = Known {
+            entered,
+            fresh,
+            pace,
+        };
+        work_row(&mut self.sites, server, end, &known, piece)
     }
 
     /// A row that has a packet reach a server.
-    pub(crate) fn reach(
-        &mut self,
-        net: &Network,
-        end: Frac,
-        server: u32,
-        packet: u32,
-        time: Frac,
-    ) -> Option<Law>
-        requires { Stands (routes_of net.now) (steps.Reach server packet time) self.old }
-        ensures { (k : Stands (routes_of net.now) (steps.Reach server packet time) self.old)
-            → Told (routes_of net.now) (steps.Reach server packet time) self.old k end self.new result }
+    pub(crate) fn reach(&mut self, net: &Network, end: Frac, at: &Passage) -> Option<Law>
+        requires { Stands (routes_of net.now) (reached_by at.now) self.old }
+        ensures { (k : Stands (routes_of net.now) (reached_by at.now) self.old)
+            → Told (routes_of net.now) (reached_by at.now) self.old k end self.new result }
     {
-        if is_out_at(&self.sites, server, end, time) {
+        if is_out_at(&self.sites, at.server, end, at.time) {
             return Some(Law::L1);
         }
-        if !self.is_known(packet) {
+        if !self.is_known(at.packet) {
             return Some(Law::L2);
         }
-        if !self.is_due(packet, server, time) {
+        if !self.is_due(at.packet, at.server, at.time) {
             return Some(Law::L3);
         }
-        let queue = queue_of(net, self.flow_of(packet), server);
-        let bits = self.bits_of(packet);
-        self.settle(packet, server);
-        arrive_row(&mut self.sites, server, packet, queue, bits, time);
+        let queue = queue_of(net, self.flow_of(at.packet), at.server);
+        let bits = self.bits_of(at.packet);
+        self.settle(at.packet, at.server);
+        arrive_row(&mut self.sites, at.server, at.packet, queue, bits, at.time);
         None
     }
 
@@ -250,7 +249,14 @@ impl Walk {
                 server,
                 packet,
                 time,
-            } => Ok(self.reach(net, end, server, packet, time)),
+            } => {
+                let at = Passage {
+                    server,
+                    packet,
+                    time,
+                };
+                Ok(self.reach(net, end, &at))
+            }
             Step::Work {
                 server,
                 packet,
@@ -270,7 +276,14 @@ impl Walk {
                 server,
                 packet,
                 time,
-            } => Ok(self.leave(net, end, server, packet, time)),
+            } => {
+                let at = Passage {
+                    server,
+                    packet,
+                    time,
+                };
+                Ok(self.leave(net, end, &at))
+            }
             Step::Visit {
                 server,
                 queue,

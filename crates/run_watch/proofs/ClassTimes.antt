@@ -15,7 +15,7 @@ use Rattle.run_watch.specs.declared.watched.Stretch.{Stretch}
 use Rattle.run_watch.specs.Classes.{moved, moves_of, all_moves, IsPeriodsAfter, Leads, IsLed, AddsLed, AreLeads, AreLeadsBy, Recurs}
 use Rattle.run_watch.specs.WatchTimes.{inside, around, watched_from, HaveSameTimes, AroundFits, TimesFit}
 use Rattle.run_watch.proofs.FoundTimes.{inside_in, in_inside, around_after, around_before, watched_in, in_watched}
-use Rattle.run_watch.proofs.SortedPoints.{each_time_from, each_time_among}
+use Rattle.run_watch.proofs.SortedPoints.{each_time_from, each_time_among, among_at}
 use Rattle.run_watch.proofs.FoundTurns.{among_left, among_right, among_parts}
 
 -- ---- moves
@@ -133,11 +133,6 @@ watched_moves s qs ts later earlier cycle end R A B = record {
 }
 
 -- ---- step by step
-one_of : (ts : List ℚ) (k : ℕ) (t : ℚ) → k < length ts → t ≡ slice_index_or ts k t → Among t ts
-one_of [] k t l e = absurd (omega arith)
-one_of (x ∷ ts) zero t l e = inl e
-one_of (x ∷ ts) (suc k) t l e = inr (one_of ts k t (omega arith) e)
-
 -- a gap that is a whole number of periods
 pub periods_seen : (u t period gap count whole : ℚ) → int (pos 0) <ℚ period → gap ≡ t -ℚ u → count ≡ gap /ℚ period → whole ≡ int (pos (whole_part count)) → whole ≡ count → IsPeriodsAfter period u t
 periods_seen u t period gap count whole some g q w e =
@@ -148,7 +143,7 @@ periods_seen u t period gap count whole some g q w e =
     (n, with_atoms (u ∷ t ∷ gap ∷ m ∷ []) (λ c. omega (arith, c.le, c.lt, c.same)))
 
 pub led_by : (side : Side) (end period : ℚ) (ls : List ℚ) (k : ℕ) (l t : ℚ) → k < length ls → l ≡ slice_index_or ls k l → Leads side end period l t → IsLed side end period ls t
-led_by side end period ls k l t inside at lead = record { by = l; has = one_of ls k l inside at; is = inr lead }
+led_by side end period ls k l t inside at lead = record { by = l; has = among_at ls k l inside at; is = inr lead }
 
 led_kept : (side : Side) (end period : ℚ) (had now : List ℚ) (t : ℚ) → ((u : ℚ) → Among u had → Among u now) → IsLed side end period had t → IsLed side end period now t
 led_kept side end period had now t f L = record { by = L.by; has = f L.by L.has; is = L.is }
@@ -186,7 +181,7 @@ none_led side end period ts ls e = subst (λ (xs : List ℚ). AreLed side end pe
 
 pub one_led : (side : Side) (end period : ℚ) (ts had now : List ℚ) (k : ℕ) (t : ℚ) → k < length ts → t ≡ slice_index_or ts k t → AddsLed side end period had t now → AreLed side end period ts had k → AreLed side end period ts now (k + 1)
 one_led side end period ts had now k t l e A h = rw add-one record {
-  are = λ u m. elim (A.are u m) [ inl n ↦ h.are u n | inr is ↦ subst (λ y. Among y ts) (sym is) (one_of ts k t l e) ];
+  are = λ u m. elim (A.are u m) [ inl n ↦ h.are u n | inr is ↦ subst (λ y. Among y ts) (sym is) (among_at ts k t l e) ];
   led = λ u m. elim (taken_more ts k t u l e m) [
     | inl n ↦ led_kept side end period had now u A.kept (h.led u n)
     | inr is ↦ subst (IsLed side end period now) (sym is) A.led

@@ -5,3 +5,4 @@ pub mod Products
 pub mod Loops
 pub mod CurvesBelow
 pub mod NetCurves
+pub mod Missing

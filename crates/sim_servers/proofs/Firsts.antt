@@ -5,7 +5,7 @@ use Rattle.rational.specs.Rational.{◌≤ℚ◌, ◌<ℚ◌}
 use Rattle.rational.proofs.Laws.{le_refl, le_trans, le_of_lt, lt_irrefl, antisym}
 use Rattle.net_model.specs.stated_runs.DueSteps.{Rank, RankAtMost}
 use Rattle.sim_servers.specs.declared.due.Due.{Due}
-use Rattle.sim_servers.specs.Firsts.{place_of, IsNoLater, IsFirstOf}
+use Rattle.sim_servers.specs.Firsts.{place_of, IsNoLater, IsEither, IsFirstOf}
 
 pub rank_refl : (a : Rank) → RankAtMost a a
 rank_refl a = inr (refl, inr (refl, omega arith))
@@ -50,11 +50,48 @@ first_none (Some d) = (
   ],
 )
 
-pub first_alone : (a : Due) → IsFirstOf (Some a) None (Some a)
-first_alone a = (
+pub first_kept : (o : Option Due) → IsFirstOf o None o
+first_kept None = (refl, refl)
+first_kept (Some a) = (
   inl refl,
   λ e h. elim h [
     | inl s ↦ let f : a ≡ e = (let g : Some a ≡ Some e = s in cc) in subst (λ x. IsNoLater a x) f (no_later_refl a)
     | inr n ↦ absurd (let f : None ≡ Some e = n in cc)
   ],
 )
+
+pub first_stays : (a b : Due) → IsNoLater a b → IsFirstOf (Some a) (Some b) (Some a)
+first_stays a b h = (
+  inl refl,
+  λ e k. elim k [
+    | inl s ↦ let f : a ≡ e = (let g : Some a ≡ Some e = s in cc) in subst (λ x. IsNoLater a x) f (no_later_refl a)
+    | inr s ↦ let f : b ≡ e = (let g : Some b ≡ Some e = s in cc) in subst (λ x. IsNoLater a x) f h
+  ],
+)
+
+pub first_goes : (a b : Due) → IsNoLater b a → IsFirstOf (Some a) (Some b) (Some b)
+first_goes a b h = (
+  inr refl,
+  λ e k. elim k [
+    | inl s ↦ let f : a ≡ e = (let g : Some a ≡ Some e = s in cc) in subst (λ x. IsNoLater b x) f h
+    | inr s ↦ let f : b ≡ e = (let g : Some b ≡ Some e = s in cc) in subst (λ x. IsNoLater b x) f (no_later_refl b)
+  ],
+)
+
+-- ---- the first of two, and of that and a third
+pub over_both : (a b m c : Option Due) (d : Due) → IsFirstOf a b m → IsFirstOf m c (Some d) → (e : Due) → IsEither a b e → IsNoLater d e
+over_both a b None c d f g e h = absurd (elim h [
+  | inl i ↦ let k : None ≡ Some e = sym f.0 ∙ i in cc
+  | inr i ↦ let k : None ≡ Some e = sym f.1 ∙ i in cc
+])
+over_both a b (Some m) c d f g e h = no_later_trans d m e (g.1 m (inl refl)) (f.1 e h)
+
+pub one_of_three : (a b m c : Option Due) (d : Due) → IsFirstOf a b m → IsFirstOf m c (Some d) → IsEither a b d ⊎ (c ≡ Some d)
+one_of_three a b None c d f g = elim g.0 [
+  | inl e ↦ absurd (let k : None ≡ Some d = e in cc)
+  | inr e ↦ inr e
+]
+one_of_three a b (Some m) c d f g = elim g.0 [
+  | inl e ↦ let same : m ≡ d = (let k : Some m ≡ Some d = e in cc) in inl (subst (λ x. IsEither a b x) same f.0)
+  | inr e ↦ inr e
+]

@@ -1,6 +1,6 @@
 //! What is due, and which of several that are due comes first.
 
-ghost use Rattle.std.specs.Prelude.{◌≡◌, ◌⊎◌, IsTrue, IsFalse};
+ghost use Rattle.std.specs.Prelude.{◌≡◌, IsTrue, IsFalse};
 ghost use Rattle.net_model.specs.stated_runs.DueSteps.{RankAtMost};
 ghost use Rattle.sim_servers.specs.Firsts.{kind_number, place_of, IsNoLater, IsFirstOf};
 
@@ -71,27 +71,20 @@ fn is_first(a: &Due, b: &Due) -> bool
     goes_first(a, b)
 }
 
-/// The one of the two that comes first.
-fn earlier_of(a: Due, b: Due) -> Due
-    ensures either { (result ≡ a) ⊎ (result ≡ b) }
-    ensures left { IsNoLater result a }
-    ensures right { IsNoLater result b }
+/// Puts what is due in the place of the first so far, if it comes before that.
+pub fn keep_first(first: &mut Option<Due>, other: Option<Due>)
+    ensures { IsFirstOf first.old other first.new }
 {
-    if is_first(&a, &b) {
-        return a;
-    }
-    b
-}
-
-/// The first of the two.
-pub fn first_of(first: Option<Due>, other: Option<Due>) -> Option<Due>
-    ensures { IsFirstOf first other result }
-{
-    match first {
-        None => other,
-        Some(a) => match other {
-            None => Some(a),
-            Some(b) => Some(earlier_of(a, b)),
+    match other {
+        None => {}
+        Some(due) => match first {
+            None => *first = Some(due),
+            Some(known) => {
+                if is_first(known, &due) {
+                    return;
+                }
+                *known = due;
+            }
         },
     }
 }

@@ -9,7 +9,7 @@ pub mod sim_states;
 pub mod stated_existence;
 mod station;
 
-pub use due::{Due, DueKind, first_of};
+pub use due::{Due, DueKind, keep_first};
 pub use opening::{Gate, Opening, Span};
 pub use server_queues::ServerQueues;
 pub use station::{Next, Rest, Station, Stretch, due_of, rest_of};

@@ -8,5 +8,5 @@ mod simulation;
 mod taking;
 mod works;
 
-pub use measured::{SimRun, measured_run};
+pub use measured::{SimRun, measured_run, simulate};
 pub use run::run_of;

@@ -23,6 +23,7 @@ use Rattle.run_laws.proofs.OverALink.{two_idle}
 use Rattle.run_laws.proofs.SmallRuns.{none_due}
 use Rattle.net_bounds.specs.NetRuns.{routes_of}
 use Rattle.worked_runs.specs.TwoServers.{two_servers, over_both}
+use Rattle.worked_trees.proofs.Linked.{reaches}
 use Rattle.worked_trees.proofs.Busy.{none_over, IsAtRate, keeps_at_rate, service_at_most, span_at_rate, not_yet}
 
 abbrev net : Routes
@@ -41,31 +42,10 @@ lawful = record {
         leaves 0 0 10 130 265 record { has_entered = omega arith; passes = inl refl } (omega arith) refl refl
             record { is_card = refl; worked_off = sum_t 0 12000; at_end = refl },
         (
-          record {
-            known = (0, omega arith, refl);
-            known_server = omega arith;
-            at_server = (
-              record { in_order = rw (sum_t 130 5) (le_t 0 135 refl); in_run = rw (sum_t 130 5) (le_t 135 265 refl) },
-              record { known_queue = omega arith; some_bits = omega arith },
-            );
-          },
+          reaches 1 0 130 5 0 265 (0, omega arith, refl) (omega arith) refl refl record { known_queue = omega arith; some_bits = omega arith },
           (
-            record {
-              known = record { has_entered = omega arith; passes = inr (inl refl) };
-              known_server = omega arith;
-              at_server = (
-                record { in_order = rw (sum_t 130 5) (le_t 135 145 refl); in_run = le_t 145 265 refl },
-                record {
-                  no_overlap = le_t 0 145 refl;
-                  forward = lt_t 145 265 refl;
-                  ends_in_run = le_t 265 265 refl;
-                  some_work = lt_t 0 12000 refl;
-                  in_pace = tt;
-                  is_next = refl;
-                  within_bits = rw (sum_t 0 12000) (le_t 12000 12000 refl);
-                },
-              );
-            },
+            works 1 0 0 135 145 265 12000 265 record { has_entered = omega arith; passes = inr (inl refl) } (omega arith) (sum_t 130 5)
+                refl refl tt refl refl refl,
             (
               leaves 1 0 145 265 265 record { has_entered = omega arith; passes = inr (inl refl) } (omega arith) refl refl
                   record { is_card = refl; worked_off = sum_t 0 12000; at_end = refl },

@@ -1,4 +1,5 @@
 pub mod Busy
+pub mod Linked
 pub mod Numbers
 pub mod PacedFork
 pub mod PacedForkRun

@@ -26,6 +26,7 @@ use Rattle.tree_runs.specs.Trees.{flat, IsLawfulTree}
 use Rattle.tree_runs.specs.Branches.{delays_to}
 use Rattle.tree_runs.proofs.Examples.{three_idle}
 use Rattle.worked_trees.specs.PacedFork.{paced_fork, at_entry, service, over_the_fork}
+use Rattle.worked_trees.proofs.Linked.{reaches}
 use Rattle.worked_trees.proofs.Busy.{none_over, keeps_at_rate, service_at_most, span_at_rate, not_yet}
 
 -- ---- lawful
@@ -48,61 +49,20 @@ is_lawful = record {
         leaves 0 0 10 130 265 record { has_entered = omega arith; passes = inl refl } (omega arith) refl refl
             record { is_card = refl; worked_off = sum_t 0 12000; at_end = refl },
         (
-          record {
-            known = (0, omega arith, refl);
-            known_server = omega arith;
-            at_server = (
-              record { in_order = rw (sum_t 130 5) (le_t 0 135 refl); in_run = rw (sum_t 130 5) (le_t 135 265 refl) },
-              record { known_queue = omega arith; some_bits = omega arith },
-            );
-          },
+          reaches 1 0 130 5 0 265 (0, omega arith, refl) (omega arith) refl refl record { known_queue = omega arith; some_bits = omega arith },
           (
-            record {
-              known = rw (le_q_out _ _ (le_refl (whole 130 +ℚ whole 5))) (0, omega arith, refl);
-              known_server = omega arith;
-              at_server = (
-                record { in_order = rw (sum_t 130 5) (le_t 0 135 refl); in_run = rw (sum_t 130 5) (le_t 135 265 refl) },
+            reaches 2 0 130 5 0 265 (rw (le_q_out _ _ (le_refl (whole 130 +ℚ whole 5))) (0, omega arith, refl)) (omega arith) refl refl
                 record { known_queue = omega arith; some_bits = omega arith },
-              );
-            },
             (
-              record {
-                known = record { has_entered = omega arith; passes = inr (inl refl) };
-                known_server = omega arith;
-                at_server = (
-                  record { in_order = rw (sum_t 130 5) (le_t 135 145 refl); in_run = le_t 145 265 refl },
-                  record {
-                    no_overlap = le_t 0 145 refl;
-                    forward = lt_t 145 265 refl;
-                    ends_in_run = le_t 265 265 refl;
-                    some_work = lt_t 0 12000 refl;
-                    in_pace = in_pace 145 265 (took 145 265 (sum_t 145 120));
-                    is_next = refl;
-                    within_bits = rw (sum_t 0 12000) (le_t 12000 12000 refl);
-                  },
-                );
-              },
+              works 1 0 0 135 145 265 12000 265 record { has_entered = omega arith; passes = inr (inl refl) } (omega arith) (sum_t 130 5)
+                  refl refl (in_pace 145 265 (took 145 265 (sum_t 145 120))) refl refl refl,
               (
                 leaves 1 0 145 265 265 record { has_entered = omega arith; passes = inr (inl refl) }
                     (omega arith) refl refl
                     record { is_card = refl; worked_off = sum_t 0 12000; at_end = refl },
                 (
-                  record {
-                    known = record { has_entered = omega arith; passes = inr (inr (inl refl)) };
-                    known_server = omega arith;
-                    at_server = (
-                      record { in_order = rw (sum_t 130 5) (le_t 135 135 refl); in_run = le_t 135 265 refl },
-                      record {
-                        no_overlap = le_t 0 135 refl;
-                        forward = lt_t 135 255 refl;
-                        ends_in_run = le_t 255 265 refl;
-                        some_work = lt_t 0 12000 refl;
-                        in_pace = in_pace 135 255 (took 135 255 (sum_t 135 120));
-                        is_next = refl;
-                        within_bits = rw (sum_t 0 12000) (le_t 12000 12000 refl);
-                      },
-                    );
-                  },
+                  works 2 0 0 135 135 255 12000 265 record { has_entered = omega arith; passes = inr (inr (inl refl)) } (omega arith) (sum_t 130 5)
+                      refl refl (in_pace 135 255 (took 135 255 (sum_t 135 120))) refl refl refl,
                   (
                     leaves 2 0 135 255 265 record { has_entered = omega arith; passes = inr (inr (inl refl)) }
                         (omega arith) refl refl

@@ -1,14 +1,19 @@
 -- Numbers in order: those below another come first, and what is let in at one of them is found among those.
 use Rattle.std.specs.Prelude.{◌≡◌, ℕ, zero, suc, ◌<◌, ◌≤◌, false, true, List, length, get_or}
-use Rattle.std.specs.List.Sorted.{IsSorted}
-use Rattle.std.specs.Ordering.{is_lt, MatchOrdering}
+use Rattle.std.specs.List.{dedup}
+use Rattle.std.specs.List.Sorted.{IsSorted, IsStrictlySortedBy}
+use Rattle.std.specs.Ordering.{is_lt, ordering_reverse, MatchOrdering}
 use Rattle.std.specs.declared.cmp.Ordering.{Ordering}
 use Rattle.std.specs.declared.cmp.Ordering.TheVariants.{Less, Equal, Greater}
-use Rattle.std.proofs.Common.{arith, inl, inr, sym, subst, ◌∙◌, add-one, true≢false}
+use Rattle.std.proofs.Common.{◌+◌, arith, inl, inr, refl, sym, subst, ap, ◌∙◌, add-one, true≢false}
 use Rattle.std.proofs.lemmas.Bool.{cases_lt}
+use Rattle.std.proofs.lemmas.List.Kept.{IsStrictlySortedBy-dedup}
+use Rattle.std.proofs.lemmas.Map.Keys.{Less-from_sorted}
 use Rattle.rational.specs.Rational.{ℚ, ◌≤ℚ◌, ◌<ℚ◌}
+use Rattle.rational.specs.Compared.{same_q}
 use Rattle.rational.specs.Ratio.{cmp_q}
 use Rattle.rational.proofs.Comparison.{cmp_ranks}
+use Rattle.rational.proofs.OrderLaws.{cmp_q_total}
 use Rattle.rational.proofs.Laws.{le_refl, le_trans, le_of_lt, le_lt_trans}
 use Rattle.rational.proofs.Over.{lt_q_in, lt_q_out}
 use Rattle.run_laws.specs.Counts.{before}
@@ -22,6 +27,13 @@ no_less x y e = go (cmp_q y x) (cmp_ranks y x) e
     go Less k f = absurd (true≢false f)
     go Equal k f = subst (λ z. x ≤ℚ z) (sym k) (le_refl x)
     go Greater k f = le_of_lt k
+
+-- sorted ones stay so where each is kept once
+pub sorted_once : (xs ys : List ℚ) → IsSorted cmp_q xs → ys ≡ dedup same_q xs → IsSorted cmp_q ys
+sorted_once xs ys h e = λ k d low l.
+    let strict : IsStrictlySortedBy cmp_q ys = subst (IsStrictlySortedBy cmp_q) (sym e) (IsStrictlySortedBy-dedup cmp_q_total (λ x y. refl) xs h) in
+    let less = Less-from_sorted cmp_q ys k (k + 1) d strict (omega arith) l in
+    ap is_lt (cmp_q_total.antisymm (get_or ys (k + 1) d) (get_or ys k d) ∙ ap ordering_reverse less)
 
 rises : (ts : List ℚ) → IsSorted cmp_q ts → (i j : ℕ) (d : ℚ) → i ≤ j → j < length ts → get_or ts i d ≤ℚ get_or ts j d
 rises ts h i zero d l m = let same : i ≡ 0 = omega arith in subst (λ (k : ℕ). get_or ts k d ≤ℚ get_or ts 0 d) (sym same) (le_refl (get_or ts 0 d))

@@ -119,7 +119,7 @@ fn places_of(
     Some(places)
 }
 
-/// What parts of a step are over before the packets, in order.
+/// What parts of a step are over before the packets, in order and each once.
 fn parts_of(alloc: Global, places: &[Placed]) -> Result<Vec<Frac>, AllocError>
     ensures { IfOk result (λ v. IsSorted cmp_q v.items) }
 {
@@ -128,6 +128,7 @@ fn parts_of(alloc: Global, places: &[Placed]) -> Result<Vec<Frac>, AllocError>
         parts.push(placed.before)?;
     }
     parts.sort()?;
+    parts.dedup();
     Ok(parts)
 }
 

@@ -60,6 +60,9 @@ best_before_same until P Q run None f g h = λ y q. h y (g y q)
 best_before_same until P Q run (Some x) f g h = record { is = f x.breach h.is; time = h.time; least = λ y q. h.least y (g y q) }
 
 -- ---- one flow or server more
+pub none_below : (net : Net) (run : SpecRun) (kind : ℕ) → IsBest (IsBelow net run kind 0) run None
+none_below net run kind = λ y h. let b = h.below in omega arith
+
 pub one_more : (net : Net) (run : SpecRun) (kind n m : ℕ) (best next : Option Found) → m ≡ suc n → IsBest (IsBelow net run kind n) run best → IsBest (IsOne net run kind n) run next
     → IsBest (IsBelow net run kind m) run (earlier best next)
 one_more net run kind n m best next e h k =

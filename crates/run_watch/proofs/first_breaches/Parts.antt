@@ -41,6 +41,12 @@ not_live net flow g e same h =
     let lives : is_live net flow ≡ true = subst (λ (i : ℕ). is_live net i ≡ true) same (sym (live_is net g) ∙ h) in
     cc
 
+-- one that is not live has no packet that is too long, and no pair with too many bits
+pub none_dead : (net : Net) (run : SpecRun) (kind flow : ℕ) → kind < 2 → None ≡ flow_at net flow → IsBest (IsOne net run kind flow) run None
+none_dead net run kind flow l e (Size g p) h = not_live net flow g e h.at h.breaks.live
+none_dead net run kind flow l e (Arrival g i j) h = not_live net flow g e h.at h.breaks.live
+none_dead net run kind flow l e (Service s a b) h = let k = h.kind_is in omega arith
+
 live_at : (net : Net) (flow g : ℕ) (f : NetFlow) → Some f ≡ flow_at net flow → g ≡ flow → (route_of (routes_of net) g).live ≡ true
 live_at net flow g f e same = subst (λ (i : ℕ). (route_of (routes_of net) i).live ≡ true) (sym same) (live_is net flow ∙ ap is_some (sym e))
 

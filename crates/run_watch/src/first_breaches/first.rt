@@ -7,10 +7,8 @@ ghost use Rattle.run_watch.specs.first_breaches.Sizes.{HaveSizes};
 ghost use Rattle.run_watch.specs.first_breaches.Firsts.{TellsFirst};
 ghost use Rattle.run_watch.specs.first_breaches.Kept.{AreKept};
 
-use crate::first_breaches::arrivals::first_arrival;
+use crate::first_breaches::flows::first_of_flows;
 use crate::first_breaches::services::first_service;
-use crate::first_breaches::sizes::first_size;
-use crate::{Found, earlier};
 use net_model::{Breach, Network};
 use run_laws::Run;
 use std::alloc::{AllocError, Global};
@@ -32,9 +30,7 @@ pub fn first_breach(
     ensures { IfOk result (TellsFirst net.now run.now) }
 {
     net.keeps();
-    let size = first_size(alloc, net, run)?;
-    let arrival = first_arrival(alloc, net, run)?;
-    let known = earlier(size, arrival);
+    let known = first_of_flows(alloc, net, run)?;
     let found = first_service(alloc, net, run, kept, known)?;
     match found {
         None => Ok(None),

@@ -8,7 +8,7 @@ use Rattle.sim_servers.specs.declared.due.Due.{Due}
 use Rattle.sim_servers.specs.declared.station.Station.{Station}
 use Rattle.sim_servers.specs.Firsts.{IsNoLater, IsEither, IsFirstOf}
 use Rattle.sim_servers.specs.Stations.{due_for}
-use Rattle.sim_servers.proofs.Firsts.{no_later_refl, no_later_trans}
+use Rattle.sim_servers.proofs.Firsts.{no_later_refl, no_later_trans, over_both, one_of_three}
 use Rattle.sim_servers.specs.declared.sim_states.arrival.Arrival.{Arrival}
 use Rattle.sim_servers.specs.sim_states.Running.{enter_first, reach_first, station_due, IsCandidate, IsFirstCandidate}
 pub use Rattle.queue_sched.proofs.index_links.Popped.{first_has}
@@ -60,54 +60,41 @@ joined S stations links arrivals n k x c at h = inr (
   ],
 )
 
--- the first of both
-pub merged : (S : Setup) (stations : List Station) (links : Chains) (arrivals : List Arrival) (n k : ℕ) (x : Station) (before own after : Option Due)
+-- the first of those before is no later than each of them
+before_all : (S : Setup) (stations : List Station) (links : Chains) (arrivals : List Arrival) (n k : ℕ) (before : Option Due) (d : Due)
+    → IsFirstCandidate S stations links arrivals n k before → ((b : Due) → before ≡ Some b → IsNoLater d b)
+    → (c : Due) → IsCandidate S stations links arrivals n k c → IsNoLater d c
+before_all S stations links arrivals n k None d h f c i = absurd (h c i)
+before_all S stations links arrivals n k (Some b) d h f c i = no_later_trans d b c (f b refl) (h.1 c i)
+
+-- the first of those before, of what is due at the server, and of what comes over its link
+pub merged : (S : Setup) (stations : List Station) (links : Chains) (arrivals : List Arrival) (n k : ℕ) (x : Station) (before here after : Option Due)
     → slice_get stations k ≡ Some x → IsFirstCandidate S stations links arrivals n k before
-    → IsFirstOf (due_for x.next k) (reach_first arrivals (first_of (list_at links k))) own → IsFirstOf before own after
+    → IsFirstOf before (due_for x.next k) here → IsFirstOf here (reach_first arrivals (first_of (list_at links k))) after
     → IsFirstCandidate S stations links arrivals n (k + 1) after
-merged S stations links arrivals n k x None None None at h o f = λ c i. elim (split S stations links arrivals n k x c at i) [
-  | inl j ↦ h c j
-  | inr j ↦ elim j [
-    | inl e ↦ absurd (let g : None ≡ Some c = sym o.0 ∙ e in cc)
-    | inr e ↦ absurd (let g : None ≡ Some c = sym o.1 ∙ e in cc)
-  ]
-]
-merged S stations links arrivals n k x (Some b) own None at h o f = absurd (let g : Some b ≡ None = f.0 in cc)
-merged S stations links arrivals n k x None (Some b) None at h o f = absurd (let g : Some b ≡ None = f.1 in cc)
-merged S stations links arrivals n k x None None (Some d) at h o f = absurd (elim f.0 [
-  | inl e ↦ let g : None ≡ Some d = e in cc
-  | inr e ↦ let g : None ≡ Some d = e in cc
-])
-merged S stations links arrivals n k x None (Some b) (Some d) at h o f =
-    let same : b ≡ d = elim f.0 [ inl e ↦ absurd (let g : None ≡ Some d = e in cc) | inr e ↦ (let g : Some b ≡ Some d = e in cc) ] in (
-      joined S stations links arrivals n k x d at (subst (λ z. IsEither (due_for x.next k) (reach_first arrivals (first_of (list_at links k))) z) same o.0),
-      λ c i. elim (split S stations links arrivals n k x c at i) [
-        | inl j ↦ absurd (h c j)
-        | inr j ↦ subst (λ z. IsNoLater z c) same (o.1 c j)
-      ],
-    )
-merged S stations links arrivals n k x (Some b) None (Some d) at h o f =
-    let same : b ≡ d = elim f.0 [ inl e ↦ (let g : Some b ≡ Some d = e in cc) | inr e ↦ absurd (let g : None ≡ Some d = e in cc) ] in (
-      subst (λ z. IsCandidate S stations links arrivals n (k + 1) z) same (more S stations links arrivals n k b h.0),
-      λ c i. elim (split S stations links arrivals n k x c at i) [
-        | inl j ↦ subst (λ z. IsNoLater z c) same (h.1 c j)
-        | inr j ↦ elim j [
-          | inl e ↦ absurd (let g : None ≡ Some c = sym o.0 ∙ e in cc)
-          | inr e ↦ absurd (let g : None ≡ Some c = sym o.1 ∙ e in cc)
+merged S stations links arrivals n k x before here None at h f g =
+    let none : IsFirstOf before (due_for x.next k) None = subst (λ o. IsFirstOf before (due_for x.next k) o) g.0 f in
+    λ c i. elim (split S stations links arrivals n k x c at i) [
+      | inl j ↦ (subst (λ o. IsFirstCandidate S stations links arrivals n k o) none.0 h) c j
+      | inr j ↦ elim j [
+        | inl e ↦ let q : None ≡ Some c = sym none.1 ∙ e in cc
+        | inr e ↦ let q : None ≡ Some c = sym g.1 ∙ e in cc
+      ]
+    ]
+merged S stations links arrivals n k x before here (Some d) at h f g =
+    let over = over_both before (due_for x.next k) here (reach_first arrivals (first_of (list_at links k))) d f g in (
+      elim (one_of_three before (due_for x.next k) here (reach_first arrivals (first_of (list_at links k))) d f g) [
+        | inl e ↦ elim e [
+          | inl b ↦ more S stations links arrivals n k d (subst (λ o. IsFirstCandidate S stations links arrivals n k o) b h).0
+          | inr own ↦ joined S stations links arrivals n k x d at (inl own)
         ]
+        | inr e ↦ joined S stations links arrivals n k x d at (inr e)
+      ],
+      λ c i. elim (split S stations links arrivals n k x c at i) [
+        | inl j ↦ before_all S stations links arrivals n k before d h (λ b e. over b (inl e)) c j
+        | inr j ↦ elim j [ inl e ↦ over c (inr e) | inr e ↦ g.1 c (inr e) ]
       ],
     )
-merged S stations links arrivals n k x (Some b) (Some a) (Some d) at h o f = (
-  elim f.0 [
-    | inl e ↦ let g : b ≡ d = (let g : Some b ≡ Some d = e in cc) in subst (λ z. IsCandidate S stations links arrivals n (k + 1) z) g (more S stations links arrivals n k b h.0)
-    | inr e ↦ let g : a ≡ d = (let g : Some a ≡ Some d = e in cc) in joined S stations links arrivals n k x d at
-        (subst (λ z. IsEither (due_for x.next k) (reach_first arrivals (first_of (list_at links k))) z) g o.0)
-  ],
-  λ c i. elim (split S stations links arrivals n k x c at i) [
-    | inl j ↦ no_later_trans d b c (f.1 b (inl refl)) (h.1 c j)
-    | inr j ↦ no_later_trans d a c (f.1 a (inr refl)) (o.1 c j)
-  ],
-)
 
 -- ---- members of lists
 pub found_at : {X : Type 0} (xs : List X) (i : ℕ) (d : X) → i < length xs → slice_get xs i ≡ Some (get_or xs i d)

@@ -7,7 +7,7 @@ ghost use Rattle.net_model.specs.stated_runs.FromTraces.{entering};
 ghost use Rattle.sim_servers.specs.sim_states.Running.{enter_first, reach_first, IsFirstCandidate};
 
 use crate::sim_states::Arrival;
-use crate::{Due, DueKind, Station, due_of, first_of};
+use crate::{Due, DueKind, Station, due_of, keep_first};
 use net_model::TracePacket;
 use queue_sched::index_links::Links;
 
@@ -60,9 +60,8 @@ pub fn first_due(
 {
     let mut first = next_enter(packets, entered);
     for (server, station) in stations.iter().enumerate() {
-        let here = due_of(&station.next, server as u32);
-        let comes = next_reach(links, arrivals, server as u32);
-        first = first_of(first, first_of(here, comes));
+        keep_first(&mut first, due_of(&station.next, server as u32));
+        keep_first(&mut first, next_reach(links, arrivals, server as u32));
     }
     first
 }

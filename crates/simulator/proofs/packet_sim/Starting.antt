@@ -16,7 +16,7 @@ use Rattle.run_laws.specs.Routes.{Hop, PassesServer, server_at, route_of}
 use Rattle.run_laws.specs.Views.{card_of, entry_of}
 use Rattle.run_laws.specs.Lawful.{state_at}
 use Rattle.run_laws.proofs.Heads.{pick_is_head}
-use Rattle.queue_sched.specs.Turns.{IsIdle, Starts, Sends}
+use Rattle.queue_sched.specs.Turns.{IsIdle, Starts}
 use Rattle.queue_sched.specs.declared.turn.Turn.{Turn}
 use Rattle.queue_sched.specs.declared.turn.Turn.TheVariants as turns
 use Rattle.queue_sched.specs.index_links.Chains.{Chains}
@@ -128,6 +128,22 @@ starting_from S stations links arrivals n xs d turn h kind =
     subst (λ (z : Station). IsStartingFrom S xs d z) same
     record { known = k.known; keeps = k.keeps; is = k.is; part = k.part; will = k.will }
 
+-- the turn that it takes
+record IsTakingTurn (S : Setup) (xs : List Step) (d : Due) (turn : Option Turn) (old new : Station) : Type 0 where
+  from : IsStartingFrom S xs d old
+  starts : Starts (server_at S.net d.server).discipline (StandFor new.queues) (state_at (state_after S xs) d.server) turn
+
+taking_turn : (S : Setup) (stations : List Station) (links : Chains) (arrivals : List Arrival) (n : ℕ) (xs : List Step) (d : Due) (turn : Option Turn)
+    → (h : IsTurning S stations links arrivals n xs d turn) → d.kind ≡ kinds.Start → IsTakingTurn S xs d turn h.turned.old h.turned.new
+taking_turn S stations links arrivals n xs d turn h kind =
+    let σ = state_at (state_after S xs) d.server in
+    let k = starting_from S stations links arrivals n xs d turn h kind in
+    let t = h.turned in
+    record {
+      from = k;
+      starts = subst (λ j. Starts j (StandFor t.new.queues) σ turn) k.keeps.discipline (t.turned σ k.keeps.queues k.will.idle);
+    }
+
 -- ---- a visit
 visit_next : (S : Setup) (s : ℕ) (d : Discipline) (σ : ServerState) (q : ℕ) (t : ℚ) (o : Opening) → WillStart S s σ o t
     → WillStart S s (next d σ (Visits q t)) o t
@@ -142,16 +158,16 @@ pub visit_done : (S : Setup) (stations : List Station) (links : Chains) (arrival
     → IsTurning S stations links arrivals n xs d (Some (turns.Visit q)) → d.kind ≡ kinds.Start
     → IsSimulating S stations links arrivals n (xs ++ steps.Visit d.server q d.time ∷ [])
 visit_done S stations links arrivals n xs d q h kind =
+    let took = taking_turn S stations links arrivals n xs d (Some (turns.Visit q)) h kind in
     let s = d.server in
     let r = state_after S xs in
     let σ = state_at r s in
-    let k = starting_from S stations links arrivals n xs d (Some (turns.Visit q)) h kind in
-    let now = h.due.now in
-    let t = h.turned in
+    let k = took.from in
     let keeps = k.keeps in
     let will = k.will in
-    let turn : Starts (server_at S.net s).discipline (StandFor t.new.queues) σ (Some (turns.Visit q)) =
-    subst (λ j. Starts j (StandFor t.new.queues) σ (Some (turns.Visit q))) keeps.discipline (t.turned σ keeps.queues will.idle) in
+    let turn = took.starts in
+    let now = h.due.now in
+    let t = h.turned in
     let x = steps.Visit s q d.time in
     let n1 : IsNext S r x = first_is_next S now.setup h.before links arrivals n xs d now.running h.due.first x
     (k.known, record { may = turn.0; opens = will.opens }) refl
@@ -191,24 +207,20 @@ sending : (S : Setup) (stations : List Station) (links : Chains) (arrivals : Lis
     → (h : IsTurning S stations links arrivals n xs d (Some (turns.Send p))) → d.kind ≡ kinds.Start
     → IsSending S h.before stations xs d p h.turned.old h.turned.new
 sending S stations links arrivals n xs d p h kind =
+    let took = taking_turn S stations links arrivals n xs d (Some (turns.Send p)) h kind in
+    let k = took.from in
+    let sends = took.starts in
     let s = d.server in
     let r = state_after S xs in
     let σ = state_at r s in
-    let k = starting_from S stations links arrivals n xs d (Some (turns.Send p)) h kind in
-    let now = h.due.now in
-    let t = h.turned in
-    let keeps = k.keeps in
-    let will = k.will in
-    let sends : Sends (server_at S.net s).discipline (StandFor t.new.queues) σ p =
-    subst (λ j. Sends j (StandFor t.new.queues) σ p) keeps.discipline (t.turned σ keeps.queues will.idle) in
-    let sound = sound_at S h.before links arrivals n xs now in
+    let sound = sound_at S h.before links arrivals n xs h.due.now in
     let good = sound.good.servers s k.known in
     let here = good.cards sends.card
     (head_in sends.card.queue σ.inside sends.card (pick_is_head (server_at S.net s).discipline σ.inside σ.round sends.card sends.picked)) in
     record {
       known = k.known;
-      keeps = keeps;
-      will = will;
+      keeps = k.keeps;
+      will = k.will;
       part = k.part;
       card = sends.card;
       packet_is = sends.packet_is;

@@ -1,8 +1,7 @@
-use Rattle.std.proofs.Common.{◌≡◌, ◌≤◌, ◌^◌, refl, sym, ap, ◌∙◌, subst, arith, to_z, inl, inr, true≢false}
+use Rattle.std.proofs.Common.{◌≡◌, ◌<◌, ◌≤◌, ◌^◌, sym, ap, ◌∙◌, subst, arith, to_z}
 use mir.Syntax.{w128}
 use Rattle.std.proofs.lemmas.Int.{ints}
-use Rattle.std.proofs.lemmas.Bool.{cases_lt}
-use Rattle.std.specs.Prelude.{IsTrue, IsSome, IfSome, pos, ◌↔◌}
+use Rattle.std.specs.Prelude.{IsTrue, IfSome, pos, ◌↔◌}
 use Rattle.rational.specs.Rational.{int, ◌+ℚ◌}
 use Rattle.rational.specs.Ratio.{SumFits}
 use Rattle.rational.proofs.Gauges.{kept_one}
@@ -10,6 +9,7 @@ use Rattle.upp_limits.specs.Limits.{joined, time_alone, value_alone, sizes_of}
 use Rattle.upp_limits.specs.Gathered.{Gathers}
 use Rattle.run_laws.specs.Runs.{SpecRun}
 use Rattle.sim_bounds.specs.window_numbers.Rated.{gauge_with}
+use Rattle.sim_bounds.proofs.window_numbers.Missing.{told_wide}
 use Rattle.run_check.specs.check_gauge.Runs.{last_time, total_bits}
 use Rattle.run_check.specs.check_gauge.Gauge.{farthest, check_numbers, check_gauge}
 use Rattle.run_check.proofs.check_gauge.Held.{all_numbers, gauge_is, fits}
@@ -21,16 +21,10 @@ pub returns-in-None : goal.returns-in-None
 returns-in-None c =
     let net = c.args.net.now in
     let run = c.args.run.now in
-    let wide : 2 ^ 120 ≤ check_gauge net run = elim (cases_lt (check_gauge net run) (2 ^ 120)) [
-      | inl small ↦
-          let fit : SumFits c.last_time-end.result c.largest_link.result =
-          subst (λ t. SumFits t c.largest_link.result) (sym c.last_time-end.ensures)
-          (subst (λ t. SumFits (last_time run) t) (sym c.largest_link.ensures) (far_fits net run (fits net run small))) in
-          let some = subst (λ o. IsSome o) c.in-None.is (c.plus.ensures.fits fit) in
-          absurd (true≢false (sym some))
-      | inr big ↦ big
-    ] in
-    (λ t. wide, λ t. refl)
+    let fit : check_gauge net run < 2 ^ 120 → SumFits c.last_time-end.result c.largest_link.result = λ small.
+    subst (λ t. SumFits t c.largest_link.result) (sym c.last_time-end.ensures)
+    (subst (λ t. SumFits (last_time run) t) (sym c.largest_link.ensures) (far_fits net run (fits net run small))) in
+    told_wide c.plus.result (check_gauge net run) c.in-None.is (λ small. c.plus.ensures.fits (fit small))
 
 pub returns-in-Some-numbers_to : goal.returns-in-Some-numbers_to
 returns-in-Some-numbers_to c =

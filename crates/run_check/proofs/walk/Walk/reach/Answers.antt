@@ -11,16 +11,16 @@ use Rattle.run_check.proofs.walk.Walk.reach.Goals as goal
 
 pub returns-then-is_out_at : goal.returns-then-is_out_at
 returns-then-is_out_at c = λ k.
-    reach_early (routes_of c.args.net.now) c.args.self.now c.args.self.now c.args.server c.args.packet c.args.time k c.args.end
-    (is_out (routes_of c.args.net.now) _ c.args.self.now k c.args.server c.args.end c.args.time c.is_out_at.result c.deref.ensures.value k.recorded c.is_out_at.ensures c.if-is_out_at.true)
+    reach_early (routes_of c.args.net.now) c.args.self.now c.args.self.now c.args.at.now.server c.args.at.now.packet c.args.at.now.time k c.args.end
+    (is_out (routes_of c.args.net.now) _ c.args.self.now k c.args.at.now.server c.args.end c.args.at.now.time c.is_out_at.result c.deref.ensures.value k.recorded c.is_out_at.ensures c.if-is_out_at.true)
 
 pub returns-then-not-is_known : goal.returns-then-not-is_known
 returns-then-not-is_known c = λ k.
-    let far = unknown c.is_known.result c.args.packet _ c.is_known.ensures c.if-not-is_known.true in
+    let far = unknown c.is_known.result c.args.at.now.packet _ c.is_known.ensures c.if-not-is_known.true in
     let a = flows_long (routes_of c.args.net.now) k.room k.grid k.most k.before k.state c.args.self.now k.keeps in
     let b = k.keeps.tracked.long in
-    reach_unknown (routes_of c.args.net.now) c.args.self.now c.args.self.now c.args.server c.args.packet c.args.time k c.args.end
-    (not_out (routes_of c.args.net.now) _ c.args.self.now k c.args.server c.args.end c.args.time c.is_out_at.result c.deref.ensures.value k.recorded c.is_out_at.ensures c.if-is_out_at.false)
+    reach_unknown (routes_of c.args.net.now) c.args.self.now c.args.self.now c.args.at.now.server c.args.at.now.packet c.args.at.now.time k c.args.end
+    (not_out (routes_of c.args.net.now) _ c.args.self.now k c.args.at.now.server c.args.end c.args.at.now.time c.is_out_at.result c.deref.ensures.value k.recorded c.is_out_at.ensures c.if-is_out_at.false)
     (omega (arith, far, a, b))
 
 pub is_due-requires : goal.is_due-requires
@@ -36,8 +36,8 @@ returns-then-not-is_due c = λ k.
     let l = c.is_known.ensures.0 c.if-not-is_known.false in
     let a = flows_long (routes_of c.args.net.now) k.room k.grid k.most k.before k.state c.args.self.now k.keeps in
     let b = k.keeps.tracked.long in
-    reach_not_due (routes_of c.args.net.now) c.args.self.now c.args.self.now c.args.server c.args.packet c.args.time k c.args.end
-    (not_out (routes_of c.args.net.now) _ c.args.self.now k c.args.server c.args.end c.args.time c.is_out_at.result c.deref.ensures.value k.recorded c.is_out_at.ensures c.if-is_out_at.false)
+    reach_not_due (routes_of c.args.net.now) c.args.self.now c.args.self.now c.args.at.now.server c.args.at.now.packet c.args.at.now.time k c.args.end
+    (not_out (routes_of c.args.net.now) _ c.args.self.now k c.args.at.now.server c.args.end c.args.at.now.time c.is_out_at.result c.deref.ensures.value k.recorded c.is_out_at.ensures c.if-is_out_at.false)
     (omega (arith, l, a, b)) (λ e. untrue c.is_due.result (c.is_due.ensures.1 e) c.if-not-is_due.true)
 
 pub bits_of-bits-requires : goal.bits_of-bits-requires
@@ -56,10 +56,10 @@ arrive_row-requires-clause-take c = λ x e.
     let l = c.is_known.ensures.0 c.if-not-is_known.false in
     let a = flows_long net k.room k.grid k.most k.before k.state w k.keeps in
     let b = k.keeps.tracked.long in
-    reach_takes net w c.args.server c.args.packet c.args.time k c.args.end c.queue_of-queue.result
-    (not_out net _ w k c.args.server c.args.end c.args.time c.is_out_at.result c.deref.ensures.value k.recorded c.is_out_at.ensures c.if-is_out_at.false)
-    (omega (arith, l, a, b)) (c.is_due.ensures.0 c.if-not-is_due.false) (c.queue_of-queue.ensures ∙ ap (λ f. queue_at c.args.server (route_of net f).hops) c.flow_of.ensures)
-    x (subst (λ xs. slice_get xs c.args.server ≡ Some x) (c.deref_mut.ensures.value ∙ c.settle.ensures.sites) e)
+    reach_takes net w c.args.at.now.server c.args.at.now.packet c.args.at.now.time k c.args.end c.queue_of-queue.result
+    (not_out net _ w k c.args.at.now.server c.args.end c.args.at.now.time c.is_out_at.result c.deref.ensures.value k.recorded c.is_out_at.ensures c.if-is_out_at.false)
+    (omega (arith, l, a, b)) (c.is_due.ensures.0 c.if-not-is_due.false) (c.queue_of-queue.ensures ∙ ap (λ f. queue_at c.args.at.now.server (route_of net f).hops) c.flow_of.ensures)
+    x (subst (λ xs. slice_get xs c.args.at.now.server ≡ Some x) (c.deref_mut.ensures.value ∙ c.settle.ensures.sites) e)
 
 pub returns : goal.returns
 returns c = λ k.
@@ -70,9 +70,9 @@ returns c = λ k.
     let a = flows_long net k.room k.grid k.most k.before k.state w k.keeps in
     let b = k.keeps.tracked.long in
     reach_told net w record { flows = v.flows; bits = v.bits; places = v.places; sites = Rattle.std.specs.Vec.with_items v.sites c.arrive_row.new.sites }
-    c.args.server c.args.packet c.args.time k c.args.end c.queue_of-queue.result c.bits_of-bits.result
-    (not_out net _ w k c.args.server c.args.end c.args.time c.is_out_at.result c.deref.ensures.value k.recorded c.is_out_at.ensures c.if-is_out_at.false)
-    (omega (arith, l, a, b)) (c.is_due.ensures.0 c.if-not-is_due.false) (c.queue_of-queue.ensures ∙ ap (λ f. queue_at c.args.server (route_of net f).hops) c.flow_of.ensures)
+    c.args.at.now.server c.args.at.now.packet c.args.at.now.time k c.args.end c.queue_of-queue.result c.bits_of-bits.result
+    (not_out net _ w k c.args.at.now.server c.args.end c.args.at.now.time c.is_out_at.result c.deref.ensures.value k.recorded c.is_out_at.ensures c.if-is_out_at.false)
+    (omega (arith, l, a, b)) (c.is_due.ensures.0 c.if-not-is_due.false) (c.queue_of-queue.ensures ∙ ap (λ f. queue_at c.args.at.now.server (route_of net f).hops) c.flow_of.ensures)
     c.bits_of-bits.ensures
     (changed_lists c.arrive_row.ensures (c.deref_mut.ensures.value ∙ c.settle.ensures.sites) (with_items_is v.sites c.arrive_row.new.sites (omega (arith, c.arrive_row.auto.sites, c.deref_mut.ensures.len))))
     c.settle.ensures.places c.settle.ensures.flows c.settle.ensures.bits

@@ -21,8 +21,8 @@ pub returns : goal.returns
 returns c = λ k.
     let w = c.args.self.now in
     work_told_by (routes_of c.args.net.now) w record { flows = w.flows; bits = w.bits; places = w.places; sites = Rattle.std.specs.Vec.with_items w.sites c.work_row.new.sites }
-    c.args.server c.args.piece.now k c.args.end c.fresh-fresh.result c.pace_of-pace.result c.is_known-known.result c.work_row.result c.fresh-fresh.ensures
+    c.args.server c.args.piece.now k c.args.end c.fresh-fresh.result c.pace_of-pace.result c.is_known-entered.result c.work_row.result c.fresh-fresh.ensures
     c.pace_of-pace.ensures
-    c.is_known-known.ensures.0 (λ e. unknown c.is_known-known.result c.args.piece.now.packet _ c.is_known-known.ensures e)
+    c.is_known-entered.ensures.0 (λ e. unknown c.is_known-entered.result c.args.piece.now.packet _ c.is_known-entered.ensures e)
     (changed_lists c.work_row.ensures c.deref_mut.ensures.value (with_items_is w.sites c.work_row.new.sites (omega (arith, c.work_row.auto.sites, c.deref_mut.ensures.len))))
     refl refl refl

@@ -2,13 +2,11 @@ use Rattle.std.proofs.Common.{Option, Some, None, subst}
 use Rattle.run_watch.specs.declared.found.Found.{Found}
 use Rattle.run_watch.specs.FirstOf.{IsBest}
 use Rattle.run_watch.specs.first_breaches.Firsts.{IsOfKinds}
-use Rattle.run_watch.proofs.first_breaches.Joined.{best_known}
 use Rattle.run_watch.proofs.first_breaches.Parts.{tells_first}
 use Rattle.run_watch.proofs.first_breaches.first.first_breach.Goals as goal
 
 pub first_service-requires-clause-known : goal.first_service-requires-clause-known
-first_service-requires-clause-known c =
-    best_known c.args.net.now c.args.run.now c.in_ok-size.size c.in_ok-arrival.arrival c.earlier-known.result c.earlier-known.ensures c.in_ok-size.ensures c.in_ok-arrival.ensures
+first_service-requires-clause-known c = c.in_ok-known.ensures
 
 pub returns-in-None : goal.returns-in-None
 returns-in-None c =

@@ -1,10 +1,9 @@
-use Rattle.std.proofs.Common.{◌≡◌, ◌≤◌, ◌^◌, map, refl, sym, ap, ◌∙◌, subst, arith, to_z, inl, inr, true≢false}
+use Rattle.std.proofs.Common.{◌≡◌, ◌≤◌, ◌^◌, map, refl, sym, ap, ◌∙◌, subst, arith, to_z}
 use mir.Syntax.{w128}
 use Rattle.std.proofs.lemmas.Int.{ints}
-use Rattle.std.proofs.lemmas.Bool.{cases_lt}
-use Rattle.std.specs.Prelude.{IsTrue, pos, sum_by, ◌↔◌}
+use Rattle.std.specs.Prelude.{None, IsTrue, pos, sum_by, ◌↔◌}
 use Rattle.std.specs.List.{AllByRecursion}
-use Rattle.rational.specs.Rational.{int, ◌<ℚ◌}
+use Rattle.rational.specs.Rational.{ℚ, int, ◌<ℚ◌}
 use Rattle.rational.specs.Gauge.{Kept}
 use Rattle.upp_limits.specs.Limits.{joined, time_alone, value_alone, sizes_of}
 use Rattle.upp_limits.specs.Gathered.{Gathers}
@@ -15,6 +14,7 @@ use Rattle.net_model.specs.stated_runs.FromTraces.{setup_of}
 use Rattle.sim_bounds.specs.Horizons.{horizon}
 use Rattle.sim_bounds.specs.Gauge.{rates_of, common_num, simulation_numbers, simulation_gauge, grid_of, total_bits}
 use Rattle.sim_bounds.proofs.WayFits.{horizon_fits}
+use Rattle.sim_bounds.proofs.window_numbers.Missing.{told_wide}
 use Rattle.sim_bounds.specs.window_numbers.Rated.{gauge_with}
 use Rattle.sim_bounds.proofs.sim_gauge.Products.{gauge_is}
 use Rattle.sim_bounds.proofs.sim_gauge.Rates.{server_rates}
@@ -28,14 +28,9 @@ pub returns-in-None : goal.returns-in-None
 returns-in-None c =
     let net = c.args.net.now in
     let trace = c.args.trace.now in
-    let wide : 2 ^ 120 ≤ simulation_gauge net trace = elim (cases_lt (simulation_gauge net trace) (2 ^ 120)) [
-      | inl small ↦
-          let fits = horizon_fits net trace c.servers.ensures.kept c.packets.ensures.kept c.requires.named c.requires.free small in
-          let some = c.in-None.ensures.fits (grid_of net trace) (horizon (setup_of net trace)) fits in
-          absurd (true≢false (sym some))
-      | inr big ↦ big
-    ] in
-    (λ t. wide, λ t. refl)
+    told_wide {A = ℚ} None (simulation_gauge net trace) refl
+    (λ small. c.in-None.ensures.fits (grid_of net trace) (horizon (setup_of net trace))
+    (horizon_fits net trace c.servers.ensures.kept c.packets.ensures.kept c.requires.named c.requires.free small))
 
 pub returns-in-Some-numbers_to : goal.returns-in-Some-numbers_to
 returns-in-Some-numbers_to c =

@@ -1,8 +1,7 @@
 use Rattle.std.specs.Prelude.{Some, ◌≡◌, length, slice_get}
 use Rattle.std.proofs.Common.{arith, sym, ap, ◌∙◌, subst}
-use Rattle.queue_sched.specs.index_links.Chains.{list_at, first_of}
 use Rattle.sim_servers.specs.Firsts.{IsFirstOf}
-use Rattle.sim_servers.specs.sim_states.Running.{enter_first, reach_first, IsFirstCandidate}
+use Rattle.sim_servers.specs.sim_states.Running.{enter_first, IsFirstCandidate}
 use Rattle.sim_servers.proofs.sim_loop.Merged.{first_entry, merged, found_at}
 use Rattle.sim_servers.proofs.sim_loop.candidates.first_due.Goals as goal
 
@@ -17,12 +16,10 @@ loop-server-preserved c = λ S e.
     let xs = c.args.stations.now in
     let k = c.loop-server.server in
     let x = c.index-stations-server.result in
-    let comes = reach_first c.args.arrivals.now (first_of (list_at c.args.links.now k)) in
-    merged S xs c.args.links.now c.args.arrivals.now c.args.entered k x c.loop-server.first c.first_of.result c.first_of-first.result
-    (found_at xs k x c.loop-server-test.true ∙ ap (λ z. Some z) (sym c.index-stations-server.is)) (c.loop-server.invariant S e)
-    (subst (λ o. IsFirstOf o comes c.first_of.result) c.due_of-here.ensures
-    (subst (λ o. IsFirstOf c.due_of-here.result o c.first_of.result) c.next_reach-comes.ensures c.first_of.ensures))
-    c.first_of-first.ensures
+    let here = subst (λ o. IsFirstOf c.loop-server.first o c.keep_first.new.first) c.due_of.ensures c.keep_first.ensures in
+    let both = subst (λ o. IsFirstOf c.keep_first.new.first o c.keep_first-in-loop-server.new.first) c.next_reach.ensures c.keep_first-in-loop-server.ensures in
+    merged S xs c.args.links.now c.args.arrivals.now c.args.entered k x c.loop-server.first c.keep_first.new.first c.keep_first-in-loop-server.new.first
+    (found_at xs k x c.loop-server-test.true ∙ ap (λ z. Some z) (sym c.index-stations-server.is)) (c.loop-server.invariant S e) here both
 
 pub returns : goal.returns
 returns c = λ S e.
