@@ -18,10 +18,10 @@ use Rattle.tree_bounds.proofs.guarantee.Rooted.{none_has_a_root}
 use Rattle.bounds_report.specs.Ranges.{HasDeadlineInRange}
 use Rattle.bounds_report.specs.declared.rows.BranchRow.{BranchRow}
 use Rattle.bounds_report.specs.declared.rows.Report.{Report}
-use Rattle.bounds_command.specs.declared.answer.Answer.{Answer}
-use Rattle.bounds_command.specs.declared.answer.Form.{Form}
+use Rattle.bounds_command.specs.declared.form.Form.{Form}
 use Rattle.bounds_command.specs.Replies.{has_fault}
 use Rattle.bounds_command.specs.Reports.{IsNetworkOf, IsReportOf, status_with}
+use Rattle.replies.specs.declared.answer.Answer.{Answer}
 use Rattle.bounds_command.specs.View.{reply_of, text_in}
 use Rattle.bounds_command.specs.OnTables.{Tables, named, lined, AreRowsOfBoth, Gives, IsReplyOnDocument, IsReplyOn}
 use Rattle.rounded_runs.proofs.Runs.{written_runs_are_runs}

@@ -19,7 +19,7 @@ use Rattle.document_tables.specs.Grids.{BranchOnGrid}
 use Rattle.tree_bounds.specs.Tables.{IsTableOf, row_in}
 use Rattle.tree_bounds.specs.declared.analysis.Table.{Table}
 use Rattle.bounds_report.specs.declared.rows.Report.{Report}
-use Rattle.bounds_command.specs.declared.answer.Form.{Form}
+use Rattle.bounds_command.specs.declared.form.Form.{Form}
 use Rattle.tree_bounds.specs.guarantee.Loads.{rates_at}
 use Rattle.bounds_command.specs.Loads.{load_of}
 use Rattle.bounds_command.specs.Replies.{Reply, goes_round, has_fault}

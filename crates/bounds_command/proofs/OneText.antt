@@ -7,8 +7,8 @@ use Rattle.bounds_report.specs.Data.{report_json, queue_data, branch_data}
 use Rattle.bounds_report.specs.declared.rows.QueueRow.{QueueRow}
 use Rattle.bounds_report.specs.declared.rows.BranchRow.{BranchRow}
 use Rattle.bounds_report.specs.declared.rows.Report.{Report}
-use Rattle.bounds_command.specs.declared.answer.Form.{Form}
-use Rattle.bounds_command.specs.declared.answer.Form.TheVariants.{Lines, Json}
+use Rattle.bounds_command.specs.declared.form.Form.{Form}
+use Rattle.bounds_command.specs.declared.form.Form.TheVariants.{Lines, Json}
 use Rattle.bounds_command.specs.Reports.{QueueText, BranchText, queue_view, branch_view, is_missed, misses, status_with}
 use Rattle.bounds_command.specs.View.{text_in}
 

@@ -16,7 +16,7 @@ use Rattle.bounds_report.specs.Numbers.{microseconds}
 use Rattle.bounds_report.specs.declared.rows.QueueRow.{QueueRow}
 use Rattle.bounds_report.specs.declared.rows.BranchRow.{BranchRow}
 use Rattle.bounds_report.specs.declared.rows.Report.{Report}
-use Rattle.bounds_command.specs.declared.answer.Form.{Form}
+use Rattle.bounds_command.specs.declared.form.Form.{Form}
 use Rattle.bounds_command.specs.Replies.{Reply}
 use Rattle.bounds_command.specs.Promises.{printed}
 use Rattle.bounds_command.specs.Reports.{IsNetworkOf, IsReportOf, some_missed}

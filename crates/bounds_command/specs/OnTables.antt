@@ -19,7 +19,7 @@ use Rattle.tree_bounds.specs.guarantee.Causes.{IsCausedIn}
 use Rattle.tree_bounds.specs.guarantee.Loads.{HasLoadOrLimitIn}
 use Rattle.tree_bounds.specs.guarantee.Roots.{IsRootedIn}
 use Rattle.bounds_report.specs.declared.rows.Report.{Report}
-use Rattle.bounds_command.specs.declared.answer.Form.{Form}
+use Rattle.bounds_command.specs.declared.form.Form.{Form}
 use Rattle.bounds_command.specs.Promises.{Guarantees, WrittenGuarantees}
 use Rattle.bounds_command.specs.Replies.{Reply, has_fault, goes_round}
 use Rattle.bounds_command.specs.Reports.{IsNetworkOf, IsReportOf, name_at, status_with}

@@ -1,24 +1,22 @@
--- What a call answers: an exit status, and the bytes that are written. Own choice.
+-- What a call answers. Own choice.
 use Rattle.std.specs.Prelude.{ℕ, ◌++◌, List, codes}
 use Rattle.std.specs.List.{flat_map}
 use Rattle.document_tables.specs.declared.fault.LineFault.{LineFault}
 use Rattle.document_tables.specs.FaultLines.{fault_line}
-
-pub record Reply : Type 0 where
-  pub status : ℕ
-  pub bytes : List ℕ
+use Rattle.replies.specs.Replies as replies
+pub use Rattle.replies.specs.Replies.{Reply}
 
 -- ---- refusals, of one line each
 abbrev pub refusal : ℕ → List ℕ → Reply
-refusal status reason = record { status = status; bytes = codes "netbound: " ++ (reason ++ codes "\n") }
+refusal = replies.refusal (codes "netbound: ")
 
 -- the file could not be read
 abbrev pub cannot_read : List ℕ → Reply
-cannot_read file = refusal 3 (codes "cannot read " ++ file)
+cannot_read = replies.cannot_read (codes "netbound: ")
 
 -- the file has more bytes than a table may have
 abbrev pub too_long : List ℕ → Reply
-too_long file = refusal 1 (file ++ codes ": too long")
+too_long = replies.too_long (codes "netbound: ")
 
 -- the table of the file has this first fault
 abbrev pub has_fault : List ℕ → LineFault → Reply

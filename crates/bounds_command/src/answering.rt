@@ -7,11 +7,12 @@ ghost use Rattle.bounds_command.specs.Replies as replies;
 ghost use Rattle.bounds_command.specs.OnTables.{tables, named, IsReplyOn};
 ghost use Rattle.bounds_command.specs.View.{reply_of};
 
-use crate::answer::{Answer, Form};
+use crate::form::Form;
 use crate::on_document::on_document;
 use crate::refusals::breaks_rule;
 use csv_rows::{TableRow, TableRows, read_table, table_rows};
 use document_tables::{DocumentError, LineFault, TableFile, read_document};
+use replies::Answer;
 use std::alloc::{AllocError, Global};
 
 // The name of a file.

@@ -2,18 +2,18 @@
 //! report, or to the line of a refusal.
 #![tactic(auto)]
 
-mod answer;
 mod answering;
+mod form;
 mod laws;
 mod loads;
 mod on_document;
 mod refusals;
 mod rows;
 
-pub use answer::{Answer, Form, Status};
 pub use answering::on_tables;
+pub use form::Form;
 pub use laws::{
     replies_are_complete, replies_are_determined, reports_tell_bounds, statuses_have_causes,
     tables_are_determined,
 };
-pub use refusals::{cannot_read, too_long};
+pub use replies::{Answer, Status};

@@ -9,11 +9,12 @@ ghost use Rattle.bounds_command.specs.OnTables.{IsReplyOnDocument};
 ghost use Rattle.bounds_command.specs.Reports.{status_with};
 ghost use Rattle.bounds_command.specs.View.{code_of, reply_of, text_in};
 
-use crate::answer::{Answer, Form, Status};
+use crate::form::Form;
 use crate::refusals::goes_round;
 use crate::rows::{report_of, some_missed};
 use bounds_report::{Report, report_json, report_lines};
 use document_tables::Document;
+use replies::{Answer, Status};
 use std::alloc::{AllocError, Global};
 use tree_bounds::bounds_of;
 use tree_network::Fault;
@@ -34,7 +35,7 @@ fn status_of(report: &Report) -> Status
     ensures { code_of result ≡ status_with report.now }
 {
     if some_missed(&report.branches) {
-        Status::Missed
+        Status::Breach
     } else {
         Status::Done
     }
@@ -49,7 +50,7 @@ fn reported(alloc: Global, form: Form, report: &Report) -> Result<Answer, AllocE
     let text = text_in(alloc, form, report)?;
     Ok(Answer {
         status: status_of(report),
-        text,
+        text: text.into_bytes(),
     })
 }
 

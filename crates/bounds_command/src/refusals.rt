@@ -7,31 +7,9 @@ ghost use Rattle.bounds_command.specs.Replies as replies;
 ghost use Rattle.bounds_command.specs.Reports.{name_at};
 ghost use Rattle.bounds_command.specs.View.{reply_of};
 
-use crate::answer::{Answer, Status};
 use document_tables::{LineFault, Names, fault_line};
+use replies::{Answer, Status};
 use std::alloc::{AllocError, Global};
-
-/// The answer where a file could not be read.
-pub fn cannot_read(alloc: Global, file: &str) -> Result<Answer, AllocError>
-    ensures { IfOk result (λ r. reply_of r ≡ replies.cannot_read file.now) }
-{
-    let text = format!(in alloc; "netbound: cannot read {file}\n")?;
-    Ok(Answer {
-        status: Status::ReadFault,
-        text,
-    })
-}
-
-/// The answer where a file has more bytes than a table may have.
-pub fn too_long(alloc: Global, file: &str) -> Result<Answer, AllocError>
-    ensures { IfOk result (λ r. reply_of r ≡ replies.too_long file.now) }
-{
-    let text = format!(in alloc; "netbound: {file}: too long\n")?;
-    Ok(Answer {
-        status: Status::Malformed,
-        text,
-    })
-}
 
 /// The answer on a table with this first fault.
 pub(crate) fn breaks_rule(
@@ -44,7 +22,7 @@ pub(crate) fn breaks_rule(
     let text = fault_line(alloc, file, fault)?;
     Ok(Answer {
         status: Status::Malformed,
-        text,
+        text: text.into_bytes(),
     })
 }
 
@@ -84,6 +62,6 @@ pub(crate) fn goes_round(
     text.push_str("\n")?;
     Ok(Answer {
         status: Status::Cycle,
-        text,
+        text: text.into_bytes(),
     })
 }

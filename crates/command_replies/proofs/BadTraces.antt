@@ -7,9 +7,9 @@ use Rattle.input_texts.specs.declared.table_text.fault.TableFault.{TableFault}
 use Rattle.input_texts.specs.declared.table_text.fault.TableKind.TheVariants.{NoMemory}
 use Rattle.input_texts.specs.table_text.Traces.{IsFirstFault, out_of_memory}
 use Rattle.input_texts.proofs.table_text.OneTrace.{fault_one}
-use Rattle.command_replies.specs.declared.answer.Answer.{Answer}
 use Rattle.command_replies.specs.OnFiles.{IsBadTraceOf}
 use Rattle.command_replies.specs.Replies.{Reply, table_fault_reply}
+use Rattle.replies.specs.declared.answer.Answer.{Answer}
 use Rattle.command_replies.specs.View.{reply_of}
 
 same_fault : (f g : TableFault) → f.kind ≡ g.kind → f.row ≡ g.row → f ≡ g

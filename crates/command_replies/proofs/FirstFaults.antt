@@ -16,10 +16,10 @@ use Rattle.net_text.specs.Reading.{CurveFault, FirstFault, IsAnswered}
 use Rattle.net_text.proofs.OneThing.{each_file_says_one_thing}
 use Rattle.net_text.specs.FoldLimits.{OverFold}
 use Rattle.net_text.proofs.OneLimit.{fold_has_one_limit}
-use Rattle.command_replies.specs.declared.answer.Answer.{Answer}
 use Rattle.command_replies.specs.Replies.{Reply, breaks_rule, curve_over}
 use Rattle.command_replies.specs.Faults.{reply_of_kind, fault_reply}
 use Rattle.command_replies.specs.OnFiles.{IsBroken, IsNoNetwork}
+use Rattle.replies.specs.declared.answer.Answer.{Answer}
 use Rattle.command_replies.specs.View.{reply_of}
 
 -- a file says one thing

@@ -1,14 +1,8 @@
 -- What is known of a status by the reply that it belongs to.
-use Rattle.std.proofs.Common.{◌≡◌, ◌≢◌, ◌≤◌, Result, Ok, Err, IfOk, sym, ap, ◌∙◌, arith}
-use Rattle.command_replies.specs.declared.answer.Answer.{Answer}
-use Rattle.command_replies.specs.declared.answer.Status.{Status}
-use Rattle.command_replies.specs.declared.answer.Status.TheVariants.{Done}
+use Rattle.std.proofs.Common.{◌≡◌, ◌≢◌, Result, Ok, Err, IfOk, sym, ap, ◌∙◌}
 use Rattle.command_replies.specs.Replies.{Reply}
-use Rattle.command_replies.specs.View.{code_of, reply_of, status_of}
-
-pub code_at_most_nine : (status : Status) → code_of status ≤ 9
-code_at_most_nine Done = omega arith
-code_at_most_nine status = omega arith
+use Rattle.replies.specs.declared.answer.Answer.{Answer}
+use Rattle.command_replies.specs.View.{reply_of, status_of}
 
 pub status_is : (reply to : Reply) → reply ≡ to → reply.status ≡ to.status
 status_is reply to is = ap (λ (r : Reply). r.status) is

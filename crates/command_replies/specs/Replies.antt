@@ -1,4 +1,4 @@
--- What a call answers: an exit status, and the bytes that are written.
+-- What a call answers.
 use Rattle.std.specs.Prelude.{◌≡◌, ◌≢◌, ℕ, ◌++◌, List, codes}
 use Rattle.std.specs.Fmt.{decimal}
 use Rattle.input_texts.specs.declared.curve_script.fault.LangFault.{LangFault}
@@ -11,10 +11,8 @@ use Rattle.net_cells.specs.Meanings.{CellTable}
 use Rattle.report_text.specs.Faults.{fault_text, table_fault_text, script_fault_text}
 use Rattle.report_text.specs.Refusals.{spaced}
 use Rattle.report_text.specs.Report.{report_of}
-
-pub record Reply : Type 0 where
-  pub status : ℕ
-  pub bytes : List ℕ
+use Rattle.replies.specs.Replies as replies
+pub use Rattle.replies.specs.Replies.{Reply}
 
 -- one status, and one text unless it tells a cycle; since a network has one cycle that is told (`net_model::net_graph::one_cycle`)
 -- the text is one then, too (`netcalc_cli::replies_are_determined`)
@@ -28,7 +26,7 @@ report net at = record { status = 0; bytes = report_of net at }
 
 -- ---- refusals, of one line each
 abbrev pub refusal : ℕ → List ℕ → Reply
-refusal status reason = record { status = status; bytes = codes "netcalc: " ++ reason ++ codes "\n" }
+refusal = replies.refusal (codes "netcalc: ")
 
 -- the words are not taken, but for these
 abbrev pub usage : List ℕ → Reply
@@ -36,11 +34,11 @@ usage commands = refusal 2 (codes "usage: " ++ commands)
 
 -- the file could not be read
 abbrev pub cannot_read : List ℕ → Reply
-cannot_read file = refusal 3 (codes "cannot read " ++ file)
+cannot_read = replies.cannot_read (codes "netcalc: ")
 
 -- the file has more bytes than a file may have
 abbrev pub too_long : List ℕ → Reply
-too_long file = refusal 1 (file ++ codes ": too long")
+too_long = replies.too_long (codes "netcalc: ")
 
 -- the file breaks this rule of network files, at this place
 abbrev pub breaks_rule : List ℕ → Fault → Reply

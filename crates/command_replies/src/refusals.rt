@@ -13,11 +13,11 @@ ghost use Rattle.command_replies.specs.Faults.{fault_reply, script_fault_reply};
 ghost use Rattle.command_replies.specs.Replies as replies;
 ghost use Rattle.command_replies.specs.View.{code_of, reply_of};
 
-use crate::answer::{Answer, Status};
 use input_texts::curve_script::{LangFault, LangKind};
 use input_texts::table_text::{TableFault, TableKind};
 use net_cells::Cell;
 use net_model::{NetFault, NetKind, Network};
+use replies::{Answer, Status};
 use report_text::{Refusal, cell_text, refusal_text, server_name};
 use std::alloc::{AllocError, Global};
 
@@ -27,24 +27,6 @@ fn refused(alloc: Global, status: Status, refusal: &Refusal) -> Result<Answer, A
 {
     let text = refusal_text(alloc, refusal)?;
     Ok(Answer { status, text })
-}
-
-/// The answer where a file could not be read.
-#[tactic(auto, unfolding(report_text::specs::Refusals::refusal_line))]
-pub fn cannot_read(alloc: Global, file: &str) -> Result<Answer, AllocError>
-    ensures { IfOk result (λ r. reply_of r ≡ replies.cannot_read file.now) }
-{
-    let file = String::from_str(alloc, file)?;
-    refused(alloc, Status::ReadFault, &Refusal::CannotRead { file })
-}
-
-/// The answer where a file has more bytes than a file may have.
-#[tactic(auto, unfolding(report_text::specs::Refusals::refusal_line))]
-pub fn too_long(alloc: Global, file: &str) -> Result<Answer, AllocError>
-    ensures { IfOk result (λ r. reply_of r ≡ replies.too_long file.now) }
-{
-    let file = String::from_str(alloc, file)?;
-    refused(alloc, Status::Malformed, &Refusal::TooLong { file })
 }
 
 #[tactic(auto, unfolding(report_text::specs::Refusals::refusal_line))]

@@ -8,11 +8,11 @@ use Rattle.net_model.specs.Networks.{Net}
 use Rattle.net_draft.specs.Faults.{fault_of}
 use Rattle.net_text.specs.Reading.{IsNetworkOf, IsAnswered}
 use Rattle.net_text.specs.FoldLimits.{OverFold}
-use Rattle.command_replies.specs.declared.answer.Answer.{Answer}
 use Rattle.command_replies.specs.Faults.{fault_reply}
 use Rattle.command_replies.specs.OnFiles.{OnFile}
 use Rattle.command_replies.specs.Replies.{Reply}
 use Rattle.outcomes.specs.Stages.{stops, goes_on}
+use Rattle.replies.specs.declared.answer.Answer.{Answer}
 use Rattle.command_replies.specs.View.{reply_of}
 use Rattle.command_replies.proofs.FirstFaults.{on_told}
 

@@ -1,3 +1,4 @@
 mod Stopped
 mod FileAnswers
+mod FileCounts
 mod Reporting

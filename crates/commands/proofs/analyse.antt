@@ -1,4 +1,3 @@
 pub mod OneReply
-pub mod Counting
 pub mod Unbounded
 pub mod Causes

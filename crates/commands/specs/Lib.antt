@@ -1,4 +1,6 @@
 pub mod Tabled
+pub mod Telling
+pub mod FileCounts
 pub mod edit_report
 pub mod analyse
 pub mod simulate

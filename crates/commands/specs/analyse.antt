@@ -1,3 +1,2 @@
 pub mod OnFiles
-pub mod AnswerCounts
 pub mod AnswerLaws

@@ -6,4 +6,4 @@ mod on_file;
 mod on_net;
 
 pub use answer_laws::{answers_are_determined, replies_are_complete, unbounded_is_infinite};
-pub use on_file::on_bytes;
+pub use on_file::answer_on;

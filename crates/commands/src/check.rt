@@ -11,4 +11,4 @@ pub use laws::{
     admissible_runs_are_within_bounds, check_replies_are_complete, check_replies_are_determined,
     check_reports_guarantee, check_statuses_have_causes, verdicts_tell_runs,
 };
-pub use on_files::on_run;
+pub use on_files::answer_on;

@@ -5,4 +5,4 @@ mod laws;
 mod on_file;
 
 pub use laws::{answers_are_determined, replies_are_complete};
-pub use on_file::on_script;
+pub use on_file::answer_on;

@@ -10,4 +10,4 @@ pub use laws::{
     edit_replies_are_complete, edit_replies_are_determined, edit_reports_are_guaranteed,
     edit_statuses_have_causes,
 };
-pub use on_files::on_edits;
+pub use on_files::answer_on;

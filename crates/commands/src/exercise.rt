@@ -4,9 +4,8 @@
 mod answering;
 mod laws;
 mod on_workload;
-mod summarised;
 
-pub use answering::on_seed;
+pub use answering::answer_on;
 pub use laws::{
     exercise_replies_are_complete, exercise_replies_are_determined, exercise_statuses_have_causes,
     quiet_summaries_are_within_bounds, summaries_guarantee, summary_tells_premises,

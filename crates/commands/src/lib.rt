@@ -9,4 +9,5 @@ pub mod edit_report;
 pub mod exercise;
 pub mod measure;
 pub mod simulate;
+mod simulated;
 mod tabled;

@@ -10,4 +10,4 @@ pub use laws::{
     measure_replies_are_complete, measure_replies_are_determined, measure_reports_are_least,
     measure_statuses_are_four, measure_statuses_have_causes,
 };
-pub use on_files::on_measure;
+pub use on_files::answer_on;

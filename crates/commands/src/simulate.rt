@@ -4,11 +4,10 @@
 mod laws;
 mod on_files;
 mod on_net;
-mod reported;
 
 pub use laws::{
     open_servers_break_nothing, quiet_runs_are_within_bounds, run_replies_are_complete,
     run_replies_are_determined, run_reports_guarantee, run_statuses_have_causes,
     status_tells_premises,
 };
-pub use on_files::on_trace;
+pub use on_files::answer_on;

@@ -2,24 +2,8 @@
 #![tactic(auto)]
 
 use netbound_cli::{Status, run};
-use outside::{DirInputs, NoMemory, StdSink};
-use std::env;
-use std::io::ErrorKind;
+use outside::{DirInputs, StdSink, words_of};
 use std::process::ExitCode;
-
-/// The words of the command line, or no words where one of them is not text: those are not taken.
-fn words_of(rt: &HostRuntime) -> Result<Vec<String>, NoMemory> {
-    match env::args(rt) {
-        Ok(words) => words.collect(rt.alloc()),
-        Err(fault) => {
-            if fault.kind() == ErrorKind::OutOfMemory {
-                Err(NoMemory)
-            } else {
-                Ok(Vec::new(rt.alloc()))
-            }
-        }
-    }
-}
 
 fn main(rt: HostRuntime) -> ExitCode {
     let Ok(words) = words_of(&rt) else {

@@ -2,22 +2,19 @@
 use Rattle.std.proofs.Common.{◌≡◌, ◌≢◌, ◌⊎◌, ℕ, Bool, true, false, List, [], ◌∷◌, Option, Some, None, IfSome, inl}
 use Rattle.std.proofs.Common.{inr, refl, sym, ap, ◌∙◌, subst, arith, append-nil}
 use Rattle.std.proofs.lemmas.Bool.{cases_eq}
-use Rattle.bounds_command.specs.declared.answer.Form.{Form}
-use Rattle.bounds_command.specs.declared.answer.Status.{Status}
-use Rattle.bounds_command.specs.declared.answer.Status.TheVariants.{Done, Malformed, Usage, ReadFault, WriteFault, NoMemory, Cycle, Missed}
+use Rattle.bounds_command.specs.declared.form.Form.{Form}
 use Rattle.bounds_command.specs.Laws.{IsReport}
 use Rattle.bounds_command.specs.OnTables.{IsCyclic, IsFaulty, IsReplyOn, Tables, tables}
 use Rattle.bounds_command.specs.Replies.{Reply, cannot_read, too_long}
-use Rattle.bounds_command.specs.View.{code_of}
 use Rattle.bounds_command.proofs.OneReply as law
 use Rattle.netbound_cli.specs.words.Requests.{Bounds, Help, Request, Version}
 use Rattle.outside.specs.Fetching.{FetchesAll}
 use Rattle.netbound_cli.specs.Calls.{Call, call_of, files_of, form_of, names_of, text_of}
-use Rattle.netbound_cli.specs.Files.{AllFit, FirstIs, FirstLong, IsTooLong, MayHoldAll, Told, all_told}
+use Rattle.outside.specs.Files.{Told, IsTooLong, FirstIs, MayHoldAll, FirstLong, AllFit, all_told}
+use Rattle.netbound_cli.specs.Files.{most_bytes}
 use Rattle.netbound_cli.specs.Laws.{RepliesAreDetermined}
 use Rattle.netbound_cli.specs.Reply.{AnswersWhatItCan, AsksUpTo, Brings, EndsAt, FailedAt, Gives, GivesOnTold, IsAnswerableCall}
 use Rattle.netbound_cli.specs.Reply.{IsOnBoth, IsStatus, IsReplyAsking, IsReplyOnFiles, MayReply, MayReplyTo, OnTables, Output, asks_of}
-use Rattle.netbound_cli.specs.Files.{most_bytes}
 use Rattle.replies.proofs.FileLemmas.{any_told, ended, first_map, first_shows, long_first, long_one, long_shows}
 use Rattle.replies.proofs.FileLemmas.{not_long, on_told, same_told}
 use Rattle.replies.proofs.Fetches.{fetches_none}
@@ -26,7 +23,7 @@ use Rattle.replies.proofs.Fetches.{fetches_none}
 -- fetching ended at a file
 pub ends : {I : Type 0} (faults : I → ℕ) (last_fault : I → List ℕ) (told : Told) (asks : List (List ℕ) → Type 0)
     (c : Call) (old new : I) (reply : Reply)
-    → FirstIs told (λ file. EndsAt faults last_fault told old new reply file × AsksUpTo asks (files_of c) file) (files_of c)
+    → FirstIs most_bytes told (λ file. EndsAt faults last_fault told old new reply file × AsksUpTo asks (files_of c) file) (files_of c)
     → MayReplyTo faults last_fault told asks c old new reply
 ends faults last_fault told asks c old new reply h =
     elim (ended most_bytes told
@@ -35,7 +32,7 @@ ends faults last_fault told asks c old new reply h =
     (first_map most_bytes told
     (λ file. EndsAt faults last_fault told old new reply file × AsksUpTo asks (files_of c) file)
     (λ file. (FailedAt faults last_fault file old new × (reply ≡ cannot_read file) × AsksUpTo asks (files_of c) file)
-    ⊎ (IsTooLong (told file) × ((reply ≡ too_long file) × AsksUpTo asks (files_of c) file))) (files_of c)
+    ⊎ (IsTooLong most_bytes (told file) × ((reply ≡ too_long file) × AsksUpTo asks (files_of c) file))) (files_of c)
     (λ file h. elim h.0 [
       | inl failed ↦ inl (failed.0, failed.1, h.1)
       | inr long ↦ inr (long.0, (long.1, h.1))
@@ -47,13 +44,13 @@ ends faults last_fault told asks c old new reply h =
 -- or the files were fetched
 pub answers : {I : Type 0} (faults : I → ℕ) (last_fault : I → List ℕ) (told : Told) (asks : List (List ℕ) → Type 0)
     (c : Call) (old new : I) (reply : Reply)
-    (files : List (List ℕ)) → MayHoldAll told (files_of c) files → AllFit files → OnTables IsReplyOn c files reply
+    (files : List (List ℕ)) → MayHoldAll told (files_of c) files → AllFit most_bytes files → OnTables IsReplyOn c files reply
     → asks (files_of c) → MayReplyTo faults last_fault told asks c old new reply
 answers faults last_fault told asks c old new reply files held fit is all = inr (files, held, inr (fit, is, all))
 
 -- what the reply is, where it is left alone what is asked for
 long_map : (P Q : List ℕ → Type 0) (names files : List (List ℕ)) → ((file : List ℕ) → P file → Q file)
-    → FirstLong P names files → FirstLong Q names files
+    → FirstLong most_bytes P names files → FirstLong most_bytes Q names files
 long_map P Q [] files step h = absurd h
 long_map P Q (name ∷ names) [] step h = absurd h
 long_map P Q (name ∷ names) (bytes ∷ files) step (inl h) = inl (h.0, step name h.1)
@@ -93,7 +90,7 @@ by_status c (ports ∷ links ∷ other ∷ files) reply h = absurd h
 record IsOnFiles (told : Told) (asks : List (List ℕ) → Type 0) (c : Call) (reply : Reply) : Type 0 where
   files : List (List ℕ)
   held : MayHoldAll told (files_of c) files
-  fit : AllFit files
+  fit : AllFit most_bytes files
   asked : asks (files_of c)
   is : IsByStatus c files reply
 
@@ -101,18 +98,24 @@ record IsOnFiles (told : Told) (asks : List (List ℕ) → Type 0) (c : Call) (r
 record MayBe {I : Type 0} (faults : I → ℕ) (last_fault : I → List ℕ) (told : Told) (asks : List (List ℕ) → Type 0)
     (c : Call) (old new : I) (reply : Reply) : Type 0 where
   three : reply.status ≡ 3
-      → FirstIs told (λ file. FailedAt faults last_fault file old new × (reply ≡ cannot_read file)
+      → FirstIs most_bytes told (λ file. FailedAt faults last_fault file old new × (reply ≡ cannot_read file)
       × AsksUpTo asks (files_of c) file) (files_of c)
   one : reply.status ≡ 1
-      → FirstIs told (λ file. IsTooLong (told file) × ((reply ≡ too_long file) × AsksUpTo asks (files_of c) file)) (files_of c)
+      → FirstIs most_bytes told (λ file. IsTooLong most_bytes (told file) × ((reply ≡ too_long file) × AsksUpTo asks (files_of c) file)) (files_of c)
       ⊎ IsOnFiles told asks c reply
   rest : reply.status ≢ 1 → reply.status ≢ 3 → IsOnFiles told asks c reply
+  known : IsStatus reply.status
   no_two : reply.status ≢ 2
   no_four : reply.status ≢ 4
   no_five : reply.status ≢ 5
 
 abbrev IsKnown : ℕ → Type 0
 IsKnown status = (status ≡ 0) ⊎ ((status ≡ 1) ⊎ ((status ≡ 8) ⊎ (status ≡ 9)))
+
+known_on : (n : ℕ) → IsKnown n → IsStatus n
+known_on n (inl e) = inl (omega (arith, e))
+known_on n (inr (inl e)) = inl (omega (arith, e))
+known_on n (inr (inr e)) = inr e
 
 not_known : (status n : ℕ) → IsKnown status → n ≢ 0 → n ≢ 1 → n ≢ 8 → n ≢ 9 → status ≢ n
 not_known status n (inl e) a b c d is = a (sym is ∙ e)
@@ -135,6 +138,7 @@ by_files faults last_fault told asks c old new reply files held (inl long) =
       one = λ e. inl (long_first most_bytes told (λ file. (reply ≡ too_long file) × AsksUpTo asks (files_of c) file)
           (files_of c) files held long);
       rest = λ not_one not_three. absurd (not_one is);
+      known = inl (omega (arith, is));
       no_two = other reply.status 1 2 is (omega arith);
       no_four = other reply.status 1 4 is (omega arith);
       no_five = other reply.status 1 5 is (omega arith);
@@ -147,6 +151,7 @@ by_files faults last_fault told asks c old new reply files held (inr fits) =
           e);
       one = λ e. inr on;
       rest = λ not_one not_three. on;
+      known = known_on reply.status by.known;
       no_two = not_known reply.status 2 by.known (omega arith) (omega arith) (omega arith) (omega arith);
       no_four = not_known reply.status 4 by.known (omega arith) (omega arith) (omega arith) (omega arith);
       no_five = not_known reply.status 5 by.known (omega arith) (omega arith) (omega arith) (omega arith);
@@ -163,6 +168,7 @@ may_be faults last_fault told asks c old new reply (inl failed) =
       three = λ e. failed;
       one = λ e. absurd (other reply.status 3 1 is (omega arith) e);
       rest = λ not_one not_three. absurd (not_three is);
+      known = inl (omega (arith, is));
       no_two = other reply.status 3 2 is (omega arith);
       no_four = other reply.status 3 4 is (omega arith);
       no_five = other reply.status 3 5 is (omega arith);
@@ -173,7 +179,7 @@ may_be faults last_fault told asks c old new reply (inr found) =
 -- one on what both files hold does not tell a file that was not had
 pub not_at_file : {I : Type 0} (faults : I → ℕ) (last_fault : I → List ℕ) (told : Told) (asks : List (List ℕ) → Type 0)
     (names : List (List ℕ)) (old new : I) (reply : Reply)
-    → FirstIs told (λ file. EndsAt faults last_fault told old new reply file × AsksUpTo asks names file) names
+    → FirstIs most_bytes told (λ file. EndsAt faults last_fault told old new reply file × AsksUpTo asks names file) names
     → IsOnBoth reply.status → ⊥
 not_at_file faults last_fault told asks names old new reply h both =
     first_shows most_bytes told (λ file. EndsAt faults last_fault told old new reply file × AsksUpTo asks names file) ⊥ names
@@ -215,8 +221,8 @@ brings K told asks c reply status old new on is given =
 -- the line that tells a file
 gives_line : (told : Told) (P U : List ℕ → Type 0) (line : List ℕ → Reply) (names : List (List ℕ)) (reply : Reply)
     (status : ℕ) (old new : Output) → Gives status old new reply
-    → FirstIs told (λ file. P file × ((reply ≡ line file) × U file)) names
-    → FirstIs told (λ file. P file × Gives status old new (line file) × U file) names
+    → FirstIs most_bytes told (λ file. P file × ((reply ≡ line file) × U file)) names
+    → FirstIs most_bytes told (λ file. P file × Gives status old new (line file) × U file) names
 gives_line told P U line names reply status old new given h =
     first_map most_bytes told (λ file. P file × ((reply ≡ line file) × U file))
     (λ file. P file × Gives status old new (line file) × U file) names
@@ -224,13 +230,13 @@ gives_line told P U line names reply status old new given h =
 
 malformed : (told : Told) (asks : List (List ℕ) → Type 0) (c : Call) (reply : Reply) (status : ℕ) (old new : Output)
     → Gives status old new reply → reply.status ≡ 1
-    → FirstIs told (λ file. IsTooLong (told file) × ((reply ≡ too_long file) × AsksUpTo asks (files_of c) file)) (files_of c)
+    → FirstIs most_bytes told (λ file. IsTooLong most_bytes (told file) × ((reply ≡ too_long file) × AsksUpTo asks (files_of c) file)) (files_of c)
     ⊎ IsOnFiles told asks c reply
-    → FirstIs told (λ file. IsTooLong (told file) × Gives status old new (too_long file) × AsksUpTo asks (files_of c) file)
+    → FirstIs most_bytes told (λ file. IsTooLong most_bytes (told file) × Gives status old new (too_long file) × AsksUpTo asks (files_of c) file)
     (files_of c)
     ⊎ Brings IsFaulty told asks c status old new
 malformed told asks c reply status old new given one (inl long) =
-    inl (gives_line told (λ file. IsTooLong (told file)) (AsksUpTo asks (files_of c)) too_long (files_of c) reply status old new
+    inl (gives_line told (λ file. IsTooLong most_bytes (told file)) (AsksUpTo asks (files_of c)) too_long (files_of c) reply status old new
     given long)
 malformed told asks c reply status old new given one (inr on) =
     inr (brings IsFaulty told asks c reply status old new on (on.is.malformed one) given)
@@ -270,7 +276,7 @@ complete_on c [] reply can on = absurd on
 complete_on c (ports ∷ []) reply can on = absurd on
 complete_on c (ports ∷ links ∷ more ∷ files) reply can on = absurd on
 
-answers_on : (c : Call) (files : List (List ℕ)) (reply : Reply) → AllFit files → IsAnswerableCall c files
+answers_on : (c : Call) (files : List (List ℕ)) (reply : Reply) → AllFit most_bytes files → IsAnswerableCall c files
     → IsReplyOnFiles c files reply → (reply.status ≡ 0) ⊎ (reply.status ≡ 9)
 answers_on c files reply fit can (inl long) = absurd
     (not_long most_bytes (λ file. reply ≡ too_long file) (files_of c) files long fit)
@@ -283,7 +289,7 @@ answer_or : (status code : ℕ) → status ≡ code → (code ≡ 0) ⊎ (code �
 answer_or status code same (inl zero_is) = inl (same ∙ zero_is)
 answer_or status code same (inr nine) = inr (inl (same ∙ nine))
 
-answers_or : (c : Call) (files : List (List ℕ)) (status : ℕ) (old new : Output) → AllFit files
+answers_or : (c : Call) (files : List (List ℕ)) (status : ℕ) (old new : Output) → AllFit most_bytes files
     → IsAnswerableCall c files
     → ((reply : Reply) × IsReplyOnFiles c files reply × Gives status old new reply)
     ⊎ ((status ≡ 3) ⊎ ((status ≡ 4) ⊎ (status ≡ 5)))
@@ -309,11 +315,11 @@ pub record Outcome {I : Type 0} (content : I → Told) (faults : I → ℕ) (las
     (before after : I) (status : ℕ) (old new : Output) : Type 0 where
   pub usage : status ≡ 2 → asked ≡ None
   pub text : IfSome (text_of asked) (λ reply. Gives status old new reply ⊎ ((status ≡ 4) ⊎ (status ≡ 5)))
-  pub read_fault : status ≡ 3 → IfSome (call_of asked) (λ c. FirstIs (content before)
+  pub read_fault : status ≡ 3 → IfSome (call_of asked) (λ c. FirstIs most_bytes (content before)
       (λ file. FailedAt faults last_fault file before after × Gives status old new (cannot_read file)
       × AsksUpTo (asks_of names before after) (files_of c) file) (files_of c))
   pub malformed : status ≡ 1 → IfSome (call_of asked) (λ c.
-      FirstIs (content before) (λ file. IsTooLong (content before file) × Gives status old new (too_long file)
+      FirstIs most_bytes (content before) (λ file. IsTooLong most_bytes (content before file) × Gives status old new (too_long file)
       × AsksUpTo (asks_of names before after) (files_of c) file) (files_of c)
       ⊎ Brings IsFaulty (content before) (asks_of names before after) c status old new)
   pub cycle : status ≡ 8 → IfSome (call_of asked) (λ c. Brings IsCyclic (content before) (asks_of names before after) c status old new)
@@ -486,21 +492,27 @@ never content faults last_fault names asked before after reply (inr found) =
     (h.no_four, h.no_five)
 
 -- ---- no other status
-code_known : (s : Status) → IsStatus (code_of s)
-code_known Done = inl (omega arith)
-code_known Malformed = inl (omega arith)
-code_known Usage = inl (omega arith)
-code_known ReadFault = inl (omega arith)
-code_known WriteFault = inl (omega arith)
-code_known NoMemory = inl (omega arith)
-code_known Cycle = inr (inl refl)
-code_known Missed = inr (inr refl)
+known_text : (n : ℕ) → (n ≡ 0) ⊎ (n ≡ 2) → IsStatus n
+known_text n (inl e) = inl (omega (arith, e))
+known_text n (inr e) = inl (omega (arith, e))
 
-pub known_status : (status : ℕ) (s : Status) → (status ≢ 4 → status ≡ code_of s) → IsStatus status
-known_status status s given =
+known_reply : {I : Type 0} (content : I → Told) (faults : I → ℕ) (last_fault : I → List ℕ)
+    (names : I → List (List ℕ)) (asked : Option Request) (before after : I) (reply : Reply)
+    → MayReply content faults last_fault names asked before after reply → IsStatus reply.status
+known_reply content faults last_fault names asked before after reply (inl text) =
+    known_text reply.status (text_status asked reply text.0)
+known_reply content faults last_fault names asked before after reply (inr found) =
+    (may_be faults last_fault (content before) (asks_of names before after) found.0 before after reply found.2).known
+
+pub known_status : {I : Type 0} (content : I → Told) (faults : I → ℕ) (last_fault : I → List ℕ)
+    (names : I → List (List ℕ)) (asked : Option Request) (before after : I) (reply : Reply) (status : ℕ)
+    → MayReply content faults last_fault names asked before after reply → (status ≢ 4 → status ≡ reply.status)
+    → IsStatus status
+known_status content faults last_fault names asked before after reply status may given =
     elim (cases_eq status 4) [
       | inl four ↦ inl (omega (arith, four))
-      | inr unlike ↦ subst IsStatus (sym (given unlike)) (code_known s)
+      | inr unlike ↦ subst IsStatus (sym (given unlike))
+          (known_reply content faults last_fault names asked before after reply may)
     ]
 
 -- ---- there is one reply

@@ -2,8 +2,8 @@
 use Rattle.std.specs.Prelude.{ℕ, ◌++◌, Bool, true, false, List, [], ◌∷◌, codes, Option, Some, None}
 use Rattle.netbound_cli.specs.words.Requests.{Request, Bounds, Help, Version}
 use Rattle.netbound_cli.specs.declared.words.request.Bounds as asked
-use Rattle.bounds_command.specs.declared.answer.Form.{Form}
-use Rattle.bounds_command.specs.declared.answer.Form.TheVariants.{Lines, Json}
+use Rattle.bounds_command.specs.declared.form.Form.{Form}
+use Rattle.bounds_command.specs.declared.form.Form.TheVariants.{Lines, Json}
 use Rattle.bounds_command.specs.Replies.{Reply, refusal}
 
 -- the names of the two files, the bytes that a frame has on the wire beside its own, and the form of the report

@@ -5,13 +5,14 @@ pub use Rattle.outside.specs.Fetching.{FailedAt}
 pub use Rattle.outside.specs.Written.{Output, output}
 use Rattle.replies.specs.Given as given
 pub use Rattle.replies.specs.Ended.{AsksUpTo, asks_of}
-use Rattle.bounds_command.specs.declared.answer.Form.{Form}
+use Rattle.bounds_command.specs.declared.form.Form.{Form}
 use Rattle.bounds_command.specs.Replies.{Reply, cannot_read, too_long}
 use Rattle.bounds_command.specs.OnTables.{Tables, tables, IsReplyOn}
 use Rattle.bounds_command.specs.Laws.{IsAnswerable}
 use Rattle.netbound_cli.specs.words.Requests.{Request}
 use Rattle.netbound_cli.specs.Calls.{Call, call_of, text_of, files_of}
-use Rattle.netbound_cli.specs.Files.{Told, most_bytes, MayHoldAll, FirstIs, FirstLong, AllFit, all_told}
+use Rattle.outside.specs.Files.{Told, FirstIs, MayHoldAll, FirstLong, AllFit, all_told}
+use Rattle.netbound_cli.specs.Files.{most_bytes}
 
 -- ---- on files
 -- K holds of the two tables of a call that hold these bytes, and of a reply
@@ -23,7 +24,7 @@ OnTables K c files reply = ⊥
 -- the reply of a call where its files hold these bytes
 abbrev pub IsReplyOnFiles : Call → List (List ℕ) → Reply → Type 0
 IsReplyOnFiles c files reply =
-    FirstLong (λ file. reply ≡ too_long file) (files_of c) files ⊎ (AllFit files × OnTables IsReplyOn c files reply)
+    FirstLong most_bytes (λ file. reply ≡ too_long file) (files_of c) files ⊎ (AllFit most_bytes files × OnTables IsReplyOn c files reply)
 
 -- The inputs end a call at this file: they failed at it, or it is too long.
 abbrev pub EndsAt : {I : Type 0} → (I → ℕ) → (I → List ℕ) → Told → I → I → Reply → List ℕ → Type 0
@@ -35,14 +36,14 @@ EndsAt faults last_fault told old new reply file =
 -- too long, or all.
 abbrev pub IsReplyAsking : (List (List ℕ) → Type 0) → Call → List (List ℕ) → Reply → Type 0
 IsReplyAsking asks c files reply =
-    FirstLong (λ file. (reply ≡ too_long file) × AsksUpTo asks (files_of c) file) (files_of c) files
-    ⊎ (AllFit files × OnTables IsReplyOn c files reply × asks (files_of c))
+    FirstLong most_bytes (λ file. (reply ≡ too_long file) × AsksUpTo asks (files_of c) file) (files_of c) files
+    ⊎ (AllFit most_bytes files × OnTables IsReplyOn c files reply × asks (files_of c))
 
 -- The inputs may bring this reply of a call: they failed at a file, those before which may fit, and none behind it is
 -- asked for; or it is the reply on what the files hold.
 abbrev pub MayReplyTo : {I : Type 0} → (I → ℕ) → (I → List ℕ) → Told → (List (List ℕ) → Type 0) → Call → I → I → Reply → Type 0
 MayReplyTo faults last_fault told asks c old new reply =
-    FirstIs told (λ file. FailedAt faults last_fault file old new × (reply ≡ cannot_read file)
+    FirstIs most_bytes told (λ file. FailedAt faults last_fault file old new × (reply ≡ cannot_read file)
     × AsksUpTo asks (files_of c) file) (files_of c)
     ⊎ ((files : List (List ℕ)) × MayHoldAll told (files_of c) files × IsReplyAsking asks c files reply)
 
@@ -76,7 +77,7 @@ pub record Brings (K : Tables → ℕ → Form → Reply → Type 0) (told : Tol
     (status : ℕ) (old new : Output) : Type 0 where
   pub files : List (List ℕ)
   pub held : MayHoldAll told (files_of c) files
-  pub fit : AllFit files
+  pub fit : AllFit most_bytes files
   pub asked : asks (files_of c)
   pub reply : Reply
   pub is : OnTables K c files reply
@@ -97,7 +98,7 @@ IsAnswerableCall c files = ⊥
 -- Where it is told that the files fit and are such a document, the report is written, or the status is 3, 4 or 5.
 abbrev pub AnswersWhatItCan : Call → Told → ℕ → Type 0
 AnswersWhatItCan c told status = IfSome (all_told told (files_of c)) (λ files.
-    AllFit files → IsAnswerableCall c files
+    AllFit most_bytes files → IsAnswerableCall c files
     → (status ≡ 0) ⊎ ((status ≡ 9) ⊎ ((status ≡ 3) ⊎ ((status ≡ 4) ⊎ (status ≡ 5)))))
 
 -- The sink failed in this call: there was one put, of the reply's bytes, a front of which was written.

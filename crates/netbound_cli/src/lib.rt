@@ -4,9 +4,8 @@
 mod laws;
 mod texts;
 mod top_call;
-mod unread;
 mod words;
 
-pub use bounds_command::Status;
 pub use laws::replies_are_determined;
+pub use replies::Status;
 pub use top_call::run;

@@ -9,17 +9,23 @@ ghost use Rattle.bounds_command.specs.View.{code_of, reply_of};
 ghost use Rattle.netbound_cli.specs.words.Requests as spec;
 ghost use Rattle.netbound_cli.specs.Calls as calls;
 ghost use Rattle.netbound_cli.specs.Calls.{call_of, text_of, files_of, names_of, bounds_call};
-ghost use Rattle.netbound_cli.specs.Files.{IsTooLong, FirstIs};
+ghost use Rattle.outside.specs.Files.{IsTooLong, FirstIs};
+ghost use Rattle.netbound_cli.specs.Files.{most_bytes};
 ghost use Rattle.netbound_cli.specs.Reply.{FailedAt, AsksUpTo, asks_of, MayReply, MayReplyTo, output, Gives, PutsOnce, Brings};
 ghost use Rattle.netbound_cli.specs.Reply.{GivesOnTold, AnswersWhatItCan, FailsToGive, IsOnBoth, IsStatus};
 
 use crate::texts::{HELP, USAGE, VERSION};
-use crate::unread::{MOST_BYTES, unread_answer};
 use crate::words::{Bounds, Request, WordFault, request_of};
-use bounds_command::{Answer, Form, Status, on_tables};
+use bounds_command::{Form, on_tables};
 use outside::{Inputs, NoMemory, Sink};
-use replies::{fetch_two, give};
+use replies::{Answer, Status, fetch_two, give, unread_answer};
 use std::alloc::Global;
+
+// What each line of a refusal begins with.
+const FRONT: &str = "netbound: ";
+
+// The most bytes that a table may have.
+const MOST_BYTES: usize = 16_777_216;
 
 // The form of a report.
 fn form_of(json: bool) -> Form
@@ -48,7 +54,7 @@ fn answer_to<I: Inputs>(alloc: Global, asked: Bounds, inputs: &mut I) -> Result<
             asked.overhead,
             form,
         ),
-        Err(unread) => unread_answer(alloc, unread),
+        Err(unread) => unread_answer(alloc, FRONT, unread),
     }
 }
 
@@ -73,7 +79,7 @@ fn answered<I: Inputs>(alloc: Global, words: &[String], inputs: &mut I) -> Resul
 fn text_answer(alloc: Global, status: Status, text: &str) -> Result<Answer, NoMemory>
     ensures { IfOk result (λ r. reply_of r ≡ record { status = code_of status; bytes = text.now }) }
 {
-    let text = String::from_str(alloc, text)?;
+    let text = Vec::from_slice(alloc, text.as_bytes())?;
     Ok(Answer { status, text })
 }
 
@@ -94,14 +100,14 @@ pub fn run<I: Inputs, K: Sink>(alloc: Global, words: &[String], inputs: &mut I, 
     // 3 only where the inputs failed in this call, and last at the file that the line names; that before it may fit, and
     // none behind it is asked for.
     ensures read_fault { result ≡ 3 → IfSome (call_of (spec.request_of (spec.texts words.now))) (λ c.
-        FirstIs (I.content inputs.old) (λ file. FailedAt I.faults I.last_fault file inputs.old inputs.new
+        FirstIs most_bytes (I.content inputs.old) (λ file. FailedAt I.faults I.last_fault file inputs.old inputs.new
         × Gives result (output K.written K.puts out.old) (output K.written K.puts out.new) (cannot_read file)
         × AsksUpTo (asks_of I.asked inputs.old inputs.new) (files_of c) file) (files_of c)) }
 
     // 1 only where a file, the first that does not fit, has more bytes than a table may have, and none behind it is asked
     // for, or the document has a fault, the first of which the line tells.
     ensures malformed { result ≡ 1 → IfSome (call_of (spec.request_of (spec.texts words.now))) (λ c.
-        FirstIs (I.content inputs.old) (λ file. IsTooLong (I.content inputs.old file)
+        FirstIs most_bytes (I.content inputs.old) (λ file. IsTooLong most_bytes (I.content inputs.old file)
         × Gives result (output K.written K.puts out.old) (output K.written K.puts out.new) (too_long file)
         × AsksUpTo (asks_of I.asked inputs.old inputs.new) (files_of c) file) (files_of c)
         ⊎ Brings IsFaulty (I.content inputs.old) (asks_of I.asked inputs.old inputs.new) c result
@@ -160,7 +166,7 @@ pub fn run<I: Inputs, K: Sink>(alloc: Global, words: &[String], inputs: &mut I, 
     ensures no_put { result ≡ 5 → K.puts out.new ≡ K.puts out.old }
 {
     match answered(alloc, words, inputs) {
-        Ok(answer) => give(out, answer.status.code(), answer.text.as_bytes()),
+        Ok(answer) => give(out, answer.status.code(), &answer.text),
         Err(_) => Status::NoMemory.code(),
     }
 }

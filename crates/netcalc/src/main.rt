@@ -10,26 +10,29 @@ mod printers;
 #[cfg(test)]
 mod worked;
 
-use netcalc_cli::{Status, run_counted};
-use outside::{DirInputs, NoMemory, StdSink};
-use std::env;
-use std::io::ErrorKind;
+ghost use Rattle.std.specs.Prelude.{◌≡◌, ◌<◌};
+
+use netcalc_cli::{Status, run};
+use outcomes::Steps;
+use outside::{DirInputs, Inputs, Sink, StdSink, words_of};
 use std::marker::Brand;
 use std::process::ExitCode;
-use std::sync::ledger::Blank;
+use std::sync::ledger::{Blank, Ledger};
 
-/// The words of the command line, or no words where one of them is not text: those are not taken.
-fn words_of(rt: &HostRuntime) -> Result<Vec<String>, NoMemory> {
-    match env::args(rt) {
-        Ok(words) => words.collect(rt.alloc()),
-        Err(fault) => {
-            if fault.kind() == ErrorKind::OutOfMemory {
-                Err(NoMemory)
-            } else {
-                Ok(Vec::new(rt.alloc()))
-            }
-        }
-    }
+/// Runs a command with a counter of its own, made from a blank ledger that a proof names. The counter ends with the call,
+/// so no caller could see how many steps it counts.
+fn run_counted<I: Inputs, K: Sink, L: Ledger>(
+    blank: Blank,
+    words: &[String],
+    inputs: &mut I,
+    out: &mut K,
+) -> u8
+    requires name { blank.name ≡ L.name }
+    requires parts { blank.parts ≡ L.parts }
+    requires one { 0 < blank.parts }
+{
+    let mut steps = Steps::<L>::new(blank);
+    run(words, inputs, out, &mut steps)
 }
 
 fn main(rt: HostRuntime) -> ExitCode {

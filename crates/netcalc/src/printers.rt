@@ -11,17 +11,22 @@ struct Narrow<'a> {
     room: usize,
 }
 
+/// What no sink asks of a printer.
+fn unsupported() -> io::Result<()> {
+    Err(io::Error::from(io::ErrorKind::Unsupported))
+}
+
 impl Print for Narrow<'_> {
     fn print<D: fmt::Display + Drop>(&self, _value: D) -> io::Result<()> {
-        Err(io::Error::from(io::ErrorKind::Unsupported))
+        unsupported()
     }
 
     fn println<D: fmt::Display + Drop>(&self, _value: D) -> io::Result<()> {
-        Err(io::Error::from(io::ErrorKind::Unsupported))
+        unsupported()
     }
 
     fn write_all(&self, _bytes: &[u8]) -> io::Result<()> {
-        Err(io::Error::from(io::ErrorKind::Unsupported))
+        unsupported()
     }
 
     fn write_some(&self, bytes: &[u8]) -> io::Result<usize> {

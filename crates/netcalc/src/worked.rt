@@ -1,7 +1,7 @@
 //! The worked examples of the specification, and some of them with a fetch or a put that fails, as whole commands in memory.
 
 use crate::cases::CASES;
-use netcalc_cli::run_counted;
+use crate::run_counted;
 use outside::{MemInputs, MemSink};
 use std::alloc::Global;
 use std::marker::Brand;

@@ -10,7 +10,7 @@ use Rattle.command_replies.specs.Replies.{Reply}
 use Rattle.command_replies.proofs.Causes.{with_reports}
 use Rattle.command_replies.proofs.OneRefusal.{equal}
 use Rattle.report_text.specs.declared.json_report.form.Form.{Form}
-use Rattle.commands.specs.analyse.AnswerCounts.{CountsOn}
+use Rattle.commands.specs.FileCounts.{CountsOnFile, CountsOnRows}
 use Rattle.commands.specs.analyse.OnFiles.{IsReportOf, IsReport}
 use Rattle.commands.proofs.analyse.Causes as analyse
 use Rattle.commands.proofs.analyse.OneReply as analysed
@@ -163,19 +163,16 @@ answer_given (Check net run) status other same h = report_given status other sam
 answer_given (Measure net trace name rate) status other same h = zero_given status other same h
 answer_given (Curve script) status other same h = zero_given status other same h
 
-counts_at : (bytes : List ℕ) (status other old new : ℕ) → IsGiven status other → CountsOn bytes status old new
-    → CountsOn bytes other old new
-counts_at bytes status other old new same h = record {
+-- by a file, where it is so by each network
+file_counts_at : (OnNet : Net → (status old new : ℕ) → Type 0) (bytes : List ℕ) (status other old new : ℕ)
+    → ((net : Net) (between : ℕ) → OnNet net status between new → OnNet net other between new)
+    → CountsOnFile OnNet bytes status old new → CountsOnFile OnNet bytes other old new
+file_counts_at OnNet bytes status other old new at h = record {
   between = h.between;
   rises = h.rises;
   folds = h.folds;
   refused = h.refused;
-  cells = λ net is. let k = h.cells net is in record {
-    rises = k.rises;
-    most = k.most;
-    report = λ zero. k.report (zero_given status other same zero);
-    round = k.round;
-  };
+  on_net = λ net is. at net h.between (h.on_net net is);
 }
 
 cells_at : (net : Net) (status other old new : ℕ) → IsGiven status other → CountsOnCells net status old new
@@ -187,31 +184,10 @@ cells_at net status other old new same k = record {
   round = k.round;
 }
 
-run_counts_at : (bytes rows : List ℕ) (status other old new : ℕ) → IsGiven status other
-    → run_counts.CountsOn bytes rows status old new → run_counts.CountsOn bytes rows other old new
-run_counts_at bytes rows status other old new same h = record {
-  between = h.between;
-  rises = h.rises;
-  folds = h.folds;
-  refused = h.refused;
-  cells = λ net is. let k = h.cells net is in record {
-    cells = cells_at net status other h.between new same k.cells;
-    refused = k.refused;
-  };
-}
-
-check_counts_at : (bytes rows : List ℕ) (status other old new : ℕ) → IsGiven status other
-    → check_counts.CountsOn bytes rows status old new → check_counts.CountsOn bytes rows other old new
-check_counts_at bytes rows status other old new same h = record {
-  between = h.between;
-  rises = h.rises;
-  folds = h.folds;
-  refused = h.refused;
-  cells = λ net is. let k = h.cells net is in record {
-    cells = cells_at net status other h.between new same k.cells;
-    refused = k.refused;
-  };
-}
+rows_at : {K : Type 0} (IsFault : K → ℕ → Type 0) (net : Net) (status other old new : ℕ) → IsGiven status other
+    → CountsOnRows IsFault net status old new → CountsOnRows IsFault net other old new
+rows_at IsFault net status other old new same k =
+    record { cells = cells_at net status other old new same k.cells; refused = k.refused }
 
 measure_counts_at : (bytes : List ℕ) (status other old new : ℕ) → IsGiven status other
     → measure_counts.CountsOn bytes status old new → measure_counts.CountsOn bytes other old new
@@ -239,16 +215,6 @@ edits_at net rows status other old new same (inr k) = inr (record {
   };
 })
 
-edit_counts_at : (bytes rows : List ℕ) (status other old new : ℕ) → IsGiven status other
-    → edit_counts.CountsOn bytes rows status old new → edit_counts.CountsOn bytes rows other old new
-edit_counts_at bytes rows status other old new same h = record {
-  between = h.between;
-  rises = h.rises;
-  folds = h.folds;
-  refused = h.refused;
-  edits = λ net is. edits_at net rows status other h.between new same (h.edits net is);
-}
-
 script_counts_at : (bytes : List ℕ) (status other old new : ℕ) → IsGiven status other
     → script_counts.CountsOn bytes status old new → script_counts.CountsOn bytes other old new
 script_counts_at bytes status other old new same (inl none) =
@@ -265,15 +231,20 @@ script_counts_at bytes status other old new same (inr k) = inr record {
 
 pub counts_by_command : (command : Command) (files : List (List ℕ)) (status other old new : ℕ)
     → IsGiven status other → CountsTo command files status old new → CountsTo command files other old new
-counts_by_command (Analyse form net) (bytes ∷ []) status other old new same h = counts_at bytes status other old new same h
+counts_by_command (Analyse form net) (bytes ∷ []) status other old new same h =
+    file_counts_at CountsOnCells bytes status other old new
+    (λ model between k. cells_at model status other between new same k) h
 counts_by_command (Edit form net edits) (bytes ∷ rows ∷ []) status other old new same h =
-    edit_counts_at bytes rows status other old new same h
+    file_counts_at (λ model. edit_counts.CountsOnNet model rows) bytes status other old new
+    (λ model between k. edits_at model rows status other between new same k) h
 counts_by_command (Simulate net trace) (bytes ∷ rows ∷ []) status other old new same h =
-    run_counts_at bytes rows status other old new same h
+    file_counts_at (λ model. run_counts.CountsOnNet model rows) bytes status other old new
+    (λ model between k. rows_at _ model status other between new same k) h
 counts_by_command (Exercise seed) [] status other old new same h =
     cells_at (network_of seed) status other old new same h
 counts_by_command (Check net run) (bytes ∷ rows ∷ []) status other old new same h =
-    check_counts_at bytes rows status other old new same h
+    file_counts_at (λ model. check_counts.CountsOnNet model rows) bytes status other old new
+    (λ model between k. rows_at _ model status other between new same k) h
 counts_by_command (Measure net trace name rate) (bytes ∷ rows ∷ []) status other old new same h =
     measure_counts_at bytes status other old new same h
 counts_by_command (Curve script) (bytes ∷ []) status other old new same h =

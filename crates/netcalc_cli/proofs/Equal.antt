@@ -10,7 +10,8 @@ use Rattle.commands.specs.edit_report.Said.{EditSaid}
 use Rattle.commands.specs.edit.EditLaws.{AreSameReports, AreAlike}
 use Rattle.netcalc_cli.specs.Commands.{Command, Analyse, Edit, Simulate, Exercise, Check, Measure, Curve}
 use Rattle.netcalc_cli.specs.Commands.{files_of, AreSameTo, IsCyclic}
-use Rattle.netcalc_cli.specs.Files.{FirstLong}
+use Rattle.outside.specs.Files.{FirstLong}
+use Rattle.netcalc_cli.specs.Files.{most_bytes}
 use Rattle.netcalc_cli.specs.Reply.{IsReplyOnFiles, Gives}
 use Rattle.netcalc_cli.proofs.ByCommand.{by_command}
 use Rattle.netcalc_cli.proofs.Replies.{replies_are_alike}
@@ -52,7 +53,7 @@ rounds (Check net run) (bytes ∷ rows ∷ []) x y (n, g, (t, r, c)) (m, k, (u, 
 rounds command files x y h k = absurd h
 
 -- of a file that is too long the status is 1
-long_status : (x : Reply) (names files : List (List ℕ)) → FirstLong (λ file. x ≡ too_long file) names files → x.status ≡ 1
+long_status : (x : Reply) (names files : List (List ℕ)) → FirstLong most_bytes (λ file. x ≡ too_long file) names files → x.status ≡ 1
 long_status x [] files h = absurd h
 long_status x (name ∷ names) [] h = absurd h
 long_status x (name ∷ names) (bytes ∷ files) (inl h) = ap (λ (r : Reply). r.status) h.1

@@ -3,7 +3,8 @@ use Rattle.std.proofs.Common.{◌≡◌, ◌≢◌, ℕ, List, inl, inr, sym, �
 use Rattle.command_replies.specs.Replies.{Reply, cannot_read, too_long}
 use Rattle.command_replies.proofs.Statuses.{status_is as status_of}
 use Rattle.netcalc_cli.specs.Commands.{Command, files_of}
-use Rattle.netcalc_cli.specs.Files.{most_bytes, Told}
+use Rattle.outside.specs.Files.{Told}
+use Rattle.netcalc_cli.specs.Files.{most_bytes}
 use Rattle.netcalc_cli.specs.Reply.{MayReplyTo, FailedAt}
 use Rattle.netcalc_cli.proofs.ByCommand.{by_command}
 use Rattle.replies.proofs.FileLemmas.{first_shows, long_shows}

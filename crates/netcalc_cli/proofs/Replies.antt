@@ -10,14 +10,15 @@ use Rattle.replies.specs.declared.fetching.Unread.{Unread}
 use Rattle.replies.specs.Ended.{EndsIn, AsksUpTo, Tells, asks_of}
 use Rattle.replies.proofs.Ends.{told_in}
 use Rattle.replies.proofs.Fetches.{up_to_end}
-use Rattle.command_replies.specs.declared.answer.Answer.{Answer}
+use Rattle.replies.specs.declared.answer.Answer.{Answer}
 use Rattle.command_replies.specs.Replies.{Reply, cannot_read, too_long}
 use Rattle.command_replies.specs.View.{code_of, reply_of, status_of}
 use Rattle.netcalc_cli.specs.Commands.{Command, files_of, AreSameTo, IsReplyTo, IsMalformed, IsOver, IsCyclic, TellsBreach, IsDone}
 use Rattle.netcalc_cli.specs.Commands.{Analyse, Edit, Simulate, Exercise, Check, Measure, Curve, IsAnswerable, IsAnswer, CountsTo}
 use Rattle.netcalc_cli.specs.Answered.{IsAnswered}
 use Rattle.netcalc_cli.specs.Counts.{CountsOnCommand, Counts}
-use Rattle.netcalc_cli.specs.Files.{most_bytes, Told, IsTooLong, FirstIs, MayHoldAll, AllFit, all_told}
+use Rattle.outside.specs.Files.{Told, IsTooLong, FirstIs, MayHoldAll, AllFit, all_told}
+use Rattle.netcalc_cli.specs.Files.{most_bytes}
 use Rattle.netcalc_cli.specs.Reply.{IsReplyOnFiles, StandsOnFiles, FailedAt, EndsAt, MayReplyTo, Gives, Brings, GivesOnTold, AnswersWhatItCan}
 use Rattle.netcalc_cli.proofs.ByCommand.{IsByStatus, by_command, equal_by_command, one_by_command, complete_by_command}
 use Rattle.netcalc_cli.proofs.ByCommand.{IsGiven, answer_given, counts_by_command}
@@ -27,7 +28,7 @@ use Rattle.replies.proofs.FileLemmas.{same_told, on_told, any_told}
 -- ---- what the inputs may bring
 -- fetching ended at a file
 ends : {I : Type 0} (faults : I → ℕ) (last_fault : I → List ℕ) (told : Told) (command : Command) (old new : I)
-    (reply : Reply) → FirstIs told (EndsAt faults last_fault told old new reply) (files_of command)
+    (reply : Reply) → FirstIs most_bytes told (EndsAt faults last_fault told old new reply) (files_of command)
     → MayReplyTo faults last_fault told command old new reply
 ends faults last_fault told command old new reply h =
     elim (ended most_bytes told (λ file. FailedAt faults last_fault file old new × (reply ≡ cannot_read file))
@@ -53,7 +54,7 @@ none_of faults last_fault told old new file a (inr long) =
 
 none_in : {I E : Type 0} (faults : I → ℕ) (last_fault : I → List ℕ) (told : Told) (old new : I)
     (files : List (List ℕ)) (r : Result Answer E)
-    → IfOk r (λ a. FirstIs told (EndsAt faults last_fault told old new (reply_of a)) files) → IsNoAnswer (status_of r)
+    → IfOk r (λ a. FirstIs most_bytes told (EndsAt faults last_fault told old new (reply_of a)) files) → IsNoAnswer (status_of r)
 none_in faults last_fault told old new files (Ok a) h =
     first_shows most_bytes told (EndsAt faults last_fault told old new (reply_of a)) (IsNoAnswer (code_of a.status)) files
     (λ file at. none_of faults last_fault told old new file a at) h
@@ -71,7 +72,7 @@ no_answer (Curve script) status none h = none.zero h
 
 no_answer_in : {I E : Type 0} (faults : I → ℕ) (last_fault : I → List ℕ) (told : Told) (command : Command)
     (old new : I) (files : List (List ℕ)) (r : Result Answer E)
-    → IfOk r (λ a. FirstIs told (EndsAt faults last_fault told old new (reply_of a)) files)
+    → IfOk r (λ a. FirstIs most_bytes told (EndsAt faults last_fault told old new (reply_of a)) files)
     → ¬ (IsAnswer command (status_of r))
 no_answer_in faults last_fault told command old new files r h =
     no_answer command (status_of r) (none_in faults last_fault told old new files r h)
@@ -83,7 +84,7 @@ not_on_files status none (inr more) = let few = none.few in omega (arith, few, m
 
 not_in_files : {I E : Type 0} (faults : I → ℕ) (last_fault : I → List ℕ) (told : Told) (old new : I)
     (files : List (List ℕ)) (r : Result Answer E)
-    → IfOk r (λ a. FirstIs told (EndsAt faults last_fault told old new (reply_of a)) files)
+    → IfOk r (λ a. FirstIs most_bytes told (EndsAt faults last_fault told old new (reply_of a)) files)
     → ¬ (StandsOnFiles (status_of r))
 not_in_files faults last_fault told old new files r h =
     not_on_files (status_of r) (none_in faults last_fault told old new files r h)
@@ -126,13 +127,13 @@ pub nothing_answered : (asked : Option Command) (told : Told) (status : ℕ) →
 nothing_answered asked told status five =
     any_told asked (λ command. AnswersWhatItCan command told status)
     (λ command. any_told (all_told told (files_of command))
-    (λ files. AllFit files → IsAnswerable command files
+    (λ files. AllFit most_bytes files → IsAnswerable command files
     → IsAnswer command status ⊎ ((status ≡ 3) ⊎ ((status ≡ 4) ⊎ (status ≡ 5))))
     (λ files fit can. inr (inr (inr five))))
 
 -- ---- or the files were fetched
 answers : {I : Type 0} (faults : I → ℕ) (last_fault : I → List ℕ) (told : Told) (command : Command) (old new : I)
-    (reply : Reply) (files : List (List ℕ)) → MayHoldAll told (files_of command) files → AllFit files
+    (reply : Reply) (files : List (List ℕ)) → MayHoldAll told (files_of command) files → AllFit most_bytes files
     → IsReplyTo command files reply
     → MayReplyTo faults last_fault told command old new reply
 answers faults last_fault told command old new reply files held fit is = inr (files, held, inr (fit, is))
@@ -141,7 +142,7 @@ answers faults last_fault told command old new reply files held fit is = inr (fi
 -- on what its files hold
 pub on_files : {I E : Type 0} (content : I → List ℕ → Option (List ℕ)) (faults : I → ℕ) (last_fault : I → List ℕ)
     (asked had : I → List (List ℕ)) (command : Command) (old new : I) (r : Result Answer E) (before after : ℕ)
-    (files : List (List ℕ)) → MayHoldAll (content old) (files_of command) files → AllFit files
+    (files : List (List ℕ)) → MayHoldAll (content old) (files_of command) files → AllFit most_bytes files
     → FetchesAll asked had (files_of command) old new → IfOk r (λ a. IsReplyTo command files (reply_of a))
     → CountsTo command files (status_of r) before after
     → IsAnswered content faults last_fault asked had command old new r before after
@@ -158,7 +159,7 @@ replied : {I E : Type 0} (faults : I → ℕ) (last_fault : I → List ℕ) (tol
     (old new : I) (unread : Unread) (names : List (List ℕ)) (r : Result Answer E)
     → EndsIn most_bytes faults last_fault told asks old new unread names
     → IfOk r (λ a. Tells cannot_read too_long unread (reply_of a))
-    → IfOk r (λ a. FirstIs told (EndsAt faults last_fault told old new (reply_of a)) names)
+    → IfOk r (λ a. FirstIs most_bytes told (EndsAt faults last_fault told old new (reply_of a)) names)
 replied faults last_fault told asks old new unread names (Ok a) ended tells =
     first_map most_bytes told
     (λ file. EndsAt faults last_fault told old new (reply_of a) file × AsksUpTo asks names file)
@@ -187,16 +188,16 @@ on_end content faults last_fault asked had command old new unread r count asked_
 record IsOnFiles (told : Told) (command : Command) (reply : Reply) : Type 0 where
   files : List (List ℕ)
   held : MayHoldAll told (files_of command) files
-  fit : AllFit files
+  fit : AllFit most_bytes files
   is : IsByStatus command files reply
 
 -- what the inputs may bring, by status
 record MayBe {I : Type 0} (faults : I → ℕ) (last_fault : I → List ℕ) (told : Told) (command : Command) (old new : I)
     (reply : Reply) : Type 0 where
   three : reply.status ≡ 3
-      → FirstIs told (λ file. FailedAt faults last_fault file old new × (reply ≡ cannot_read file)) (files_of command)
+      → FirstIs most_bytes told (λ file. FailedAt faults last_fault file old new × (reply ≡ cannot_read file)) (files_of command)
   one : reply.status ≡ 1
-      → FirstIs told (λ file. IsTooLong (told file) × (reply ≡ too_long file)) (files_of command)
+      → FirstIs most_bytes told (λ file. IsTooLong most_bytes (told file) × (reply ≡ too_long file)) (files_of command)
       ⊎ IsOnFiles told command reply
   rest : reply.status ≢ 1 → reply.status ≢ 3 → IsOnFiles told command reply
 
@@ -232,10 +233,10 @@ may_be faults last_fault told command old new reply (inr found) =
 pub record IsBrought {I : Type 0} (faults : I → ℕ) (last_fault : I → List ℕ) (told : Told) (command : Command)
     (before after : I) (status : ℕ) (old new : Output) : Type 0 where
   pub read_fault : status ≡ 3
-      → FirstIs told (λ file. FailedAt faults last_fault file before after × Gives status old new (cannot_read file))
+      → FirstIs most_bytes told (λ file. FailedAt faults last_fault file before after × Gives status old new (cannot_read file))
       (files_of command)
   pub malformed : status ≡ 1
-      → FirstIs told (λ file. IsTooLong (told file) × Gives status old new (too_long file)) (files_of command)
+      → FirstIs most_bytes told (λ file. IsTooLong most_bytes (told file) × Gives status old new (too_long file)) (files_of command)
       ⊎ Brings IsMalformed told command status old new
   pub too_many : status ≡ 7 → Brings (IsOver TooMany) told command status old new
   pub too_wide : status ≡ 6 → Brings (IsOver TooWide) told command status old new
@@ -254,20 +255,20 @@ brings P told command reply status old new on is given =
 -- the line that tells a file
 gives_line : (told : Told) (P : List ℕ → Type 0) (line : List ℕ → Reply) (names : List (List ℕ)) (reply : Reply)
     (status : ℕ) (old new : Output) → Gives status old new reply
-    → FirstIs told (λ file. P file × (reply ≡ line file)) names
-    → FirstIs told (λ file. P file × Gives status old new (line file)) names
+    → FirstIs most_bytes told (λ file. P file × (reply ≡ line file)) names
+    → FirstIs most_bytes told (λ file. P file × Gives status old new (line file)) names
 gives_line told P line names reply status old new given h =
     first_map most_bytes told (λ file. P file × (reply ≡ line file)) (λ file. P file × Gives status old new (line file)) names
     (λ file k. (k.0, subst (Gives status old new) k.1 given)) h
 
 malformed : (told : Told) (command : Command) (reply : Reply) (status : ℕ) (old new : Output)
     → Gives status old new reply → reply.status ≡ 1
-    → FirstIs told (λ file. IsTooLong (told file) × (reply ≡ too_long file)) (files_of command)
+    → FirstIs most_bytes told (λ file. IsTooLong most_bytes (told file) × (reply ≡ too_long file)) (files_of command)
     ⊎ IsOnFiles told command reply
-    → FirstIs told (λ file. IsTooLong (told file) × Gives status old new (too_long file)) (files_of command)
+    → FirstIs most_bytes told (λ file. IsTooLong most_bytes (told file) × Gives status old new (too_long file)) (files_of command)
     ⊎ Brings IsMalformed told command status old new
 malformed told command reply status old new given one (inl long) =
-    inl (gives_line told (λ file. IsTooLong (told file)) too_long (files_of command) reply status old new given long)
+    inl (gives_line told (λ file. IsTooLong most_bytes (told file)) too_long (files_of command) reply status old new given long)
 malformed told command reply status old new given one (inr on) =
     inr (brings IsMalformed told command reply status old new on (on.is.malformed one) given)
 
@@ -320,13 +321,13 @@ told_given faults last_fault told command before after reply status old new may 
     ]
 
 -- ---- on files that can be answered
-answers_on : (command : Command) (files : List (List ℕ)) (reply : Reply) → AllFit files → IsAnswerable command files
+answers_on : (command : Command) (files : List (List ℕ)) (reply : Reply) → AllFit most_bytes files → IsAnswerable command files
     → IsReplyOnFiles command files reply → IsAnswer command reply.status
 answers_on command files reply fit can (inl long) =
     absurd (not_long most_bytes (λ file. reply ≡ too_long file) (files_of command) files long fit)
 answers_on command files reply fit can (inr on) = complete_by_command command files reply can on.1
 
-answers_or : (command : Command) (files : List (List ℕ)) (status : ℕ) (old new : Output) → AllFit files
+answers_or : (command : Command) (files : List (List ℕ)) (status : ℕ) (old new : Output) → AllFit most_bytes files
     → IsAnswerable command files
     → ((reply : Reply) × IsReplyOnFiles command files reply × Gives status old new reply)
     ⊎ ((status ≡ 3) ⊎ ((status ≡ 4) ⊎ (status ≡ 5)))

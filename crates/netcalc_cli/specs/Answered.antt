@@ -1,7 +1,7 @@
 -- What stands of a command's answer, with the files that were asked for and the steps that it took.
 use Rattle.std.specs.Prelude.{ℕ, List, Option, Result, IfOk}
 use Rattle.outside.specs.Fetching.{FetchesAll, FetchesUpTo}
-use Rattle.command_replies.specs.declared.answer.Answer.{Answer}
+use Rattle.replies.specs.declared.answer.Answer.{Answer}
 use Rattle.command_replies.specs.View.{reply_of, status_of}
 use Rattle.netcalc_cli.specs.Commands.{Command, files_of}
 use Rattle.netcalc_cli.specs.Counts.{CountsOnCommand}

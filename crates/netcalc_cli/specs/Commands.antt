@@ -14,7 +14,7 @@ use Rattle.command_replies.specs.Replies.{Reply, AreSame}
 use Rattle.command_replies.specs.Guarantee.{Guarantees}
 use Rattle.command_replies.specs.OnFiles.{IsBroken, IsOverLimit, HasCycle}
 use Rattle.commands.specs.analyse.OnFiles.{IsReplyOn, IsReportOf}
-use Rattle.commands.specs.analyse.AnswerCounts.{CountsOn}
+use Rattle.commands.specs.FileCounts.{CountsOnFile}
 use Rattle.commands.specs.analyse.AnswerLaws.{IsWithinLimits}
 use Rattle.commands.specs.edit.OnEdits.{IsEditReply, IsReported}
 use Rattle.commands.specs.edit.EditCauses as edit_causes
@@ -197,11 +197,14 @@ IsAnswer (Curve script) status = status ≡ 0
 
 -- ---- steps, by the status and the counts before and after
 abbrev pub CountsTo : Command → List (List ℕ) → (status old new : ℕ) → Type 0
-CountsTo (Analyse form net) (bytes ∷ []) status old new = CountsOn bytes status old new
-CountsTo (Edit form net edits) (bytes ∷ rows ∷ []) status old new = edit_counts.CountsOn bytes rows status old new
-CountsTo (Simulate net trace) (bytes ∷ rows ∷ []) status old new = run_counts.CountsOn bytes rows status old new
+CountsTo (Analyse form net) (bytes ∷ []) status old new = CountsOnFile CountsOnCells bytes status old new
+CountsTo (Edit form net edits) (bytes ∷ rows ∷ []) status old new =
+    CountsOnFile (λ model. edit_counts.CountsOnNet model rows) bytes status old new
+CountsTo (Simulate net trace) (bytes ∷ rows ∷ []) status old new =
+    CountsOnFile (λ model. run_counts.CountsOnNet model rows) bytes status old new
 CountsTo (Exercise seed) [] status old new = CountsOnCells (network_of seed) status old new
-CountsTo (Check net run) (bytes ∷ rows ∷ []) status old new = check_counts.CountsOn bytes rows status old new
+CountsTo (Check net run) (bytes ∷ rows ∷ []) status old new =
+    CountsOnFile (λ model. check_counts.CountsOnNet model rows) bytes status old new
 CountsTo (Measure net trace name rate) (bytes ∷ rows ∷ []) status old new = measure_counts.CountsOn bytes status old new
 CountsTo (Curve script) (bytes ∷ []) status old new = script_counts.CountsOn bytes status old new
 CountsTo command files status old new = ⊥

@@ -1,13 +1,14 @@
 -- How many steps a call takes.
 use Rattle.std.specs.Prelude.{◌≡◌, ◌⊎◌, ℕ, List, Option, Some, None}
 use Rattle.netcalc_cli.specs.Commands.{Command, files_of, IsAnswer, CountsTo}
-use Rattle.netcalc_cli.specs.Files.{Told, MayHoldAll, AllFit}
+use Rattle.outside.specs.Files.{Told, MayHoldAll, AllFit}
+use Rattle.netcalc_cli.specs.Files.{most_bytes}
 
 -- The files of a command hold bytes that are not too many, and the steps are those of its answer on them.
 pub record CountsOnFiles (told : Told) (command : Command) (status old new : ℕ) : Type 0 where
   pub files : List (List ℕ)
   pub held : MayHoldAll told (files_of command) files
-  pub fit : AllFit files
+  pub fit : AllFit most_bytes files
   pub counts : CountsTo command files status old new
 
 -- That, or none; and not none where the status is that of an answer.

@@ -3,7 +3,7 @@ use Rattle.std.specs.Prelude.{◌≡◌, ◌≢◌, ℕ, List, Some}
 use Rattle.outside.specs.Written.{Output, PutsWhole}
 use Rattle.command_replies.specs.Replies.{Reply}
 use Rattle.netcalc_cli.specs.Commands.{Command, files_of}
-use Rattle.netcalc_cli.specs.Files.{Told, all_told}
+use Rattle.outside.specs.Files.{Told, all_told}
 use Rattle.netcalc_cli.specs.Reply.{IsReplyOnFiles, GivesOnTold}
 
 -- status and bytes are determined by the command and by what its files hold, at each status

@@ -6,7 +6,8 @@ use Rattle.outside.specs.Written.{Output}
 use Rattle.replies.specs.Given as given
 use Rattle.command_replies.specs.Replies.{Reply, usage, cannot_read, too_long}
 use Rattle.netcalc_cli.specs.Commands.{Command, files_of, IsReplyTo, IsAnswerable, IsAnswer}
-use Rattle.netcalc_cli.specs.Files.{Told, most_bytes, MayHoldAll, FirstIs, FirstLong, AllFit, all_told}
+use Rattle.outside.specs.Files.{Told, FirstIs, MayHoldAll, FirstLong, AllFit, all_told}
+use Rattle.netcalc_cli.specs.Files.{most_bytes}
 
 -- the commands that the usage line tells
 abbrev pub commands : List ℕ
@@ -18,7 +19,7 @@ commands =
 -- the reply of a command where its files hold these bytes
 abbrev pub IsReplyOnFiles : Command → List (List ℕ) → Reply → Type 0
 IsReplyOnFiles command files reply =
-    FirstLong (λ file. reply ≡ too_long file) (files_of command) files ⊎ (AllFit files × IsReplyTo command files reply)
+    FirstLong most_bytes (λ file. reply ≡ too_long file) (files_of command) files ⊎ (AllFit most_bytes files × IsReplyTo command files reply)
 
 -- The inputs end a call at this file: they failed at it, or it is too long.
 abbrev pub EndsAt : {I : Type 0} → (I → ℕ) → (I → List ℕ) → Told → I → I → Reply → List ℕ → Type 0
@@ -30,7 +31,7 @@ EndsAt faults last_fault told old new reply file =
 -- on what the files hold.
 abbrev pub MayReplyTo : {I : Type 0} → (I → ℕ) → (I → List ℕ) → Told → Command → I → I → Reply → Type 0
 MayReplyTo faults last_fault told command old new reply =
-    FirstIs told (λ file. FailedAt faults last_fault file old new × (reply ≡ cannot_read file)) (files_of command)
+    FirstIs most_bytes told (λ file. FailedAt faults last_fault file old new × (reply ≡ cannot_read file)) (files_of command)
     ⊎ ((files : List (List ℕ)) × MayHoldAll told (files_of command) files × IsReplyOnFiles command files reply)
 
 -- Words and inputs may bring this reply.
@@ -54,7 +55,7 @@ pub record Brings (IsKind : Command → List (List ℕ) → Reply → Type 0) (t
     (old new : Output) : Type 0 where
   pub files : List (List ℕ)
   pub held : MayHoldAll told (files_of command) files
-  pub fit : AllFit files
+  pub fit : AllFit most_bytes files
   pub reply : Reply
   pub is : IsKind command files reply
   pub given : Gives status old new reply
@@ -68,7 +69,7 @@ GivesOnTold command told status old new = IfSome (all_told told (files_of comman
 -- Where it is told that the files fit and can be answered, the status is that of an answer, or 3, 4 or 5.
 abbrev pub AnswersWhatItCan : Command → Told → ℕ → Type 0
 AnswersWhatItCan command told status = IfSome (all_told told (files_of command)) (λ files.
-    AllFit files → IsAnswerable command files
+    AllFit most_bytes files → IsAnswerable command files
     → IsAnswer command status ⊎ ((status ≡ 3) ⊎ ((status ≡ 4) ⊎ (status ≡ 5))))
 
 -- The sink failed in this call: there was one put, of the reply's bytes, a front of which was written.

@@ -6,23 +6,21 @@ ghost use Rattle.netcalc_cli.specs.Answered.{IsAnswered};
 ghost use Rattle.netcalc_cli.specs.Commands as commands;
 ghost use Rattle.netcalc_cli.specs.View.{command_view};
 
-use crate::unread::{MOST_BYTES, unread_answer};
 use crate::words::Command;
-use command_replies::Answer;
-use commands::analyse::on_bytes;
-use commands::check::on_run;
-use commands::curve::on_script;
-use commands::edit::on_edits;
-use commands::exercise::on_seed;
-use commands::measure::on_measure;
-use commands::simulate::on_trace;
+use commands::{analyse, check, curve, edit, exercise, measure, simulate};
 use fraction128::Frac;
 use outcomes::Steps;
 use outside::{Inputs, NoMemory};
-use replies::{fetch_one, fetch_two};
+use replies::{Answer, fetch_one, fetch_two, unread_answer};
 use report_text::json_report::Form;
 use std::alloc::Global;
 use std::sync::ledger::Ledger;
+
+// What each line of a refusal begins with.
+const FRONT: &str = "netcalc: ";
+
+// The most bytes that a file may have.
+const MOST_BYTES: usize = 1_048_576;
 
 fn on_network<I: Inputs, L: Ledger>(
     alloc: Global,
@@ -35,8 +33,8 @@ fn on_network<I: Inputs, L: Ledger>(
         inputs.old inputs.new result steps.old steps.new }
 {
     match fetch_one(alloc, MOST_BYTES, net, inputs) {
-        Ok(bytes) => on_bytes(alloc, net, &bytes, form, steps),
-        Err(unread) => unread_answer(alloc, unread),
+        Ok(bytes) => analyse::answer_on(alloc, net, &bytes, form, steps),
+        Err(unread) => unread_answer(alloc, FRONT, unread),
     }
 }
 
@@ -52,8 +50,8 @@ fn on_edited<I: Inputs, L: Ledger>(
         inputs.old inputs.new result steps.old steps.new }
 {
     match fetch_two(alloc, MOST_BYTES, net, edits, inputs) {
-        Ok((bytes, rows)) => on_edits(alloc, net, &bytes, edits, &rows, form, steps),
-        Err(unread) => unread_answer(alloc, unread),
+        Ok((bytes, rows)) => edit::answer_on(alloc, net, &bytes, edits, &rows, form, steps),
+        Err(unread) => unread_answer(alloc, FRONT, unread),
     }
 }
 
@@ -68,8 +66,8 @@ fn on_simulated<I: Inputs, L: Ledger>(
         inputs.old inputs.new result steps.old steps.new }
 {
     match fetch_two(alloc, MOST_BYTES, net, trace, inputs) {
-        Ok((bytes, rows)) => on_trace(alloc, net, &bytes, trace, &rows, steps),
-        Err(unread) => unread_answer(alloc, unread),
+        Ok((bytes, rows)) => simulate::answer_on(alloc, net, &bytes, trace, &rows, steps),
+        Err(unread) => unread_answer(alloc, FRONT, unread),
     }
 }
 
@@ -84,8 +82,8 @@ fn on_checked<I: Inputs, L: Ledger>(
         inputs.old inputs.new result steps.old steps.new }
 {
     match fetch_two(alloc, MOST_BYTES, net, run, inputs) {
-        Ok((bytes, rows)) => on_run(alloc, net, &bytes, run, &rows, steps),
-        Err(unread) => unread_answer(alloc, unread),
+        Ok((bytes, rows)) => check::answer_on(alloc, net, &bytes, run, &rows, steps),
+        Err(unread) => unread_answer(alloc, FRONT, unread),
     }
 }
 
@@ -99,7 +97,7 @@ fn on_exercise<I: Inputs, L: Ledger>(
     ensures { IsAnswered I.content I.faults I.last_fault I.asked I.had (commands.Exercise seed)
         inputs.now inputs.now result steps.old steps.new }
 {
-    on_seed(alloc, seed, steps)
+    exercise::answer_on(alloc, seed, steps)
 }
 
 fn on_measured<I: Inputs, L: Ledger>(
@@ -116,8 +114,10 @@ fn on_measured<I: Inputs, L: Ledger>(
         inputs.old inputs.new result steps.old steps.new }
 {
     match fetch_two(alloc, MOST_BYTES, net, trace, inputs) {
-        Ok((bytes, rows)) => on_measure(alloc, net, &bytes, trace, &rows, name, rate, steps),
-        Err(unread) => unread_answer(alloc, unread),
+        Ok((bytes, rows)) => measure::answer_on(
+            alloc, net, &bytes, trace, &rows, name, rate, steps,
+        ),
+        Err(unread) => unread_answer(alloc, FRONT, unread),
     }
 }
 
@@ -131,8 +131,8 @@ fn on_curves<I: Inputs, L: Ledger>(
         inputs.old inputs.new result steps.old steps.new }
 {
     match fetch_one(alloc, MOST_BYTES, script, inputs) {
-        Ok(bytes) => on_script(alloc, script, &bytes, steps),
-        Err(unread) => unread_answer(alloc, unread),
+        Ok(bytes) => curve::answer_on(alloc, script, &bytes, steps),
+        Err(unread) => unread_answer(alloc, FRONT, unread),
     }
 }
 

@@ -5,9 +5,8 @@
 mod answering;
 mod laws;
 mod top_call;
-mod unread;
 mod words;
 
-pub use command_replies::Status;
 pub use laws::{calls_are_determined, replies_are_determined};
-pub use top_call::{run, run_counted};
+pub use replies::Status;
+pub use top_call::run;

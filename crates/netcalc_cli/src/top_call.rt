@@ -1,6 +1,6 @@
-//! The top call, and with a counter of its own.
+//! The top call.
 
-ghost use Rattle.std.specs.Prelude.{◌≡◌, ◌≢◌, ◌≤◌, ◌<◌, ◌⊎◌, None, IfSome};
+ghost use Rattle.std.specs.Prelude.{◌≡◌, ◌≢◌, ◌≤◌, ◌⊎◌, None, IfSome};
 ghost use Rattle.outside.specs.Fetching.{FetchesAll, FetchesUpTo};
 ghost use Rattle.outside.specs.Written.{output};
 ghost use Rattle.upp_limits.specs.declared.own_limits.OverLimit.TheVariants as limits;
@@ -8,17 +8,18 @@ ghost use Rattle.command_replies.specs.Replies.{Reply, usage, cannot_read, too_l
 ghost use Rattle.command_replies.specs.View.{code_of};
 ghost use Rattle.netcalc_cli.specs.Commands.{files_of, names_of, IsMalformed, IsOver, IsCyclic, TellsBreach, IsDone};
 ghost use Rattle.netcalc_cli.specs.Counts.{Counts};
-ghost use Rattle.netcalc_cli.specs.Files.{IsTooLong, FirstIs};
+ghost use Rattle.outside.specs.Files.{IsTooLong, FirstIs};
+ghost use Rattle.netcalc_cli.specs.Files.{most_bytes};
 ghost use Rattle.netcalc_cli.specs.Reply.{commands, StandsOnFiles, MayReply, FailedAt};
 ghost use Rattle.netcalc_cli.specs.Reply.{Gives, GivesOnTold, AnswersWhatItCan, Brings, FailsToGive};
 ghost use Rattle.netcalc_cli.specs.Words.{texts, command_of};
 
 use crate::answering::answer_to;
 use crate::words::{parsed, taken};
-use command_replies::Status;
 use outcomes::Steps;
 use outside::{Inputs, Sink};
-use std::sync::ledger::{Blank, Ledger};
+use replies::Status;
+use std::sync::ledger::Ledger;
 
 const USAGE: &str = "netcalc: usage: \
     netcalc analyse NET [--json], edit NET EDITS [--json], simulate NET TRACE, exercise N, check NET RUN, \
@@ -67,13 +68,13 @@ pub fn run<I: Inputs, K: Sink, L: Ledger>(
 
     // 3 only where the inputs failed in this call, and last at the file that the line names; those before it may fit.
     ensures read_fault { result ≡ 3 → IfSome (command_of (texts words.now)) (λ command.
-        FirstIs (I.content inputs.old) (λ file. FailedAt I.faults I.last_fault file inputs.old inputs.new
+        FirstIs most_bytes (I.content inputs.old) (λ file. FailedAt I.faults I.last_fault file inputs.old inputs.new
         × Gives result (output K.written K.puts out.old) (output K.written K.puts out.new) (cannot_read file)) (files_of command)) }
 
     // 1 only where a file, the first that does not fit, has more bytes than a file may have, or the files break a rule,
     // the first of which the line names, or no live flow has the name, which the line tells.
     ensures malformed { result ≡ 1 → IfSome (command_of (texts words.now)) (λ command.
-        FirstIs (I.content inputs.old) (λ file. IsTooLong (I.content inputs.old file)
+        FirstIs most_bytes (I.content inputs.old) (λ file. IsTooLong most_bytes (I.content inputs.old file)
         × Gives result (output K.written K.puts out.old) (output K.written K.puts out.new) (too_long file)) (files_of command)
         ⊎ Brings IsMalformed (I.content inputs.old) command result (output K.written K.puts out.old) (output K.written K.puts out.new)) }
 
@@ -165,56 +166,4 @@ pub fn run<I: Inputs, K: Sink, L: Ledger>(
         Ok(answer) => give(out, answer.status, &answer.text),
         Err(_) => Status::NoMemory.code(),
     }
-}
-
-/// `run` with a counter of its own, made from a blank ledger that a proof names. Each clause but `counts` is that of
-/// `run`, which tells it: the counter ends with the call, so no caller could see how many steps it counts.
-pub fn run_counted<I: Inputs, K: Sink, L: Ledger>(
-    blank: Blank,
-    words: &[String],
-    inputs: &mut I,
-    out: &mut K,
-) -> u8
-    requires name { blank.name ≡ L.name }
-    requires parts { blank.parts ≡ L.parts }
-    requires one { 0 < blank.parts }
-    ensures status { result ≤ 9 }
-    ensures usage { result ≡ 2 → command_of (texts words.now) ≡ None }
-    ensures not_taken { command_of (texts words.now) ≡ None →
-        Gives result (output K.written K.puts out.old) (output K.written K.puts out.new) (usage commands) ⊎ (result ≡ 4) }
-    ensures read_fault { result ≡ 3 → IfSome (command_of (texts words.now)) (λ command.
-        FirstIs (I.content inputs.old) (λ file. FailedAt I.faults I.last_fault file inputs.old inputs.new
-        × Gives result (output K.written K.puts out.old) (output K.written K.puts out.new) (cannot_read file)) (files_of command)) }
-    ensures malformed { result ≡ 1 → IfSome (command_of (texts words.now)) (λ command.
-        FirstIs (I.content inputs.old) (λ file. IsTooLong (I.content inputs.old file)
-        × Gives result (output K.written K.puts out.old) (output K.written K.puts out.new) (too_long file)) (files_of command)
-        ⊎ Brings IsMalformed (I.content inputs.old) command result (output K.written K.puts out.old) (output K.written K.puts out.new)) }
-    ensures too_many { result ≡ 7 → IfSome (command_of (texts words.now)) (λ command.
-        Brings (IsOver limits.TooMany) (I.content inputs.old) command result (output K.written K.puts out.old) (output K.written K.puts out.new)) }
-    ensures too_wide { result ≡ 6 → IfSome (command_of (texts words.now)) (λ command.
-        Brings (IsOver limits.TooWide) (I.content inputs.old) command result (output K.written K.puts out.old) (output K.written K.puts out.new)) }
-    ensures cycle { result ≡ 8 → IfSome (command_of (texts words.now)) (λ command.
-        Brings IsCyclic (I.content inputs.old) command result (output K.written K.puts out.old) (output K.written K.puts out.new)) }
-    ensures breach { result ≡ 9 → IfSome (command_of (texts words.now)) (λ command.
-        Brings TellsBreach (I.content inputs.old) command result (output K.written K.puts out.old) (output K.written K.puts out.new)) }
-    ensures done { result ≡ 0 → IfSome (command_of (texts words.now)) (λ command.
-        Brings IsDone (I.content inputs.old) command result (output K.written K.puts out.old) (output K.written K.puts out.new)) }
-    ensures write_fault { result ≡ 4 → (reply : Reply)
-        × MayReply I.content I.faults I.last_fault (command_of (texts words.now)) inputs.old inputs.new reply
-        × FailsToGive K.faults K.written K.puts out.old out.new reply }
-    ensures no_memory { result ≡ 5 → K.written out.new ≡ K.written out.old }
-    ensures no_put { result ≡ 5 → K.puts out.new ≡ K.puts out.old }
-    ensures told { IfSome (command_of (texts words.now)) (λ command.
-        GivesOnTold command (I.content inputs.old) result (output K.written K.puts out.old) (output K.written K.puts out.new)) }
-    ensures complete { IfSome (command_of (texts words.now)) (λ command.
-        AnswersWhatItCan command (I.content inputs.old) result) }
-    ensures answers { result ≢ 4 → result ≢ 5 → (reply : Reply)
-        × MayReply I.content I.faults I.last_fault (command_of (texts words.now)) inputs.old inputs.new reply
-        × Gives result (output K.written K.puts out.old) (output K.written K.puts out.new) reply }
-    ensures asked { FetchesUpTo I.asked I.had (names_of (command_of (texts words.now))) inputs.old inputs.new }
-    ensures asked_all { StandsOnFiles result →
-        FetchesAll I.asked I.had (names_of (command_of (texts words.now))) inputs.old inputs.new }
-{
-    let mut steps = Steps::<L>::new(blank);
-    run(words, inputs, out, &mut steps)
 }

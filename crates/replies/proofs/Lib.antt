@@ -1,3 +1,4 @@
 pub mod FileLemmas
 pub mod Fetches
 pub mod Ends
+pub mod Statuses

@@ -1,2 +1,4 @@
+pub mod Replies
+pub mod View
 pub mod Given
 pub mod Ended

@@ -11,8 +11,8 @@ use Rattle.net_cells.specs.Meanings.{CellTable}
 use Rattle.run_watch.specs.first_breaches.Firsts.{TellsFirst}
 use Rattle.report_text.specs.RunReport.{Found}
 use Rattle.run_watch.specs.simulated_sizes.Laws.{AreCurves}
-use Rattle.command_replies.specs.declared.answer.Answer.{Answer}
 use Rattle.command_replies.specs.Replies.{Reply}
+use Rattle.replies.specs.declared.answer.Answer.{Answer}
 use Rattle.command_replies.specs.View.{reply_of, status_of}
 use Rattle.command_replies.specs.run_findings.Findings.{status_by, FoundText, found_report, TellsFindings}
 use Rattle.command_replies.specs.run_findings.FindingLaws.{FindingsTellPremises}

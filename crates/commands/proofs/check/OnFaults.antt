@@ -5,7 +5,7 @@ use Rattle.net_model.specs.Networks.{Net}
 use Rattle.run_check.specs.declared.run_table.fault.RunFault.{RunFault}
 use Rattle.run_check.specs.declared.run_table.fault.RunKind.TheVariants.{NoMemory}
 use Rattle.run_check.specs.run_table.Runs.{IsFirstFault, out_of_memory}
-use Rattle.command_replies.specs.declared.answer.Answer.{Answer}
+use Rattle.replies.specs.declared.answer.Answer.{Answer}
 use Rattle.command_replies.specs.View.{reply_of}
 use Rattle.commands.specs.check.Checked.{run_fault_reply}
 use Rattle.commands.specs.check.OnRuns.{IsBadRunOf}

@@ -7,9 +7,9 @@ use Rattle.upp_limits.specs.declared.own_limits.OverLimit.TheVariants as limits
 use Rattle.input_texts.specs.curve_script.Scripts.{Numbered, IsFirstFault, out_of_memory}
 use Rattle.curve_lang.specs.Answers.{Answered, ScriptMeans}
 use Rattle.curve_lang.specs.Found.{ScriptTells}
-use Rattle.command_replies.specs.declared.answer.Answer.{Answer}
 use Rattle.command_replies.specs.Faults.{script_reply_of_kind, script_fault_reply}
 use Rattle.command_replies.specs.Replies.{breaks_script_rule}
+use Rattle.replies.specs.declared.answer.Answer.{Answer}
 use Rattle.command_replies.specs.View.{reply_of, status_of}
 use Rattle.outcomes.specs.Stages.{stops, goes_on}
 use Rattle.command_replies.proofs.Statuses.{refused}

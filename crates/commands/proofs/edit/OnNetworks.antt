@@ -19,9 +19,9 @@ use Rattle.cell_store.specs.edit_store.Stored.{Stored, IsStored}
 use Rattle.net_cells.proofs.Tables.{answers_meet}
 use Rattle.report_text.specs.declared.json_report.form.Form.{Form}
 use Rattle.commands.specs.edit_report.Said.{EditSaid}
-use Rattle.command_replies.specs.declared.answer.Answer.{Answer}
 use Rattle.command_replies.specs.CellWork.{work_of_cells}
 use Rattle.command_replies.specs.Replies.{Reply}
+use Rattle.replies.specs.declared.answer.Answer.{Answer}
 use Rattle.command_replies.specs.View.{status_of}
 use Rattle.commands.specs.edit.NetHistories.{NetHistory, begun, history_of}
 use Rattle.commands.specs.edit.Answered.{AreAnswered}

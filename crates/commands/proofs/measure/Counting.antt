@@ -4,9 +4,9 @@ use Rattle.std.proofs.Common.{arith, ap, inl, inr}
 use Rattle.upp_limits.specs.declared.own_limits.OverLimit.TheVariants.{TooMany, TooWide}
 use Rattle.net_text.specs.Folds.{StepsAtMost}
 use Rattle.subadd_closure.specs.FoldWork.{fold_work}
-use Rattle.command_replies.specs.declared.answer.Answer.{Answer}
 use Rattle.command_replies.specs.OnFiles.{IsNoNetwork}
 use Rattle.command_replies.specs.Replies.{Reply}
+use Rattle.replies.specs.declared.answer.Answer.{Answer}
 use Rattle.command_replies.specs.View.{reply_of, status_of}
 use Rattle.commands.specs.measure.MeasureCounts.{CountsOn}
 

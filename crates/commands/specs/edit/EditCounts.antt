@@ -4,11 +4,6 @@ use Rattle.net_model.specs.declared.edit.Edit.{Edit}
 use Rattle.net_model.specs.Networks.{Net}
 use Rattle.net_model.specs.Orders.{IsOrder}
 use Rattle.net_model.specs.Walks.{IsCycle}
-use Rattle.net_draft.specs.Faults.{Fault}
-use Rattle.net_text.specs.Folds.{StepsAtMost}
-use Rattle.net_text.specs.Reading.{IsNetworkOf, FirstFault}
-use Rattle.net_text.specs.FoldLimits.{OverFold}
-use Rattle.subadd_closure.specs.FoldWork.{fold_work}
 use Rattle.net_cells.specs.declared.cell.Cell.{Cell}
 use Rattle.net_cells.specs.Work.{work}
 use Rattle.input_texts.specs.table_text.EditRows.{edit_view}
@@ -81,12 +76,3 @@ pub record CountsOnList (net : Net) (edits_bytes : List ℕ) (status old new : �
 abbrev pub CountsOnNet : Net → List ℕ → (status old new : ℕ) → Type 0
 CountsOnNet net edits_bytes status old new =
     ((status ≢ 0) × (new ≡ old)) ⊎ CountsOnList net edits_bytes status old new
-
--- by files: first no more than the operators of the folds of the closures, then those by the network, where there is
--- one
-pub record CountsOn (net_bytes edits_bytes : List ℕ) (status old new : ℕ) : Type 0 where
-  pub between : ℕ
-  pub rises : old ≤ between
-  pub folds : StepsAtMost fold_work net_bytes old between
-  pub refused : (fault : Fault) → FirstFault OverFold net_bytes fault → new ≡ between
-  pub edits : (net : Net) → IsNetworkOf OverFold net_bytes net → CountsOnNet net edits_bytes status between new

@@ -1,9 +1,10 @@
 //! The answer on a file.
 
 ghost use Rattle.std.specs.Prelude.{IfOk};
-ghost use Rattle.commands.specs.analyse.AnswerCounts.{CountsOn};
-ghost use Rattle.commands.specs.analyse.OnFiles.{IsReplyOn};
 ghost use Rattle.command_replies.specs.View.{reply_of, status_of};
+ghost use Rattle.command_replies.specs.run_findings.CellCounts.{CountsOnCells};
+ghost use Rattle.commands.specs.FileCounts.{CountsOnFile};
+ghost use Rattle.commands.specs.analyse.OnFiles.{IsReplyOn};
 
 use crate::analyse::on_net::on_network;
 use command_replies::{Answer, on_fault};
@@ -15,7 +16,7 @@ use std::sync::ledger::Ledger;
 
 /// The answer on a file with this name and these bytes, in this order: a rule that its tables break, a curve over a
 /// limit, a cycle, a cell over a limit, and else the report in a form. Refused only for want of memory.
-pub fn on_bytes<L: Ledger>(
+pub fn answer_on<L: Ledger>(
     alloc: Global,
     file: &str,
     bytes: &[u8],
@@ -23,7 +24,7 @@ pub fn on_bytes<L: Ledger>(
     steps: &mut Steps<L>,
 ) -> Result<Answer, AllocError>
     ensures reply { IfOk result (λ r. IsReplyOn form file.now bytes.now (reply_of r)) }
-    ensures counts { CountsOn bytes.now (status_of result) steps.old steps.new }
+    ensures counts { CountsOnFile CountsOnCells bytes.now (status_of result) steps.old steps.new }
 {
     match read_network(alloc, bytes, steps) {
         Ok(network) => {

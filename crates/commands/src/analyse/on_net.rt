@@ -2,9 +2,9 @@
 
 ghost use Rattle.std.specs.Prelude.{IfOk};
 ghost use Rattle.net_model.specs.Accepted.{IsAccepted};
-ghost use Rattle.commands.specs.analyse.AnswerCounts.{CountsOnNet};
-ghost use Rattle.commands.specs.analyse.OnFiles.{IsReplyOnNet};
 ghost use Rattle.command_replies.specs.View.{reply_of, status_of};
+ghost use Rattle.command_replies.specs.run_findings.CellCounts.{CountsOnCells};
+ghost use Rattle.commands.specs.analyse.OnFiles.{IsReplyOnNet};
 
 use crate::tabled::table_of;
 use command_replies::{Answer, Status};
@@ -23,7 +23,7 @@ pub(crate) fn on_network<L: Ledger>(
 ) -> Result<Answer, AllocError>
     requires { IsAccepted net.now }
     ensures reply { IfOk result (λ r. IsReplyOnNet form net.now (reply_of r)) }
-    ensures counts { CountsOnNet net.now (status_of result) steps.old steps.new }
+    ensures counts { CountsOnCells net.now (status_of result) steps.old steps.new }
 {
     match table_of(alloc, net, steps) {
         Ok(table) => {

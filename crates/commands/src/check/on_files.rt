@@ -4,7 +4,8 @@ ghost use Rattle.std.specs.Prelude.{IfOk};
 ghost use Rattle.net_model.specs.Accepted.{IsAccepted};
 ghost use Rattle.command_replies.specs.View.{reply_of, status_of};
 ghost use Rattle.commands.specs.check.OnRuns.{IsCheckReply, IsCheckReplyOnNet};
-ghost use Rattle.commands.specs.check.CheckCounts.{CountsOn, CountsOnNet};
+ghost use Rattle.commands.specs.FileCounts.{CountsOnFile};
+ghost use Rattle.commands.specs.check.CheckCounts.{CountsOnNet};
 
 use crate::check::on_net::on_network;
 use crate::check::refusals::on_run_fault;
@@ -38,7 +39,7 @@ fn on_rows<L: Ledger>(
 /// network's tables break, a curve over a limit, a row of the run that is wrong, a cycle, a cell over a limit, a run that
 /// is too wide, and else the report on the run: the first law that it breaks, or, where it is lawful, what is found in it
 /// beside the bounds, and what it breaks first. Refused only for want of memory.
-pub fn on_run<L: Ledger>(
+pub fn answer_on<L: Ledger>(
     alloc: Global,
     net_file: &str,
     net_bytes: &[u8],
@@ -48,7 +49,8 @@ pub fn on_run<L: Ledger>(
 ) -> Result<Answer, AllocError>
     ensures reply { IfOk result
         (λ r. IsCheckReply net_file.now net_bytes.now run_file.now run_bytes.now (reply_of r)) }
-    ensures counts { CountsOn net_bytes.now run_bytes.now (status_of result) steps.old steps.new }
+    ensures counts { CountsOnFile (λ net. CountsOnNet net run_bytes.now) net_bytes.now (status_of result)
+        steps.old steps.new }
 {
     match read_network(alloc, net_bytes, steps) {
         Ok(network) => {

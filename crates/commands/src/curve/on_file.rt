@@ -43,7 +43,7 @@ fn on_lines<L: Ledger>(
 /// The answer on a file with this name and these bytes, in this order: the first line that is no statement, the first
 /// statement with a fault or over a limit, and else the answers. Refused only for want of memory. The steps are those
 /// that are counted as the statements find something.
-pub fn on_script<L: Ledger>(
+pub fn answer_on<L: Ledger>(
     alloc: Global,
     file: &str,
     bytes: &[u8],

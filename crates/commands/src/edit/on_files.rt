@@ -3,7 +3,8 @@
 ghost use Rattle.std.specs.Prelude.{IfOk};
 ghost use Rattle.net_model.specs.Accepted.{IsAccepted};
 ghost use Rattle.command_replies.specs.View.{reply_of, status_of};
-ghost use Rattle.commands.specs.edit.EditCounts.{CountsOn, CountsOnNet};
+ghost use Rattle.commands.specs.FileCounts.{CountsOnFile};
+ghost use Rattle.commands.specs.edit.EditCounts.{CountsOnNet};
 ghost use Rattle.commands.specs.edit.OnEdits.{IsEditReply, IsReplyOnNet};
 
 use crate::edit::on_net::on_network;
@@ -39,7 +40,7 @@ fn on_list<L: Ledger>(
 /// network break, a curve over a limit, a row of the list that is wrong, a cycle, a cell over a limit, and else the
 /// report in a form: what is said of each edit, and the bounds of the network after them. Refused only for want of
 /// memory.
-pub fn on_edits<L: Ledger>(
+pub fn answer_on<L: Ledger>(
     alloc: Global,
     net_file: &str,
     net_bytes: &[u8],
@@ -50,7 +51,8 @@ pub fn on_edits<L: Ledger>(
 ) -> Result<Answer, AllocError>
     ensures reply { IfOk result (λ r.
         IsEditReply form net_file.now net_bytes.now edits_file.now edits_bytes.now (reply_of r)) }
-    ensures counts { CountsOn net_bytes.now edits_bytes.now (status_of result) steps.old steps.new }
+    ensures counts { CountsOnFile (λ net. CountsOnNet net edits_bytes.now) net_bytes.now (status_of result)
+        steps.old steps.new }
 {
     match read_network(alloc, net_bytes, steps) {
         Ok(network) => {

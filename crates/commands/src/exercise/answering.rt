@@ -15,7 +15,7 @@ use std::sync::ledger::Ledger;
 
 /// The answer on the number of a workload, in this order: a cell of its network over a limit, a simulation of its trace
 /// that is too wide, and else the summary of both, with what the run breaks first. Refused only for want of memory.
-pub fn on_seed<L: Ledger>(
+pub fn answer_on<L: Ledger>(
     alloc: Global,
     seed: u64,
     steps: &mut Steps<L>,

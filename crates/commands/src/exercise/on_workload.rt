@@ -7,7 +7,7 @@ ghost use Rattle.exercise_load.specs.Loads.{AreOfWorkload};
 ghost use Rattle.exercise_load.specs.Workloads.{network_of};
 ghost use Rattle.commands.specs.exercise.OnSeeds.{IsExerciseReply};
 
-use crate::exercise::summarised::summarised;
+use crate::simulated::{Telling, simulated};
 use crate::tabled::table_of;
 use command_replies::Answer;
 use command_replies::run_findings::keeps_curves;
@@ -32,7 +32,7 @@ pub(crate) fn on_workload<L: Ledger>(
     match table_of(alloc, net, steps) {
         Ok(table) => {
             keeps_curves(net);
-            summarised(alloc, seed, net, trace, &table)
+            simulated(alloc, Telling::Summary(seed), net, trace, &table)
         }
         Err(told) => told,
     }

@@ -43,7 +43,7 @@ fn on_rows<L: Ledger>(
 /// a rule that the tables of the network break, a curve over a limit, a row of the trace that is wrong, a name that
 /// no live flow has, packets over a limit, a burst over a limit, and else the report: the least arrival curve of the
 /// flow's packets, and the least bucket of the rate that they keep. Refused only for want of memory.
-pub fn on_measure<L: Ledger>(
+pub fn answer_on<L: Ledger>(
     alloc: Global,
     net_file: &str,
     net_bytes: &[u8],

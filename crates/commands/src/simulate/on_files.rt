@@ -4,7 +4,8 @@ ghost use Rattle.std.specs.Prelude.{IfOk};
 ghost use Rattle.net_model.specs.Accepted.{IsAccepted};
 ghost use Rattle.command_replies.specs.View.{reply_of, status_of};
 ghost use Rattle.commands.specs.simulate.OnTraces.{IsRunReply, IsRunReplyOnNet};
-ghost use Rattle.commands.specs.simulate.RunCounts.{CountsOn, CountsOnNet};
+ghost use Rattle.commands.specs.FileCounts.{CountsOnFile};
+ghost use Rattle.commands.specs.simulate.RunCounts.{CountsOnNet};
 
 use crate::simulate::on_net::on_network;
 use command_replies::{Answer, on_fault, on_table_fault};
@@ -40,7 +41,7 @@ fn on_rows<L: Ledger>(
 /// network's tables break, a curve over a limit, a row of the trace that is wrong, a cycle, a cell over a limit, a
 /// simulation that is too wide, and else the report on the simulated run beside the bounds, with what the run breaks
 /// first. Refused only for want of memory.
-pub fn on_trace<L: Ledger>(
+pub fn answer_on<L: Ledger>(
     alloc: Global,
     net_file: &str,
     net_bytes: &[u8],
@@ -50,7 +51,8 @@ pub fn on_trace<L: Ledger>(
 ) -> Result<Answer, AllocError>
     ensures reply { IfOk result
         (λ r. IsRunReply net_file.now net_bytes.now trace_file.now trace_bytes.now (reply_of r)) }
-    ensures counts { CountsOn net_bytes.now trace_bytes.now (status_of result) steps.old steps.new }
+    ensures counts { CountsOnFile (λ net. CountsOnNet net trace_bytes.now) net_bytes.now (status_of result)
+        steps.old steps.new }
 {
     match read_network(alloc, net_bytes, steps) {
         Ok(network) => {

@@ -7,7 +7,7 @@ ghost use Rattle.command_replies.specs.View.{reply_of, status_of};
 ghost use Rattle.command_replies.specs.run_findings.CellCounts.{CountsOnCells};
 ghost use Rattle.commands.specs.simulate.OnTraces.{IsRunReplyOnTrace};
 
-use crate::simulate::reported::simulated;
+use crate::simulated::{Telling, simulated};
 use crate::tabled::table_of;
 use command_replies::Answer;
 use command_replies::run_findings::keeps_curves;
@@ -32,7 +32,7 @@ pub(crate) fn on_network<L: Ledger>(
     match table_of(alloc, net, steps) {
         Ok(table) => {
             keeps_curves(net);
-            simulated(alloc, net, trace, &table)
+            simulated(alloc, Telling::Report, net, trace, &table)
         }
         Err(told) => told,
     }

@@ -16,8 +16,8 @@ returns-in-Ok g c =
     let new = output g.K.Sink.written g.K.Sink.puts c.give.new.out in
     let given : c.give.result ≢ 4 → Gives c.give.result old new (reply_of c.in-Ok.answer) =
     λ unlike. let done = c.give.ensures.given unlike in
-    (done.0 ∙ c.code.ensures, rw c.as_bytes.ensures.value at done.1) in
-    let put = rw c.as_bytes.ensures.value at c.give.ensures.put in
+    (done.0 ∙ c.code.ensures, rw c.deref.ensures.value at done.1) in
+    let put = rw c.deref.ensures.value at c.give.ensures.put in
     let all = outcome g.I.Inputs.content g.I.Inputs.faults g.I.Inputs.last_fault g.I.Inputs.asked
     (request_of (texts c.args.words.now))
     c.args.inputs.now c.answered.new.inputs (reply_of c.in-Ok.answer) c.give.result
@@ -25,7 +25,9 @@ returns-in-Ok g c =
     let no = never g.I.Inputs.content g.I.Inputs.faults g.I.Inputs.last_fault g.I.Inputs.asked (request_of (texts c.args.words.now))
     c.args.inputs.now c.answered.new.inputs (reply_of c.in-Ok.answer) c.in-Ok.ensures.reply in
     record {
-      known = known_status c.give.result c.in-Ok.answer.status (λ unlike. (given unlike).0);
+      known = known_status g.I.Inputs.content g.I.Inputs.faults g.I.Inputs.last_fault g.I.Inputs.asked
+          (request_of (texts c.args.words.now)) c.args.inputs.now c.answered.new.inputs (reply_of c.in-Ok.answer)
+          c.give.result c.in-Ok.ensures.reply (λ unlike. (given unlike).0);
       usage = all.usage;
       text = all.text;
       read_fault = all.read_fault;
@@ -36,7 +38,7 @@ returns-in-Ok g c =
       write_fault = λ four. let failed = c.give.ensures.failed four in (
         reply_of c.in-Ok.answer,
         c.in-Ok.ensures.reply,
-        record { rose = failed.rose; front = rw c.as_bytes.ensures.value at failed.front },
+        record { rose = failed.rose; front = rw c.deref.ensures.value at failed.front },
       );
       no_memory = λ five. absurd (no.1 (sym (given (λ four. absurd (cc))).0 ∙ five));
       told = all.told;

@@ -7,5 +7,5 @@ use Rattle.netcalc_cli.proofs.answering.on_exercise.Goals as goal
 pub returns : goal.returns
 returns g c =
     on_files g.I.Inputs.content g.I.Inputs.faults g.I.Inputs.last_fault g.I.Inputs.asked g.I.Inputs.had
-    (Exercise c.args.seed) c.args.inputs.now c.args.inputs.now c.on_seed.result c.args.steps.now c.on_seed.new.steps
-    [] tt tt (fetches_none g.I.Inputs.asked g.I.Inputs.had c.args.inputs.now) c.on_seed.ensures.reply c.on_seed.ensures.counts
+    (Exercise c.args.seed) c.args.inputs.now c.args.inputs.now c.answer_on.result c.args.steps.now c.answer_on.new.steps
+    [] tt tt (fetches_none g.I.Inputs.asked g.I.Inputs.had c.args.inputs.now) c.answer_on.ensures.reply c.answer_on.ensures.counts

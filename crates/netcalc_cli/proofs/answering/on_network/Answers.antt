@@ -9,9 +9,9 @@ use Rattle.netcalc_cli.proofs.answering.on_network.Goals as goal
 pub returns-in-Ok : goal.returns-in-Ok
 returns-in-Ok g c =
     on_files g.I.Inputs.content g.I.Inputs.faults g.I.Inputs.last_fault g.I.Inputs.asked g.I.Inputs.had
-    (Analyse c.args.form c.args.net.now) c.args.inputs.now c.fetch_one.new.inputs c.on_bytes.result c.args.steps.now c.on_bytes.new.steps
+    (Analyse c.args.form c.args.net.now) c.args.inputs.now c.fetch_one.new.inputs c.answer_on.result c.args.steps.now c.answer_on.new.steps
     (c.in-Ok.bytes.items ∷ []) (c.in-Ok.ensures.held, tt) (c.in-Ok.ensures.fits, tt) c.in-Ok.ensures.all
-    (rw c.deref.ensures.value at c.on_bytes.ensures.reply) (rw c.deref.ensures.value at c.on_bytes.ensures.counts)
+    (rw c.deref.ensures.value at c.answer_on.ensures.reply) (rw c.deref.ensures.value at c.answer_on.ensures.counts)
 
 pub returns-in-Err : goal.returns-in-Err
 returns-in-Err g c =

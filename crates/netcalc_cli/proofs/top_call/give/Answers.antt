@@ -1,6 +1,6 @@
 use Rattle.std.proofs.Common.{inl, inr, ◌∙◌, arith}
 use Rattle.std.proofs.lemmas.Bool.{cases_eq}
-use Rattle.command_replies.proofs.Statuses.{code_at_most_nine}
+use Rattle.replies.proofs.Statuses.{code_at_most_nine}
 use Rattle.netcalc_cli.proofs.top_call.give.Goals as goal
 
 pub give-requires : goal.give-requires

@@ -2,7 +2,6 @@ use Rattle.std.proofs.Common.{ap}
 use Rattle.command_replies.specs.Replies.{Reply}
 use Rattle.outcomes.specs.Stages.{goes_on}
 use Rattle.command_replies.specs.View.{status_of}
-use Rattle.commands.proofs.analyse.Counting.{of_cells}
 use Rattle.commands.proofs.Stopped.{stopped_told, at_status, stopped_counts}
 use Rattle.commands.proofs.analyse.on_net.on_network.Goals as goal
 
@@ -14,13 +13,12 @@ returns-in_ok-text-in-Ok-clause-reply g c =
 
 pub returns-in_ok-text-in-Ok-clause-counts : goal.returns-in_ok-text-in-Ok-clause-counts
 returns-in_ok-text-in-Ok-clause-counts g c =
-    of_cells c.args.net.now 0 _ _ (at_status c.args.net.now 0 _ _ c.table_of.ensures.cells (λ is. c.in-Ok.ensures.exact))
+    at_status c.args.net.now 0 _ _ c.table_of.ensures.cells (λ is. c.in-Ok.ensures.exact)
 
 pub returns-in_err-text-in-Ok-clause-counts : goal.returns-in_err-text-in-Ok-clause-counts
 returns-in_err-text-in-Ok-clause-counts g c =
-    of_cells c.args.net.now (status_of c.from_residual.result) _ _
-    (at_status c.args.net.now (status_of c.from_residual.result) _ _ c.table_of.ensures.cells
-    (λ is. c.in-Ok.ensures.exact))
+    at_status c.args.net.now (status_of c.from_residual.result) _ _ c.table_of.ensures.cells
+    (λ is. c.in-Ok.ensures.exact)
 
 pub returns-in-Err-clause-reply : goal.returns-in-Err-clause-reply
 returns-in-Err-clause-reply g c =
@@ -28,5 +26,4 @@ returns-in-Err-clause-reply g c =
 
 pub returns-in-Err-clause-counts : goal.returns-in-Err-clause-counts
 returns-in-Err-clause-counts g c =
-    of_cells c.args.net.now (status_of c.in-Err.told) _ _
-    (stopped_counts c.args.net.now c.in-Err.told _ _ c.table_of.ensures.cells c.in-Err.ensures.stopped)
+    stopped_counts c.args.net.now c.in-Err.told _ _ c.table_of.ensures.cells c.in-Err.ensures.stopped

@@ -3,6 +3,9 @@ use Rattle.outcomes.specs.Stages.{stops, goes_on}
 use Rattle.command_replies.specs.View.{status_of}
 use Rattle.input_texts.specs.table_text.Rows.{rows_of}
 use Rattle.run_check.proofs.run_table.Recorded.{runs_read_are_recorded}
+use Rattle.command_replies.proofs.run_findings.Reports.{refused}
+use Rattle.commands.specs.check.Checked.{run_fault_reply}
+use Rattle.commands.proofs.FileCounts.{none_on_rows}
 use Rattle.commands.proofs.check.Counting.{of_run}
 use Rattle.commands.proofs.check.OnFaults.{on_told}
 use Rattle.commands.proofs.check.on_files.on_rows.Goals as goal
@@ -25,3 +28,9 @@ returns-in-Err-clause-reply g c =
     IfOk-weaker c.on_run_fault.result _ _ (λ r bad. stops bad)
     (on_told c.args.net.now c.args.run_file.now c.args.run_bytes.now c.in-Err.fault c.on_run_fault.result
     c.in-Err.ensures.fault c.on_run_fault.ensures.reply c.on_run_fault.ensures.told)
+
+pub returns-in-Err-clause-counts : goal.returns-in-Err-clause-counts
+returns-in-Err-clause-counts g c =
+    none_on_rows _ c.args.net.now (status_of c.on_run_fault.result) c.args.steps.now
+    (refused c.on_run_fault.result (run_fault_reply c.args.run_file.now c.in-Err.fault) (λ e. cc) (λ e. cc)
+    c.on_run_fault.ensures.reply)

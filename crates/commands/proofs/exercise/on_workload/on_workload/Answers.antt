@@ -8,26 +8,26 @@ use Rattle.commands.proofs.Stopped.{at_status, stopped_counts}
 use Rattle.commands.proofs.exercise.Replying.{in_order, beside, stopped, is_named, is_free}
 use Rattle.commands.proofs.exercise.on_workload.on_workload.Goals as goal
 
-pub summarised-requires-clause-named : goal.summarised-requires-clause-named
-summarised-requires-clause-named g c = is_named c.args.seed c.args.net.now c.args.trace.now c.requires
+pub simulated-requires-clause-named : goal.simulated-requires-clause-named
+simulated-requires-clause-named g c = is_named c.args.seed c.args.net.now c.args.trace.now c.requires
 
-pub summarised-requires-clause-free : goal.summarised-requires-clause-free
-summarised-requires-clause-free g c = is_free c.args.seed c.args.net.now c.args.trace.now c.requires
+pub simulated-requires-clause-free : goal.simulated-requires-clause-free
+simulated-requires-clause-free g c = is_free c.args.seed c.args.net.now c.args.trace.now c.requires
 
 pub returns-in-Ok-clause-reply : goal.returns-in-Ok-clause-reply
 returns-in-Ok-clause-reply g c =
     let t = c.in-Ok.ensures.table in
-    IfOk-weaker c.summarised.result _ _
+    IfOk-weaker c.simulated.result _ _
     (λ r told. in_order c.args.seed c.args.net.now t.order (reply_of r) c.requires.net t.ordered
     (goes_on _ t.table
     (c.keeps_curves.ensures, beside c.args.seed c.args.net.now c.args.trace.now _ (reply_of r) c.requires told)))
-    c.summarised.ensures
+    c.simulated.ensures
 
 pub returns-in-Ok-clause-counts : goal.returns-in-Ok-clause-counts
 returns-in-Ok-clause-counts g c =
-    let P : Net → Type 0 = λ n. CountsOnCells n (status_of c.summarised.result) c.args.steps.now c.table_of.new.steps in
+    let P : Net → Type 0 = λ n. CountsOnCells n (status_of c.simulated.result) c.args.steps.now c.table_of.new.steps in
     subst P c.requires.net
-    (at_status c.args.net.now (status_of c.summarised.result) _ _ c.table_of.ensures.cells (λ is. c.in-Ok.ensures.exact))
+    (at_status c.args.net.now (status_of c.simulated.result) _ _ c.table_of.ensures.cells (λ is. c.in-Ok.ensures.exact))
 
 pub returns-in-Err-clause-reply : goal.returns-in-Err-clause-reply
 returns-in-Err-clause-reply g c =

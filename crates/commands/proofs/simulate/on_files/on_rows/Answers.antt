@@ -3,6 +3,9 @@ use Rattle.command_replies.proofs.BadTraces.{on_told}
 use Rattle.outcomes.specs.Stages.{stops, goes_on}
 use Rattle.command_replies.specs.View.{status_of}
 use Rattle.input_texts.specs.table_text.Rows.{rows_of}
+use Rattle.command_replies.specs.Replies.{table_fault_reply}
+use Rattle.command_replies.proofs.run_findings.Reports.{refused}
+use Rattle.commands.proofs.FileCounts.{none_on_rows}
 use Rattle.commands.proofs.simulate.Counting.{of_trace}
 use Rattle.commands.proofs.simulate.Named.{named}
 use Rattle.commands.proofs.simulate.on_files.on_rows.Goals as goal
@@ -27,3 +30,9 @@ returns-in-Err-clause-reply g c =
     IfOk-weaker c.on_table_fault.result _ _ (λ r bad. stops bad)
     (on_told c.args.net.now c.args.trace_file.now c.args.trace_bytes.now c.in-Err.fault c.on_table_fault.result
     c.in-Err.ensures.fault c.on_table_fault.ensures.reply c.on_table_fault.ensures.told)
+
+pub returns-in-Err-clause-counts : goal.returns-in-Err-clause-counts
+returns-in-Err-clause-counts g c =
+    none_on_rows _ c.args.net.now (status_of c.on_table_fault.result) c.args.steps.now
+    (refused c.on_table_fault.result (table_fault_reply c.args.trace_file.now c.in-Err.fault) (λ e. cc) (λ e. cc)
+    c.on_table_fault.ensures.reply)

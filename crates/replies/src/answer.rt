@@ -1,12 +1,12 @@
 //! Answers: a status, and the text that is written with it.
 
 ghost use Rattle.std.specs.Prelude.{◌≡◌};
-ghost use Rattle.command_replies.specs.View.{code_of};
+ghost use Rattle.replies.specs.View.{code_of};
 
-/// How a call ends.
+/// How a call ends; no program ends in each of these ways.
 #[derive(Clone, Copy)]
 pub enum Status {
-    /// The report was written.
+    /// What was asked for was written, and tells no breach.
     Done,
     /// A file is too long, or breaks a rule of its files.
     Malformed,
@@ -22,9 +22,9 @@ pub enum Status {
     TooWide,
     /// A curve of a file, a cell, or a line of a script has too many pieces.
     TooMany,
-    /// The flows of the network go round.
+    /// The flows or links of the network go round.
     Cycle,
-    /// The report was written, on a run that breaks a premise of its network.
+    /// The report was written, and tells a breach: of a premise by a run, or of a deadline.
     Breach,
 }
 

@@ -3,7 +3,7 @@ use Rattle.std.proofs.lemmas.Result.{IfOk-weaker}
 use Rattle.input_texts.specs.curve_script.Scripts.{line_view}
 use Rattle.outcomes.specs.Stages.{stops, goes_on}
 use Rattle.commands.proofs.curve.OnFaults.{on_misread, fault_is_no_report}
-use Rattle.commands.proofs.curve.on_file.on_script.Goals as goal
+use Rattle.commands.proofs.curve.on_file.answer_on.Goals as goal
 
 pub returns-in-Ok-clause-reply : goal.returns-in-Ok-clause-reply
 returns-in-Ok-clause-reply g c =

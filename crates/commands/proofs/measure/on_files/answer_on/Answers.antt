@@ -2,7 +2,7 @@ use Rattle.command_replies.specs.View.{status_of}
 use Rattle.command_replies.proofs.FirstFaults.{on_told}
 use Rattle.commands.proofs.FileAnswers.{said_of_network, said_of_fault}
 use Rattle.commands.proofs.measure.Counting.{counts_with, counts_without}
-use Rattle.commands.proofs.measure.on_files.on_measure.Goals as goal
+use Rattle.commands.proofs.measure.on_files.answer_on.Goals as goal
 
 pub returns-in-Ok-clause-reply : goal.returns-in-Ok-clause-reply
 returns-in-Ok-clause-reply g c =

@@ -1,7 +1,7 @@
 use Rattle.report_text.specs.RunReport.{found_of}
 use Rattle.command_replies.proofs.run_findings.Reports.{same_reply}
 use Rattle.commands.proofs.Reporting.{reports}
-use Rattle.commands.proofs.exercise.summarised.reported.Goals as goal
+use Rattle.commands.proofs.simulated.reported.Goals as goal
 
 pub returns : goal.returns
 returns c =
