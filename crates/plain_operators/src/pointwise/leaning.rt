@@ -15,8 +15,8 @@ ghost use Rattle.curve_call.specs.Compared.{AreCompared, IsBelowLate, IsEnough};
 ghost use Rattle.plain_operators.specs.pointwise.Leaning.{IsUnder, IsOver, IsSpan, IsUnderUntil, IsOverUntil, AreOwnLines};
 
 use curve_call::{
-    Bounds, Side, checked_product, checked_quotient, checked_rest, checked_sum, earlier, least_below,
-    least_below_until, line_there, period_or,
+    Bounds, Side, checked_product, checked_quotient, checked_rest, checked_sum, earlier,
+    least_below, least_below_until, line_there, period_or,
 };
 use fraction128::{Ext, Frac, greater, is_less, lesser};
 use rational::Extended;
