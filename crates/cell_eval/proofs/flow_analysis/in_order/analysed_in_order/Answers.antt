@@ -1,7 +1,6 @@
 use Rattle.std.proofs.Common.{List, IfOk, IfErr, ◌-◌, ◌∙◌, subst, arith}
 use Rattle.net_cells.specs.declared.cell.Cell.{Cell}
-use Rattle.net_cells.specs.contracts.cell.CellOrd.TheImpl as order
-use Rattle.net_cells.specs.cell_table.Values.{held}
+use Rattle.net_cells.specs.cell_table.Rows.{held}
 use Rattle.cell_eval.specs.flow_analysis.Analyses.{HasNothingElse, WantsMemory}
 use Rattle.net_cells.specs.MemoryEnds.{MemoryEnds, at_none}
 use Rattle.cell_eval.proofs.flow_analysis.in_order.analysed_in_order.Goals as goal
@@ -10,7 +9,7 @@ pub returns-in-Ok-clause-nothing : goal.returns-in-Ok-clause-nothing
 returns-in-Ok-clause-nothing g c =
     subst
     (λ (xs : List Cell). IfOk c.analysed.result
-    (λ t. HasNothingElse (held order.ghosts.cmp g.V.CellValue.meaning t.values) xs))
+    (λ t. HasNothingElse (held g.V.CellValue.meaning t.rows.items) xs))
     (c.deref.ensures.value ∙ c.in-Ok.ensures) c.analysed.ensures.nothing
 
 pub returns-in-Ok-clause-memory : goal.returns-in-Ok-clause-memory
