@@ -1,6 +1,6 @@
 //! The evaluator of the program.
 
-use crate::each_kind::eval;
+use crate::inputs::Inputs;
 use net_cells::Cell;
 use net_cells::cell_table::{Evaluator, Table, Value};
 use net_model::Network;
@@ -27,6 +27,12 @@ impl<'a, L: Ledger> Evaluator<Value> for Counted<'a, L> {
         net: &Network,
         table: &T,
     ) -> Result<Value, OpFault> {
-        eval(self.alloc, cell, net, table, self.steps)
+        net.keeps();
+        let inputs = Inputs {
+            alloc: self.alloc,
+            net,
+            table,
+        };
+        inputs.value(cell, self.steps)
     }
 }

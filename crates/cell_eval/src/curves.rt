@@ -10,210 +10,135 @@ ghost use Rattle.net_cells.specs.Cells.{cell_of};
 ghost use Rattle.net_cells.specs.cell_table.Values.{answer_of, meaning_of};
 ghost use Rattle.cell_eval.specs.Evaluates.{MayBeMade, Evaluates};
 
+use crate::curve_sums::{flows_sum, queues_sum};
+use crate::inputs::{Answer, Inputs};
 use crate::named_cells::cell;
+use crate::sharing::{again, copied, shared};
 use crate::sums::summed;
-use crate::{
-    again, copied, flows_sum, later, left_over, lesser, parts_sum, path_service, queue_service,
-    queues_sum, shared, spread,
-};
 use cell_numbers::{Pick, packet, place_of};
 use net_cells::cell_table::{Table, Value};
 use net_cells::{Cell, Kind, live_flow};
-use net_model::Network;
 use outcomes::Steps;
-use std::alloc::Global;
 use std::sync::ledger::Ledger;
-use upp_limits::OpFault;
 
-/// The curve with which a flow comes to a hop.
-pub fn arriving<T: Table<Value>>(
-    alloc: Global,
-    table: &T,
-    net: &Network,
-    flow: u32,
-    hop: u32,
-) -> Result<Value, OpFault>
-    requires { MayBeMade net.now (T.at table.now) (cell_of In flow hop) }
-    ensures { (n : ℕ) → Evaluates net.now (T.at table.now) (cell_of In flow hop) n n (answer_of meaning_of result) }
-{
-    if hop == 0 {
-        match live_flow(net, flow) {
-            Some(found) => shared(alloc, copied(&found.arrival)),
-            None => unreachable!(),
+impl<T: Table<Value>> Inputs<'_, T> {
+    /// The curve with which a flow comes to a hop.
+    pub(crate) fn arriving(&self, flow: u32, hop: u32) -> Answer
+        requires { MayBeMade self.now.net.now (T.at self.now.table.now) (cell_of In flow hop) }
+        ensures { (n : ℕ) → Evaluates self.now.net.now (T.at self.now.table.now) (cell_of In flow hop) n n (answer_of meaning_of result) }
+    {
+        if hop == 0 {
+            match live_flow(self.net, flow) {
+                Some(found) => shared(self.alloc, copied(&found.arrival)),
+                None => unreachable!(),
+            }
+        } else {
+            again(self.table, cell!(Out, flow, hop - 1))
         }
-    } else {
-        again(table, cell!(Out, flow, hop - 1))
     }
-}
 
-/// The sum of the curves of the other flows in the queue of a hop.
-pub fn cross<T: Table<Value>, L: Ledger>(
-    alloc: Global,
-    table: &T,
-    net: &Network,
-    flow: u32,
-    hop: u32,
-    steps: &mut Steps<L>,
-) -> Result<Value, OpFault>
-    requires { MayBeMade net.now (T.at table.now) (cell_of Cross flow hop) }
-    ensures { Evaluates net.now (T.at table.now) (cell_of Cross flow hop) steps.old steps.new
-        (answer_of meaning_of result) }
-{
-    let place = place_of(net, flow, hop);
-    let others = Pick::InQueue(place.1);
-    let made = flows_sum(alloc, table, net, place.0, others, Some(flow), steps);
-    summed(alloc, table, made)
-}
-
-/// The sum of the curves of all flows in a queue; in version 2 that of its parts.
-pub fn total<T: Table<Value>, L: Ledger>(
-    alloc: Global,
-    table: &T,
-    net: &Network,
-    server: u32,
-    queue: u32,
-    steps: &mut Steps<L>,
-) -> Result<Value, OpFault>
-    requires { MayBeMade net.now (T.at table.now) (cell_of Total server queue) }
-    ensures { Evaluates net.now (T.at table.now) (cell_of Total server queue) steps.old steps.new
-        (answer_of meaning_of result) }
-{
-    if net.version() == 2 {
-        return parts_sum(alloc, table, net, (server, queue), steps);
+    /// The sum of the curves of the other flows in the queue of a hop.
+    pub(crate) fn cross<L: Ledger>(&self, flow: u32, hop: u32, steps: &mut Steps<L>) -> Answer
+        requires { MayBeMade self.now.net.now (T.at self.now.table.now) (cell_of Cross flow hop) }
+        ensures { Evaluates self.now.net.now (T.at self.now.table.now) (cell_of Cross flow hop) steps.old steps.new
+            (answer_of meaning_of result) }
+    {
+        let place = place_of(self.net, flow, hop);
+        let others = Pick::InQueue(place.1);
+        let made = flows_sum(
+            self.alloc,
+            self.table,
+            self.net,
+            place.0,
+            others,
+            Some(flow),
+            steps,
+        );
+        summed(self.alloc, self.table, made)
     }
-    let all = Pick::InQueue(queue);
-    let made = flows_sum(alloc, table, net, server, all, None, steps);
-    summed(alloc, table, made)
-}
 
-/// The sum of the curves of all queues before one.
-pub fn higher<T: Table<Value>, L: Ledger>(
-    alloc: Global,
-    table: &T,
-    net: &Network,
-    server: u32,
-    queue: u32,
-    steps: &mut Steps<L>,
-) -> Result<Value, OpFault>
-    requires { MayBeMade net.now (T.at table.now) (cell_of Higher server queue) }
-    ensures { Evaluates net.now (T.at table.now) (cell_of Higher server queue) steps.old steps.new
-        (answer_of meaning_of result) }
-{
-    let made = queues_sum(alloc, table, server, queue, steps);
-    summed(alloc, table, made)
-}
+    /// The sum of the curves of all flows in a queue; in version 2 that of its parts.
+    pub(crate) fn total<L: Ledger>(&self, place: (u32, u32), steps: &mut Steps<L>) -> Answer
+        requires { MayBeMade self.now.net.now (T.at self.now.table.now) (cell_of Total place.0 place.1) }
+        ensures { Evaluates self.now.net.now (T.at self.now.table.now) (cell_of Total place.0 place.1) steps.old steps.new
+            (answer_of meaning_of result) }
+    {
+        if self.net.version() == 2 {
+            return self.parts_sum(place, steps);
+        }
+        let all = Pick::InQueue(place.1);
+        let made = flows_sum(self.alloc, self.table, self.net, place.0, all, None, steps);
+        summed(self.alloc, self.table, made)
+    }
 
-/// What a queue is served.
-pub fn serving<T: Table<Value>, L: Ledger>(
-    alloc: Global,
-    table: &T,
-    net: &Network,
-    server: u32,
-    queue: u32,
-    steps: &mut Steps<L>,
-) -> Result<Value, OpFault>
-    requires { MayBeMade net.now (T.at table.now) (cell_of QueueService server queue) }
-    ensures { Evaluates net.now (T.at table.now) (cell_of QueueService server queue) steps.old steps.new
-        (answer_of meaning_of result) }
-{
-    queue_service(alloc, table, net, (server, queue), steps)
-}
+    /// The sum of the curves of all queues before one.
+    pub(crate) fn higher<L: Ledger>(&self, place: (u32, u32), steps: &mut Steps<L>) -> Answer
+        requires { MayBeMade self.now.net.now (T.at self.now.table.now) (cell_of Higher place.0 place.1) }
+        ensures { Evaluates self.now.net.now (T.at self.now.table.now) (cell_of Higher place.0 place.1) steps.old steps.new
+            (answer_of meaning_of result) }
+    {
+        let made = queues_sum(self.alloc, self.table, place.0, place.1, steps);
+        summed(self.alloc, self.table, made)
+    }
 
-/// What a flow is served along its path.
-pub fn path<T: Table<Value>, L: Ledger>(
-    alloc: Global,
-    table: &T,
-    net: &Network,
-    flow: u32,
-    steps: &mut Steps<L>,
-) -> Result<Value, OpFault>
-    requires { MayBeMade net.now (T.at table.now) (cell_of PathService flow 0) }
-    ensures { Evaluates net.now (T.at table.now) (cell_of PathService flow 0) steps.old steps.new
-        (answer_of meaning_of result) }
-{
-    path_service(alloc, table, net, flow, steps)
-}
+    /// What a queue is served.
+    pub(crate) fn serving<L: Ledger>(&self, place: (u32, u32), steps: &mut Steps<L>) -> Answer
+        requires { MayBeMade self.now.net.now (T.at self.now.table.now) (cell_of QueueService place.0 place.1) }
+        ensures { Evaluates self.now.net.now (T.at self.now.table.now) (cell_of QueueService place.0 place.1) steps.old steps.new
+            (answer_of meaning_of result) }
+    {
+        self.queue_service(place, steps)
+    }
 
-/// What is left of a queue's service for one of its flows.
-pub fn residual<T: Table<Value>, L: Ledger>(
-    alloc: Global,
-    table: &T,
-    net: &Network,
-    flow: u32,
-    hop: u32,
-    steps: &mut Steps<L>,
-) -> Result<Value, OpFault>
-    requires { MayBeMade net.now (T.at table.now) (cell_of Residual flow hop) }
-    ensures { Evaluates net.now (T.at table.now) (cell_of Residual flow hop) steps.old steps.new
-        (answer_of meaning_of result) }
-{
-    let place = place_of(net, flow, hop);
-    let service = cell!(QueueService, place.0, place.1);
-    let others = cell!(Cross, flow, hop);
-    left_over(
-        alloc,
-        table,
-        service,
-        others,
-        cell!(Theta, flow, hop),
-        steps,
-    )
-}
+    /// What a flow is served along its path.
+    pub(crate) fn path<L: Ledger>(&self, flow: u32, steps: &mut Steps<L>) -> Answer
+        requires { MayBeMade self.now.net.now (T.at self.now.table.now) (cell_of PathService flow 0) }
+        ensures { Evaluates self.now.net.now (T.at self.now.table.now) (cell_of PathService flow 0) steps.old steps.new
+            (answer_of meaning_of result) }
+    {
+        self.path_service(flow, steps)
+    }
 
-/// The curve with which a flow leaves a hop, by the delay there.
-pub fn shift_out<T: Table<Value>, L: Ledger>(
-    alloc: Global,
-    table: &T,
-    net: &Network,
-    flow: u32,
-    hop: u32,
-    steps: &mut Steps<L>,
-) -> Result<Value, OpFault>
-    requires { MayBeMade net.now (T.at table.now) (cell_of ShiftOut flow hop) }
-    ensures { Evaluates net.now (T.at table.now) (cell_of ShiftOut flow hop) steps.old steps.new
-        (answer_of meaning_of result) }
-{
-    let by = cell!(HopDelay, flow, hop);
-    later(alloc, table, cell!(In, flow, hop), by, steps)
-}
+    /// What is left of a queue's service for one of its flows.
+    pub(crate) fn residual<L: Ledger>(&self, flow: u32, hop: u32, steps: &mut Steps<L>) -> Answer
+        requires { MayBeMade self.now.net.now (T.at self.now.table.now) (cell_of Residual flow hop) }
+        ensures { Evaluates self.now.net.now (T.at self.now.table.now) (cell_of Residual flow hop) steps.old steps.new
+            (answer_of meaning_of result) }
+    {
+        let place = place_of(self.net, flow, hop);
+        let service = cell!(QueueService, place.0, place.1);
+        let others = cell!(Cross, flow, hop);
+        self.left_over(service, others, cell!(Theta, flow, hop), steps)
+    }
 
-/// The curve with which a flow leaves a hop, by what it is served there.
-pub fn deconv_out<T: Table<Value>, L: Ledger>(
-    alloc: Global,
-    table: &T,
-    net: &Network,
-    flow: u32,
-    hop: u32,
-    steps: &mut Steps<L>,
-) -> Result<Value, OpFault>
-    requires { MayBeMade net.now (T.at table.now) (cell_of DeconvOut flow hop) }
-    ensures { Evaluates net.now (T.at table.now) (cell_of DeconvOut flow hop) steps.old steps.new
-        (answer_of meaning_of result) }
-{
-    let service = cell!(Residual, flow, hop);
-    spread(
-        alloc,
-        table,
-        cell!(In, flow, hop),
-        service,
-        packet(net, flow),
-        steps,
-    )
-}
+    /// The curve with which a flow leaves a hop, by the delay there.
+    pub(crate) fn shift_out<L: Ledger>(&self, flow: u32, hop: u32, steps: &mut Steps<L>) -> Answer
+        requires { MayBeMade self.now.net.now (T.at self.now.table.now) (cell_of ShiftOut flow hop) }
+        ensures { Evaluates self.now.net.now (T.at self.now.table.now) (cell_of ShiftOut flow hop) steps.old steps.new
+            (answer_of meaning_of result) }
+    {
+        let by = cell!(HopDelay, flow, hop);
+        self.later(cell!(In, flow, hop), by, steps)
+    }
 
-/// The curve with which a flow leaves a hop.
-pub fn leaving<T: Table<Value>, L: Ledger>(
-    alloc: Global,
-    table: &T,
-    net: &Network,
-    flow: u32,
-    hop: u32,
-    steps: &mut Steps<L>,
-) -> Result<Value, OpFault>
-    requires { MayBeMade net.now (T.at table.now) (cell_of Out flow hop) }
-    ensures { Evaluates net.now (T.at table.now) (cell_of Out flow hop) steps.old steps.new
-        (answer_of meaning_of result) }
-{
-    let second = cell!(DeconvOut, flow, hop);
-    lesser(alloc, table, cell!(ShiftOut, flow, hop), second, steps)
+    /// The curve with which a flow leaves a hop, by what it is served there.
+    pub(crate) fn deconv_out<L: Ledger>(&self, flow: u32, hop: u32, steps: &mut Steps<L>) -> Answer
+        requires { MayBeMade self.now.net.now (T.at self.now.table.now) (cell_of DeconvOut flow hop) }
+        ensures { Evaluates self.now.net.now (T.at self.now.table.now) (cell_of DeconvOut flow hop) steps.old steps.new
+            (answer_of meaning_of result) }
+    {
+        let service = cell!(Residual, flow, hop);
+        let bits = packet(self.net, flow);
+        self.spread(cell!(In, flow, hop), service, bits, steps)
+    }
+
+    /// The curve with which a flow leaves a hop.
+    pub(crate) fn leaving<L: Ledger>(&self, flow: u32, hop: u32, steps: &mut Steps<L>) -> Answer
+        requires { MayBeMade self.now.net.now (T.at self.now.table.now) (cell_of Out flow hop) }
+        ensures { Evaluates self.now.net.now (T.at self.now.table.now) (cell_of Out flow hop) steps.old steps.new
+            (answer_of meaning_of result) }
+    {
+        let second = cell!(DeconvOut, flow, hop);
+        self.lesser(cell!(ShiftOut, flow, hop), second, steps)
+    }
 }

@@ -8,6 +8,7 @@ mod curve_sums;
 mod curves;
 mod each_kind;
 pub mod flow_analysis;
+mod inputs;
 mod named_cells;
 mod nodes;
 mod number_sums;
@@ -19,16 +20,5 @@ mod sharing;
 mod sums;
 
 pub use counted::Counted;
-pub use curve_sums::{Partial, finished, flows_sum, queues_sum};
-pub use curves::{
-    arriving, cross, deconv_out, higher, leaving, path, residual, serving, shift_out, total,
-};
-pub use each_kind::eval;
 pub use net_cells::cell_table::{Analysis, AnalysisFault, CellValue, Evaluator, Table, Value};
 pub use net_cells::{Cell, Kind, cells, operands, work};
-pub use nodes::{backlog, later, left_over, lesser, spread};
-pub use numbers::{bound, hop_delay, queue_backlog, queue_delay, sfa, tfa, theta};
-pub use parts::parts_sum;
-pub use paths::path_service;
-pub use services::queue_service;
-pub use sharing::{again, copied, shared};

@@ -29,6 +29,7 @@ ghost use Rattle.cell_eval.specs.Parts.{kept, AreMade, AreRefused};
 ghost use Rattle.cell_numbers.specs.TableValues.{IsCurveAt};
 
 use crate::curve_sums::{Partial, flows_sum, nothing};
+use crate::inputs::{Answer, Inputs};
 use crate::sharing::{again, copied, shared};
 use arrayvec::ArrayVec;
 use cell_numbers::{Pick, curve_at, link_bucket, longest_at, rate};
@@ -289,27 +290,23 @@ fn added_up<T: Table<Value>, L: Ledger>(
     shared(alloc, made)
 }
 
-/// The sum of a queue's parts: of the flows that enter there, and of those that come from each server before, cut by the
-/// longest packet and the rate with which they come. The parts are made in the order of these servers, and then they are
-/// added up.
-pub fn parts_sum<T: Table<Value>, L: Ledger>(
-    alloc: Global,
-    table: &T,
-    net: &Network,
-    place: (u32, u32),
-    steps: &mut Steps<L>,
-) -> Result<Value, OpFault>
-    requires { (part i k : ℕ) → part ≤ length net.now.servers →
-        chosen net.now place.0 (InPart place.1 part) None i ≡ visit_list i (Some k) →
-        IsCurveAt (T.at table.now) (cell_of In i k) }
-    ensures answer { Gives (T.at table.now) (parts_sum net.now place.0 place.1 (part_numbers net.now))
-        (answer_of meaning_of result) }
-    ensures refused { IfErr result (λ fault. RefusedAt (T.at table.now)
-        (parts_sum net.now place.0 place.1 (part_numbers net.now)) fault (steps.new - steps.old)) }
-    ensures counts { Counts (parts_work net.now place.0 place.1) steps.old steps.new (answer_of meaning_of result) }
-{
-    match parts_made(alloc, table, net, place, steps) {
-        Ok(parts) => added_up(alloc, table, &parts, steps),
-        Err(fault) => Err(fault),
+impl<T: Table<Value>> Inputs<'_, T> {
+    /// The sum of a queue's parts: of the flows that enter there, and of those that come from each server before, cut by the
+    /// longest packet and the rate with which they come. The parts are made in the order of these servers, and then they are
+    /// added up.
+    pub(crate) fn parts_sum<L: Ledger>(&self, place: (u32, u32), steps: &mut Steps<L>) -> Answer
+        requires { (part i k : ℕ) → part ≤ length self.now.net.now.servers →
+            chosen self.now.net.now place.0 (InPart place.1 part) None i ≡ visit_list i (Some k) →
+            IsCurveAt (T.at self.now.table.now) (cell_of In i k) }
+        ensures answer { Gives (T.at self.now.table.now) (parts_sum self.now.net.now place.0 place.1 (part_numbers self.now.net.now))
+            (answer_of meaning_of result) }
+        ensures refused { IfErr result (λ fault. RefusedAt (T.at self.now.table.now)
+            (parts_sum self.now.net.now place.0 place.1 (part_numbers self.now.net.now)) fault (steps.new - steps.old)) }
+        ensures counts { Counts (parts_work self.now.net.now place.0 place.1) steps.old steps.new (answer_of meaning_of result) }
+    {
+        match parts_made(self.alloc, self.table, self.net, place, steps) {
+            Ok(parts) => added_up(self.alloc, self.table, &parts, steps),
+            Err(fault) => Err(fault),
+        }
     }
 }

@@ -20,6 +20,7 @@ ghost use Rattle.net_cells.specs.cell_table.Values.{answer_of, meaning_of};
 ghost use Rattle.outcomes.specs.Spending.{Counts};
 ghost use Rattle.cell_numbers.specs.TableValues.{IsCurveAt};
 
+use crate::inputs::{Answer, Inputs};
 use crate::sharing::{copied, shared};
 use arrayvec::ArrayVec;
 use cell_numbers::{Pick, curve_at, longest_at};
@@ -97,32 +98,35 @@ fn by_share<L: Ledger>(
     shared(alloc, made)
 }
 
-/// The curve that serves a queue.
-pub fn queue_service<T: Table<Value>, L: Ledger>(
-    alloc: Global,
-    table: &T,
-    net: &Network,
-    place: (u32, u32),
-    steps: &mut Steps<L>,
-) -> Result<Value, OpFault>
-    requires queue { place.1 < at.queues net.now place.0 }
-    requires above { EachBefore (IsCurveAt (T.at table.now))
-        (left_of net.now place.0 place.1 (at.discipline net.now place.0)) }
-    ensures answer { Answers (T.at table.now)
-        (formulas.queue_service net.now place.0 place.1 (at.discipline net.now place.0)) (answer_of meaning_of result) }
-    ensures refused { IfErr result (λ fault. RefusedAt (T.at table.now)
-        (formulas.queue_service net.now place.0 place.1 (at.discipline net.now place.0)) fault (steps.new - steps.old)) }
-    ensures counts { Counts (left_work (left_of net.now place.0 place.1 (at.discipline net.now place.0)))
-        steps.old steps.new (answer_of meaning_of result) }
-{
-    match server(net, place.0) {
-        Some(found) => match leaves(&found.discipline) {
-            Leaving::All => shared(alloc, copied(&found.service)),
-            Leaving::Above => above_others(alloc, table, net, &found.service, place, steps),
-            Leaving::Share { quanta } => {
-                by_share(alloc, net, &found.service, quanta, place, steps)
-            }
-        },
-        None => unreachable!(),
+impl<T: Table<Value>> Inputs<'_, T> {
+    /// The curve that serves a queue.
+    pub(crate) fn queue_service<L: Ledger>(&self, place: (u32, u32), steps: &mut Steps<L>) -> Answer
+        requires queue { place.1 < at.queues self.now.net.now place.0 }
+        requires above { EachBefore (IsCurveAt (T.at self.now.table.now))
+            (left_of self.now.net.now place.0 place.1 (at.discipline self.now.net.now place.0)) }
+        ensures answer { Answers (T.at self.now.table.now)
+            (formulas.queue_service self.now.net.now place.0 place.1 (at.discipline self.now.net.now place.0)) (answer_of meaning_of result) }
+        ensures refused { IfErr result (λ fault. RefusedAt (T.at self.now.table.now)
+            (formulas.queue_service self.now.net.now place.0 place.1 (at.discipline self.now.net.now place.0)) fault (steps.new - steps.old)) }
+        ensures counts { Counts (left_work (left_of self.now.net.now place.0 place.1 (at.discipline self.now.net.now place.0)))
+            steps.old steps.new (answer_of meaning_of result) }
+    {
+        match server(self.net, place.0) {
+            Some(found) => match leaves(&found.discipline) {
+                Leaving::All => shared(self.alloc, copied(&found.service)),
+                Leaving::Above => above_others(
+                    self.alloc,
+                    self.table,
+                    self.net,
+                    &found.service,
+                    place,
+                    steps,
+                ),
+                Leaving::Share { quanta } => {
+                    by_share(self.alloc, self.net, &found.service, quanta, place, steps)
+                }
+            },
+            None => unreachable!(),
+        }
     }
 }

@@ -10,7 +10,7 @@ ghost use Rattle.net_cells.specs.cell_table.Values.{answer_of, meaning_of};
 ghost use Rattle.cell_eval.specs.Partial.{Adds, IsReady};
 ghost use Rattle.outcomes.specs.Spending.{Counts};
 
-use crate::{Partial, finished};
+use crate::curve_sums::{Partial, finished};
 use net_cells::cell_table::{Table, Value};
 use std::alloc::Global;
 use upp_limits::OpFault;

@@ -1,9 +1,8 @@
 -- Shapes of curves and numbers of cells. Own choice of the words.
 use Rattle.rational.specs.Rational.{ℚ}
-use Rattle.rational.specs.Extended.{Ext, ◌≤ₑ◌}
-use Rattle.rational.specs.declared.Extended.TheVariants.{Fin}
+use Rattle.rational.specs.Extended.{Ext}
 use Rattle.upp_curve.specs.Curve.{SpecCurve, value_at}
-use Rattle.min_plus.specs.Functions.{zero_q, IsFinite, IsRising, IsNonnegative}
+use Rattle.min_plus.specs.Functions.{IsFinite, IsRising, IsNonnegative}
 use Rattle.curve_call.specs.Growth.{GrowsFromZero}
 
 -- finite, rising, and nowhere below 0; it need not be 0 at 0

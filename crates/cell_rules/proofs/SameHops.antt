@@ -9,7 +9,7 @@ use Rattle.net_cells.specs.declared.cell.Cell.{Cell}
 use Rattle.net_cells.specs.declared.cell.Kind.TheVariants.{In, Cross}
 use Rattle.net_cells.specs.Numbered.{flow_at, path_of, server_of_hop, queue_of_hop}
 use Rattle.net_cells.specs.declared.visit.Visit.{Visit}
-use Rattle.net_cells.specs.Visits.{visit, visits_in, others, is_at, longest, longest_after, longest_of}
+use Rattle.net_cells.specs.Visits.{visit, visits_in, others, is_at, longest_of}
 use Rattle.net_cells.specs.Order.{at_visit}
 use Rattle.net_cells.specs.Formulas.{leaves}
 use Rattle.net_cells.specs.CellFormulas.{sum_of_cells, sum_of_hops}
@@ -17,10 +17,10 @@ use Rattle.net_cells.proofs.Growing.{flat_more, flat_below}
 use Rattle.net_cells.proofs.LeavesOf.{sum_leaves}
 use Rattle.net_cells.proofs.Lists.{Has, map_has, filter_has, has_flat, flat_has, has_range}
 use Rattle.cell_numbers.specs.declared.found.Pick.{Pick}
-use Rattle.cell_numbers.specs.declared.found.Pick.TheVariants.{InQueue, AfterQueue}
+use Rattle.cell_numbers.specs.declared.found.Pick.TheVariants.{InQueue}
 use Rattle.cell_numbers.specs.Chosen.{visit_list, picks, is_other, picked, chosen, flow_visits, all_chosen, all_picked}
 use Rattle.cell_numbers.proofs.Choosing.{queue_visits, other_visits, picked_are, all_chosen_more}
-use Rattle.cell_rules.specs.Rules.{TellsSame, TellsFormula}
+use Rattle.cell_rules.specs.Rules.{TellsSame, TellsFormula, longest_meant}
 use Rattle.cell_rules.proofs.Tells.{tells_by, tells_of}
 
 -- ---- a list for each number
@@ -163,10 +163,6 @@ some_chosen net s pick n (Some k) l f h z =
     (has_range 0 (length net.flows) n (omega arith) (omega arith)) there)
 
 -- ---- their longest packets
-pub longest_is : (net : Net) (s q n : ℕ) → n ≡ longest_of net (all_picked net s (InQueue q) (length net.flows))
-    → n ≡ longest net s q
-longest_is net s q n e = e ∙ sym (ap (longest_of net) (picked_are net s (InQueue q)))
-
-pub longest_after_is : (net : Net) (s q n : ℕ) → n ≡ longest_of net (all_picked net s (AfterQueue q) (length net.flows))
-    → n ≡ longest_after net s q
-longest_after_is net s q n e = e ∙ sym (ap (longest_of net) (picked_are net s (AfterQueue q)))
+pub longest_is : (net : Net) (s : ℕ) (pick : Pick) (n : ℕ) → n ≡ longest_of net (all_picked net s pick (length net.flows))
+    → n ≡ longest_meant net s pick
+longest_is net s pick n e = e ∙ sym (ap (longest_of net) (picked_are net s pick))

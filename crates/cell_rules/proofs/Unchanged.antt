@@ -17,7 +17,7 @@ use Rattle.net_cells.specs.Left.{left_of}
 use Rattle.net_cells.specs.Order.{at_visit}
 use Rattle.net_cells.specs.Cells.{scope_of, is_in_scope, has_cell}
 use Rattle.net_cells.specs.Formulas.{given, cut, part, no_part}
-use Rattle.net_cells.specs.CellFormulas.{formula_of, value, left_formula, sum_of_cells, sum_of_hops, with_part, parts_sum, total, served_to, link_delays}
+use Rattle.net_cells.specs.CellFormulas.{formula_of, left_formula, sum_of_cells, sum_of_hops, with_part, parts_sum, total, served_to, link_delays}
 use Rattle.net_cells.proofs.Lists.{Has}
 use Rattle.net_cells.proofs.LeftOf.{left_same}
 use Rattle.cell_numbers.specs.declared.found.Pick.TheVariants.{InQueue, AfterQueue, InPart}

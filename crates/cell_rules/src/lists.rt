@@ -7,7 +7,7 @@ ghost use Rattle.net_cells.specs.Visits as visiting;
 ghost use Rattle.net_cells.specs.QueueParts.{part_numbers};
 ghost use Rattle.net_cells.specs.CellFormulas.{parts_sum};
 ghost use Rattle.cell_numbers.specs.Chosen.{all_chosen};
-ghost use Rattle.cell_rules.specs.Rules.{TellsSame, TellsFormula, link_of, one_part};
+ghost use Rattle.cell_rules.specs.Rules.{TellsSame, TellsFormula, link_of, longest_meant, one_part};
 
 use crate::reads::same_number;
 use cell_numbers::{Pick, chosen_at, longest_at, rate};
@@ -146,21 +146,12 @@ pub(crate) fn same_total(old: &Network, new: &Network, server: u32, queue: u32) 
     same_hops(old, place, new, place, None)
 }
 
-/// Whether the longest packet of a queue has as many bits in both networks.
-pub(crate) fn same_longest(old: &Network, new: &Network, server: u32, queue: u32) -> bool
-    ensures { TellsSame (visiting.longest old.now server queue) (visiting.longest new.now server queue) result }
+/// Whether the longest packet of the hops that are meant has as many bits in both networks.
+pub(crate) fn same_longest(old: &Network, new: &Network, server: u32, pick: Pick) -> bool
+    ensures { TellsSame (longest_meant old.now server pick) (longest_meant new.now server pick) result }
 {
-    let bits = longest_at(old, server, Pick::InQueue(queue));
-    let new_bits = longest_at(new, server, Pick::InQueue(queue));
-    bits == new_bits
-}
-
-/// Whether the longest packet of the queues of greater number has.
-pub(crate) fn same_longest_after(old: &Network, new: &Network, server: u32, queue: u32) -> bool
-    ensures { TellsSame (visiting.longest_after old.now server queue) (visiting.longest_after new.now server queue) result }
-{
-    let bits = longest_at(old, server, Pick::AfterQueue(queue));
-    let new_bits = longest_at(new, server, Pick::AfterQueue(queue));
+    let bits = longest_at(old, server, pick);
+    let new_bits = longest_at(new, server, pick);
     bits == new_bits
 }
 
@@ -170,7 +161,7 @@ pub(crate) fn same_longest_each(old: &Network, new: &Network, server: u32, count
         (map (visiting.longest new.now server) (range_with_len 0 count)) result }
 {
     for queue in 0..count {
-        if !same_longest(old, new, server, queue) {
+        if !same_longest(old, new, server, Pick::InQueue(queue)) {
             return false;
         }
     }

@@ -1,10 +1,11 @@
 //! The cells of a network by a number.
 
 ghost use Rattle.std.specs.Prelude.{◌≡◌, ◌++◌, IfOk, OnOk};
+ghost use Rattle.std.specs.List.{flat_map};
 ghost use Rattle.cell_rules.specs.Finding.{AreCellsOf, kind_cells_of};
 
 use crate::rule::has_cell;
-use net_cells::{Cell, Kind};
+use net_cells::{Cell, Kind, PATH_KINDS, SERVER_KINDS};
 use net_model::Network;
 use std::alloc::{AllocError, Global};
 
@@ -29,34 +30,29 @@ fn push_kind(
     Ok(())
 }
 
+// Those of some kinds, after others.
+fn push_kinds(
+    cells: &mut Vec<Cell>,
+    net: &Network,
+    kinds: &[Kind],
+    number: u32,
+) -> Result<(), AllocError>
+    ensures { OnOk result (cells.new.items ≡ cells.old.items ++ flat_map (kind_cells_of net.now number) kinds.now) }
+{
+    for kind in kinds {
+        push_kind(cells, net, *kind, number)?;
+    }
+    Ok(())
+}
+
 /// The cells of a network by a number: those of the flow and those of the server that have it. Refused only for want of
 /// memory.
 pub fn cells_of(alloc: Global, net: &Network, number: u32) -> Result<Vec<Cell>, AllocError>
     ensures { IfOk result (λ v. AreCellsOf net.now number v.items) }
 {
     net.keeps();
-    let kinds = [
-        Kind::In,
-        Kind::Cross,
-        Kind::Total,
-        Kind::Higher,
-        Kind::QueueService,
-        Kind::Theta,
-        Kind::Residual,
-        Kind::QueueDelay,
-        Kind::QueueBacklog,
-        Kind::HopDelay,
-        Kind::ShiftOut,
-        Kind::DeconvOut,
-        Kind::Out,
-        Kind::PathService,
-        Kind::Tfa,
-        Kind::Sfa,
-        Kind::Bound,
-    ];
     let mut cells = Vec::new(alloc);
-    for kind in &kinds {
-        push_kind(&mut cells, net, *kind, number)?;
-    }
+    push_kinds(&mut cells, net, &SERVER_KINDS, number)?;
+    push_kinds(&mut cells, net, &PATH_KINDS, number)?;
     Ok(cells)
 }

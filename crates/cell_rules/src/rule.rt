@@ -11,6 +11,7 @@ ghost use Rattle.cell_rules.specs.Rules.{TellsSame, TellsFormula};
 use crate::lists::{same_cross, same_longest, same_total};
 use crate::reads::{same_arrival, same_links, same_packet, same_place};
 use crate::services::same_queue_service;
+use cell_numbers::Pick;
 use net_cells::{Cell, Kind, Scope, hops, levels, live_flow, queues};
 use net_model::Network;
 
@@ -79,7 +80,7 @@ fn same_formula(cell: Cell, old: &Network, new: &Network) -> bool
         Kind::QueueService => same_queue_service(old, new, cell.a, cell.b),
         Kind::Theta => same_place(old, new, cell.a, cell.b),
         Kind::Residual => same_place(old, new, cell.a, cell.b),
-        Kind::QueueBacklog => same_longest(old, new, cell.a, cell.b),
+        Kind::QueueBacklog => same_longest(old, new, cell.a, Pick::InQueue(cell.b)),
         Kind::HopDelay => same_place(old, new, cell.a, cell.b),
         Kind::DeconvOut => same_packet(old, new, cell.a),
         Kind::PathService => same_path(old, new, cell.a),

@@ -9,8 +9,9 @@ ghost use Rattle.net_cells.specs.Left.{left_by};
 ghost use Rattle.net_cells.specs.Numbered as at;
 ghost use Rattle.cell_rules.specs.Rules.{TellsSame, TellsFormula};
 
-use crate::lists::{same_longest_after, same_longest_each};
+use crate::lists::{same_longest, same_longest_each};
 use crate::reads::same_curve;
+use cell_numbers::Pick;
 use net_cells::{Leaving, leaves, server};
 use net_model::{Network, Server};
 
@@ -39,7 +40,7 @@ fn same_left(
         },
         Leaving::Above => match g {
             Leaving::All => false,
-            Leaving::Above => same_longest_after(old, new, place.0, place.1),
+            Leaving::Above => same_longest(old, new, place.0, Pick::AfterQueue(place.1)),
             Leaving::Share { .. } => false,
         },
         Leaving::Share { quanta } => match g {

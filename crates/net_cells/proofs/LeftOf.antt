@@ -9,7 +9,7 @@ use Rattle.std.proofs.lemmas.List.FromFn.{length-range_with_len, length-map-rang
 use Rattle.rational.specs.Rational.{ℚ}
 use Rattle.rational.specs.Extended.{Ext}
 use Rattle.upp_curve.specs.Curve.{SpecCurve}
-use Rattle.residuals.specs.left.Left.{Left, all, above, share, map_left, EachBefore, IsFit}
+use Rattle.residuals.specs.left.Left.{Left, above, share, map_left, EachBefore, IsFit}
 use Rattle.residuals.specs.left.Laws.{IsLeftTo}
 use Rattle.run_laws.specs.Cards.{of_queue, before_queue, after_queue, ServerStep}
 use Rattle.run_laws.specs.Servers.{Discipline, Fifo, Priority, Drr, Server, queue_count}

@@ -22,9 +22,9 @@ use Rattle.net_cells.specs.QueueParts.{part_of, in_part, part_numbers, by_parts}
 use Rattle.net_cells.specs.Cells.{cell_of, scope_of, is_in_scope, has_cell, server_kinds, path_kinds}
 use Rattle.net_cells.specs.Order.{at_visit, evaluation_order, server_cells, kind_cells, path_cells}
 use Rattle.net_cells.specs.Formulas.{Formula, leaves, made, value_of}
-use Rattle.net_cells.specs.CellFormulas.{formula, total, sum_of_cells, sum_from, packets_to, served_to, queue_service, less}
+use Rattle.net_cells.specs.CellFormulas.{formula, total, sum_of_cells, sum_from, queue_service, less}
 use Rattle.net_cells.specs.Laws.{OperandsComeFirst, OperandsAreCells}
-use Rattle.net_cells.proofs.LeavesOf.{parts_leaves}
+use Rattle.net_cells.proofs.LeavesOf.{parts_leaves, served_leaves}
 use Rattle.net_cells.proofs.Lists.{Before, map_has, flat_has, filter_has, range_has, before_left, before_right, before_across, before_flat, before_inside, before_place, before_split, Apart}
 use Rattle.net_cells.proofs.Places.{flow_inside, live_inside, visit_has, home, home_in, rank, kinds_before, path_kinds_before, IsHome, has_kind, has_server, has_path}
 use Rattle.net_cells.proofs.Members.{hop_of, hop_kept, home_inside, home_in_order, order_has, apart_cells}
@@ -419,41 +419,15 @@ of_path net order i k kind last d o h e p same =
     (at_hop net kind i k (server_of_hop net i k) e h refl) p)
     same
 
--- the leaves of the service along a path
-packets_leaves : (net : Net) (i k : ℕ) (d : Cell) → Has (leaves (packets_to net i k)) d
-    → (j : ℕ) × (j ≤ k) × (cell_of Residual i j ≡ d)
-packets_leaves net i zero d (inl e) = (0, omega arith, e)
-packets_leaves net i zero d (inr n) = absurd n
-packets_leaves net i (suc k) d h =
-    elim (has_either (leaves (packets_to net i k)) (cell_of Residual i (suc k) ∷ []) d h) [
-      | inl l ↦ let found = packets_leaves net i k d l in (found.0, omega (arith, found.1), found.2)
-      | inr r ↦ one r
-    ]
-  where
-    one : Has (cell_of Residual i (suc k) ∷ []) d → (j : ℕ) × (j ≤ suc k) × (cell_of Residual i j ≡ d)
-    one (inl e) = (suc k, omega arith, e)
-    one (inr n) = absurd n
-
-served_leaves : (net : Net) (i k : ℕ) (d : Cell) → Has (leaves (served_to net i k)) d
-    → (j : ℕ) × (j ≤ k) × (cell_of Residual i j ≡ d)
-served_leaves net i zero d (inl e) = (0, omega arith, e)
-served_leaves net i zero d (inr n) = absurd n
-served_leaves net i (suc k) d h =
-    elim (has_either (leaves (packets_to net i k)) (cell_of Residual i (suc k) ∷ []) d h) [
-      | inl l ↦ let found = packets_leaves net i k d l in (found.0, omega (arith, found.1), found.2)
-      | inr r ↦ one r
-    ]
-  where
-    one : Has (cell_of Residual i (suc k) ∷ []) d → (j : ℕ) × (j ≤ suc k) × (cell_of Residual i j ≡ d)
-    one (inl e) = (suc k, omega arith, e)
-    one (inr n) = absurd n
-
 path_service_first : (net : Net) (order : List ℕ) (i : ℕ) → Ordered net order → is_live net i ≡ true
     → OperandsFirst net order (cell_of PathService i 0)
 path_service_first net order i o h d m =
-    let found = served_leaves net i (hops net i - 1) d m in
+    let count = hops net i - 1 + 1 in
+    let found = map_has (cell_of Residual i) (range_with_len 0 count) d
+    (subst (λ (cs : List Cell). Has cs d) (served_leaves net i (hops net i - 1)) m) in
+    let low = range_has 0 count found.0 found.1 in
     let some = some_hop net i o.kept h in
-    of_path net order i found.0 Residual PathService d o (omega (arith, found.1, some)) refl
+    of_path net order i found.0 Residual PathService d o (omega (arith, low.1, some)) refl
     (has_flat (path_cells net) path_kinds PathService (cell_of PathService i 0) (inl refl)
     (has_path net PathService i h))
     found.2

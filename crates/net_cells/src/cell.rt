@@ -39,6 +39,26 @@ pub enum Kind {
     Bound,
 }
 
+/// The kinds of the cells at a server, in the order in which they are taken there.
+pub const SERVER_KINDS: [Kind; 13] = [
+    Kind::In,
+    Kind::Cross,
+    Kind::Total,
+    Kind::Higher,
+    Kind::QueueService,
+    Kind::Theta,
+    Kind::Residual,
+    Kind::QueueDelay,
+    Kind::QueueBacklog,
+    Kind::HopDelay,
+    Kind::ShiftOut,
+    Kind::DeconvOut,
+    Kind::Out,
+];
+
+/// The kinds of the cells of whole paths, in the order in which they are taken.
+pub const PATH_KINDS: [Kind; 4] = [Kind::PathService, Kind::Tfa, Kind::Sfa, Kind::Bound];
+
 /// What a kind has cells for.
 #[derive(Debug, Clone, Copy, PartialEq, Eq)]
 pub enum Scope {

@@ -14,7 +14,7 @@ mod order;
 mod parts;
 mod visit;
 
-pub use cell::{Cell, Kind, Scope};
+pub use cell::{Cell, Kind, PATH_KINDS, SERVER_KINDS, Scope};
 pub use effort::work;
 pub use laws::{
     answers_meet_equations, formulas_are_determined, front_meets_below, memory_ends_sooner,

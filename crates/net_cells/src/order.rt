@@ -6,7 +6,7 @@ ghost use Rattle.net_cells.specs.Visits as visiting;
 ghost use Rattle.net_cells.specs.Cells.{cell_of, scope_of, path_kinds};
 ghost use Rattle.net_cells.specs.Order.{at_visit, kind_cells, server_cells, path_cells, evaluation_order};
 
-use crate::cell::{Cell, Kind, Scope};
+use crate::cell::{Cell, Kind, PATH_KINDS, SERVER_KINDS, Scope};
 use crate::numbered::{hops, levels, queues};
 use crate::visit::{Visit, visits};
 use net_model::Network;
@@ -33,6 +33,16 @@ impl Kind {
 }
 
 // ---- the cells of a kind at a server
+fn at_visit(kind: Kind, v: Visit) -> Cell
+    ensures { result ≡ at_visit kind v }
+{
+    Cell {
+        kind,
+        a: v.flow,
+        b: v.hop,
+    }
+}
+
 pub(crate) fn push_visits(
     cells: &mut Vec<Cell>,
     kind: Kind,
@@ -41,11 +51,7 @@ pub(crate) fn push_visits(
     ensures { OnOk result (cells.new.items ≡ cells.old.items ++ map (at_visit kind) here.now) }
 {
     for v in here {
-        cells.push(Cell {
-            kind,
-            a: v.flow,
-            b: v.hop,
-        })?;
+        cells.push(at_visit(kind, *v))?;
     }
     Ok(())
 }
@@ -68,11 +74,7 @@ fn push_going_on(
 {
     for v in here {
         if goes_on(net, *v) {
-            cells.push(Cell {
-                kind,
-                a: v.flow,
-                b: v.hop,
-            })?;
+            cells.push(at_visit(kind, *v))?;
         }
     }
     Ok(())
@@ -121,22 +123,7 @@ fn push_server(
     ensures { OnOk result (cells.new.items ≡ cells.old.items ++ server_cells net.now server) }
 {
     let here = visits(alloc, net, server)?;
-    let kinds = [
-        Kind::In,
-        Kind::Cross,
-        Kind::Total,
-        Kind::Higher,
-        Kind::QueueService,
-        Kind::Theta,
-        Kind::Residual,
-        Kind::QueueDelay,
-        Kind::QueueBacklog,
-        Kind::HopDelay,
-        Kind::ShiftOut,
-        Kind::DeconvOut,
-        Kind::Out,
-    ];
-    for kind in &kinds {
+    for kind in &SERVER_KINDS {
         push_kind(cells, net, *kind, server, &here)?;
     }
     Ok(())
@@ -162,8 +149,7 @@ fn push_paths(cells: &mut Vec<Cell>, net: &Network, kind: Kind) -> Result<(), Al
 fn push_all_paths(cells: &mut Vec<Cell>, net: &Network) -> Result<(), AllocError>
     ensures { OnOk result (cells.new.items ≡ cells.old.items ++ flat_map (path_cells net.now) path_kinds) }
 {
-    let kinds = [Kind::PathService, Kind::Tfa, Kind::Sfa, Kind::Bound];
-    for kind in &kinds {
+    for kind in &PATH_KINDS {
         push_paths(cells, net, *kind)?;
     }
     Ok(())

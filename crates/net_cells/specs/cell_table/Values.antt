@@ -1,11 +1,8 @@
--- What values of cells stand for: one, what makes one answers, and those of a map. Own choice.
+-- What values of cells stand for: one, and what makes one answers. Own choice.
 use Rattle.std.specs.Prelude.{Result, Ok, Err}
-use Rattle.std.specs.Option.{option_map}
-use Rattle.std.specs.declared.cmp.Ordering.{Ordering}
-use Rattle.std.specs.BTreeMap.{BTreeMap, get}
 use Rattle.upp_limits.specs.declared.op_kind.OpFault.{OpFault}
 use Rattle.net_cells.specs.declared.cell.Cell.{Cell}
-use Rattle.net_cells.specs.Meanings.{Meaning, curve, number, CellTable}
+use Rattle.net_cells.specs.Meanings.{Meaning, curve, number}
 use Rattle.net_cells.specs.Answers.{Answer}
 use Rattle.net_cells.specs.declared.cell_table.value.Value.{Value}
 use Rattle.net_cells.specs.declared.cell_table.value.Value.TheVariants.{Curve, Number}
@@ -17,7 +14,3 @@ meaning_of (Number x) = number x
 abbrev pub answer_of : {V : Type 0} → (V → Meaning) → Result V OpFault → Answer
 answer_of meaning (Ok v) = Ok (meaning v)
 answer_of meaning (Err fault) = Err fault
-
--- what a map has at each cell
-abbrev pub held : {V : Type 0} → (Cell → Cell → Ordering) → (V → Meaning) → BTreeMap Cell V → CellTable
-held cmp meaning m c = option_map meaning (get cmp m c)

@@ -1,23 +1,105 @@
 //! Tables that are filled cell by cell.
 
-use crate::Cell;
-use crate::cell_table::table::{CellValue, Table};
-use std::alloc::{AllocError, Global};
-use std::collections::BTreeMap;
+ghost use Rattle.std.specs.Prelude.{◌≡◌, ◌≤◌, ◌<◌, ℕ, None, OnOk, length, option_copied, slice_index_or};
+ghost use Rattle.net_cells.specs.cell_table.Rows.{entry, kind_number, row_of};
 
-/// Values by cell, in the order of the cells.
+use crate::cell_table::table::{CellValue, Table};
+use crate::{Cell, Kind};
+use std::alloc::{AllocError, Global};
+
+/// How many kinds there are.
+const KINDS: usize = 17;
+
+// The number of a kind, from 0.
+fn kind_number(kind: Kind) -> usize
+    ensures value { result ≡ kind_number kind }
+    ensures small { result < 17 }
+{
+    match kind {
+        Kind::In => 0,
+        Kind::Cross => 1,
+        Kind::Total => 2,
+        Kind::Higher => 3,
+        Kind::QueueService => 4,
+        Kind::Theta => 5,
+        Kind::Residual => 6,
+        Kind::QueueDelay => 7,
+        Kind::QueueBacklog => 8,
+        Kind::HopDelay => 9,
+        Kind::ShiftOut => 10,
+        Kind::DeconvOut => 11,
+        Kind::Out => 12,
+        Kind::PathService => 13,
+        Kind::Tfa => 14,
+        Kind::Sfa => 15,
+        Kind::Bound => 16,
+    }
+}
+
+// The row of a cell.
+fn row_of(cell: Cell) -> usize
+    ensures value { result ≡ row_of cell }
+    ensures small { result < 2 ^ 37 }
+{
+    cell.a as usize * KINDS + kind_number(cell.kind)
+}
+
+// What a row has at a place; nothing past its end.
+fn in_row<V>(row: &[Option<V>], place: usize) -> Option<&V>
+    ensures { option_copied result ≡ slice_index_or row.now place None }
+{
+    if place < row.len() {
+        row[place].as_ref()
+    } else {
+        None
+    }
+}
+
+// Makes room for so many rows, of which the new ones have nothing.
+fn grow_rows<V: Drop>(
+    alloc: Global,
+    rows: &mut Vec<Vec<Option<V>>>,
+    count: usize,
+) -> Result<(), AllocError>
+    ensures same { (i k : ℕ) → entry rows.new.items i k ≡ entry rows.old.items i k }
+    ensures room { OnOk result (count ≤ length rows.new.items) }
+{
+    for _number in rows.len()..count {
+        rows.push(Vec::new(alloc))?;
+    }
+    Ok(())
+}
+
+// Makes room for so many places in a row, of which the new ones have nothing.
+fn grow_row<V: Drop>(row: &mut Vec<Option<V>>, count: usize) -> Result<(), AllocError>
+    ensures same { (k : ℕ) → slice_index_or row.new.items k None ≡ slice_index_or row.old.items k None }
+    ensures room { OnOk result (count ≤ length row.new.items) }
+{
+    for _number in row.len()..count {
+        row.push(None)?;
+    }
+    Ok(())
+}
+
+/// Values by cell: a row for each kind and first number, in it by the second number. A cell is looked up without a search.
 #[derive(Drop)]
 pub struct Analysis<V: CellValue + Drop> {
-    values: BTreeMap<Cell, V>,
+    alloc: Global,
+    rows: Vec<Vec<Option<V>>>,
 }
 
 impl<V: CellValue + Drop> Table<V> for Analysis<V> {
-    ghost use Rattle.net_cells.specs.cell_table.Values.{held};
+    ghost use Rattle.net_cells.specs.cell_table.Rows.{held};
 
-    ghost at = { λ t. held ⟦<Cell as Ord>⟧.cmp V.meaning t.values };
+    ghost at = { λ t. held V.meaning t.rows.items };
 
     fn value(&self, cell: Cell) -> Option<&V> {
-        self.values.get(&cell)
+        let row = row_of(cell);
+        if row < self.rows.len() {
+            in_row(&self.rows[row], cell.b as usize)
+        } else {
+            None
+        }
     }
 }
 
@@ -30,7 +112,8 @@ impl<V: CellValue + Drop> Analysis<V> {
         ensures { (c : Cell) → ⟦<Analysis<V> as Table<V>>⟧.at result c ≡ None }
     {
         Analysis {
-            values: BTreeMap::new(alloc),
+            alloc,
+            rows: Vec::new(alloc),
         }
     }
 
@@ -42,7 +125,11 @@ impl<V: CellValue + Drop> Analysis<V> {
         ensures kept { OnErr result
             ((c : Cell) → ⟦<Analysis<V> as Table<V>>⟧.at self.new c ≡ ⟦<Analysis<V> as Table<V>>⟧.at self.old c) }
     {
-        self.values.insert(cell, value)?;
+        let row = row_of(cell);
+        let place = cell.b as usize;
+        grow_rows(self.alloc, &mut self.rows, row + 1)?;
+        grow_row(&mut self.rows[row], place + 1)?;
+        self.rows[row][place] = Some(value);
         Ok(())
     }
 }

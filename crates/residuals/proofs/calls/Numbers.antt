@@ -1,5 +1,5 @@
 -- The numbers of a queue in a round: sums are small, and what is owed is a quotient of whole numbers.
-use Rattle.std.specs.Prelude.{◌≡◌, ◌≢◌, ◌+◌, ◌-◌, ◌*◌, ◌<◌, ◌≤◌, ◌^◌, ℕ, zero, suc, ℤ, pos, List, length, get_or, sum, ◌↔◌, Result, Ok, Err, IsOk}
+use Rattle.std.specs.Prelude.{◌≡◌, ◌≢◌, ◌+◌, ◌-◌, ◌*◌, ◌<◌, ◌≤◌, ◌^◌, ℕ, zero, suc, ℤ, pos, List, length, sum, ◌↔◌, Result, Ok, Err, IsOk}
 use Rattle.std.proofs.Common.{arith, sym, ap, ap₂, ◌∙◌, refl}
 use Rattle.std.proofs.lemmas.List.Elements.{All-get_or, All-from_get_or}
 use Rattle.std.proofs.lemmas.List.Sums.{sum_by-le}

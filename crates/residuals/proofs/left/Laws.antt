@@ -1,5 +1,5 @@
 -- What is left to a queue serves it and grows from zero, by the law of each way in which a server leaves it.
-use Rattle.std.specs.Prelude.{◌≡◌, ◌≤◌, ◌<◌, ℕ, List, length, get_or}
+use Rattle.std.specs.Prelude.{◌≤◌, ◌<◌, ℕ, List, length, get_or}
 use Rattle.std.proofs.Common.{sym, subst}
 use Rattle.std.proofs.lemmas.List.Elements.{All-get_or}
 use Rattle.rational.specs.Rational.{ℚ}

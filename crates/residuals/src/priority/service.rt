@@ -8,15 +8,17 @@ ghost use Rattle.residual_laws.specs.PriorityLaws.{IsPriorityService};
 ghost use Rattle.residuals.specs.calls.InTurn.{LeftRefused, PriorityRefused};
 ghost use Rattle.outcomes.specs.Spending.{Counts};
 
+use crate::packetiser::packetised;
 use outcomes::Steps;
 use plain_operators::intact;
-use plain_operators::pointwise::{pos_diff, pos_minus};
+use plain_operators::pointwise::pos_diff;
 use plain_operators::running::run_sup;
 use run_laws::whole;
 use std::alloc::Global;
 use std::sync::ledger::Ledger;
 use upp_curve::Curve;
 use upp_limits::OpFault;
+
 // What the service has above the higher queues' curve, less one packet of the lower queues. Its first curve is let go
 // here.
 fn priority_left<L: Ledger>(
@@ -33,7 +35,7 @@ fn priority_left<L: Ledger>(
     ensures counts { Counts 2 steps.old steps.new result }
 {
     let above = intact(pos_diff(alloc, beta, higher, steps))?;
-    intact(pos_minus(alloc, &above, whole(lower), steps))
+    packetised(alloc, &above, whole(lower), steps)
 }
 
 /// The service of one queue of a priority server whose curve is `beta`: the running supremum of what beta has above

@@ -1,4 +1,4 @@
-use Rattle.net_cells.specs.Visits.{longest}
+use Rattle.cell_rules.specs.Rules.{longest_meant}
 use Rattle.cell_rules.proofs.Tells.{tells_numbers}
 use Rattle.cell_rules.proofs.SameHops.{longest_is}
 use Rattle.cell_rules.proofs.lists.same_longest.Goals as goal
@@ -8,7 +8,7 @@ returns c =
     let old = c.args.old.now in
     let new = c.args.new.now in
     let s = c.args.server in
-    let q = c.args.queue in
-    tells_numbers c.longest_at-bits.result c.longest_at-new_bits.result (longest old s q) (longest new s q)
-    (longest_is old s q c.longest_at-bits.result c.longest_at-bits.ensures)
-    (longest_is new s q c.longest_at-new_bits.result c.longest_at-new_bits.ensures)
+    let pick = c.args.pick in
+    tells_numbers c.longest_at-bits.result c.longest_at-new_bits.result (longest_meant old s pick) (longest_meant new s pick)
+    (longest_is old s pick c.longest_at-bits.result c.longest_at-bits.ensures)
+    (longest_is new s pick c.longest_at-new_bits.result c.longest_at-new_bits.ensures)

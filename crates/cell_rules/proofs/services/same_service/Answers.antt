@@ -1,4 +1,4 @@
-use Rattle.std.proofs.Common.{◌≡◌, ◌<◌, ℕ, sym, ap, ap₂, ◌∙◌, subst}
+use Rattle.std.proofs.Common.{◌≡◌, ◌<◌, ℕ, sym, ap, ◌∙◌, subst}
 use Rattle.std.specs.Prelude.{Option, Some, slice_get}
 use Rattle.residuals.specs.left.Left.{IsFit}
 use Rattle.run_laws.specs.Servers.{queue_count}
@@ -48,13 +48,9 @@ returns-then-same_curve c =
 
 pub returns-else-same_curve : goal.returns-else-same_curve
 returns-else-same_curve c =
-    let old = c.args.old.now in
-    let new = c.args.new.now in
-    let s = c.args.place.0 in
-    let q = c.args.place.1 in
-    let f = c.args.f.now in
-    let g = c.args.g.now in
-    let differ = subst (TellsSame f.service g.service) c.if-same_curve.false c.same_curve.ensures in
-    subst (TellsSame (formula_of old QueueService s q) (formula_of new QueueService s q)) (sym c.if-same_curve.false) (λ e.
-    curves_tell f.service g.service (left_of old s q (views.discipline_of f.discipline)) (left_of new s q (views.discipline_of g.discipline)) differ
-    (of_server old s q f c.requires.old ∙ (e ∙ sym (of_server new s q g c.requires.new))))
+    let here = of_server c.args.old.now c.args.place.0 c.args.place.1 c.args.f.now c.requires.old in
+    let there = of_server c.args.new.now c.args.place.0 c.args.place.1 c.args.g.now c.requires.new in
+    let differ = subst (TellsSame c.args.f.now.service c.args.g.now.service) c.if-same_curve.false c.same_curve.ensures in
+    subst (TellsSame (formula_of c.args.old.now QueueService c.args.place.0 c.args.place.1)
+    (formula_of c.args.new.now QueueService c.args.place.0 c.args.place.1)) (sym c.if-same_curve.false) (λ e.
+    curves_tell c.args.f.now.service c.args.g.now.service _ _ differ (here ∙ (e ∙ sym there)))

@@ -2,14 +2,13 @@ use Rattle.std.proofs.Common.{◌≡◌, ◌+◌, ◌-◌, List, ◌∷◌, [], 
 use Rattle.std.proofs.lemmas.List.{take_all, take_more}
 use Rattle.std.proofs.lemmas.List.Sums.{sum_by_more, sum_by_more_le}
 use Rattle.net_cells.specs.declared.cell.Cell.{Cell}
-use Rattle.net_cells.specs.contracts.cell.CellOrd.TheImpl as order
 use Rattle.net_cells.specs.Meanings.{CellTable}
 use Rattle.net_cells.specs.Order.{evaluation_order}
 use Rattle.net_cells.specs.FirstOver.{AnswersAll}
 use Rattle.net_cells.specs.Work.{work}
 use Rattle.net_cells.proofs.Precedes.{in_front}
 use Rattle.net_cells.proofs.Tables.{answers_meet, front_meets_below}
-use Rattle.net_cells.specs.cell_table.Values.{held}
+use Rattle.net_cells.specs.cell_table.Rows.{held}
 use Rattle.cell_eval.specs.flow_analysis.Analyses.{HasNothingElse}
 use Rattle.net_cells.proofs.cell_table.Fronts.{no_cell, cell_at, at_place, grown}
 use Rattle.cell_eval.proofs.flow_analysis.Fronts.{still_nothing, refused, wants_memory, ends_here}
@@ -30,7 +29,7 @@ pub eval-requires-clause-below : goal.eval-requires-clause-below
 eval-requires-clause-below g c =
     let cells = c.args.cells.now in
     let i = c.loop-cell.cell-index in
-    let at : CellTable = held order.ghosts.cmp g.V.CellValue.meaning c.loop-cell.table.values in
+    let at : CellTable = held g.V.CellValue.meaning c.loop-cell.table.rows.items in
     front_meets_below c.args.net.now c.requires.order at c.keeps.ensures c.requires.servers (take i cells)
     (drop (i + 1) cells) (cell_at cells i) (sym c.requires.are ∙ at_place cells i (omega arith))
     c.loop-cell.invariant.answers
@@ -39,7 +38,7 @@ pub returns-in-Err-clause-refused : goal.returns-in-Err-clause-refused
 returns-in-Err-clause-refused g c =
     let cells = c.args.cells.now in
     let i = c.loop-cell.cell-index in
-    let at : CellTable = held order.ghosts.cmp g.V.CellValue.meaning c.loop-cell.table.values in
+    let at : CellTable = held g.V.CellValue.meaning c.loop-cell.table.rows.items in
     refused c.args.net.now cells at (take i cells) (cell_at cells i) (drop (i + 1) cells) c.in-Err.fault
     c.refusal.result c.refusal.ensures (at_place cells i (omega arith)) c.loop-cell.invariant.answers
     c.in-Err.ensures.answer
@@ -63,8 +62,8 @@ loop-cell-preserved g c =
     let net = c.args.net.now in
     let cells = c.args.cells.now in
     let i = c.loop-cell.cell-index in
-    let at : CellTable = held order.ghosts.cmp g.V.CellValue.meaning c.loop-cell.table.values in
-    let next : CellTable = held order.ghosts.cmp g.V.CellValue.meaning c.put.new.self.values in
+    let at : CellTable = held g.V.CellValue.meaning c.loop-cell.table.rows.items in
+    let next : CellTable = held g.V.CellValue.meaning c.put.new.self.rows.items in
     let whole : evaluation_order net c.requires.order ≡ take i cells ++ cell_at cells i ∷ drop (i + 1) cells =
     sym c.requires.are ∙ at_place cells i (omega arith) in
     let longer : take (i + 1) cells ≡ take i cells ++ cell_at cells i ∷ [] = take_more cells i no_cell (omega arith) in
@@ -85,7 +84,7 @@ loop-cell-preserved g c =
 pub returns-clause-meets : goal.returns-clause-meets
 returns-clause-meets g c =
     let net = c.args.net.now in
-    let at : CellTable = held order.ghosts.cmp g.V.CellValue.meaning c.loop-cell.table.values in
+    let at : CellTable = held g.V.CellValue.meaning c.loop-cell.table.rows.items in
     answers_meet net c.requires.order at c.keeps.ensures c.requires.servers
     (subst (λ (xs : List Cell). AnswersAll net at xs)
     (take_all c.loop-cell.cell-index c.args.cells.now (omega arith) ∙ c.requires.are) c.loop-cell.invariant.answers)
@@ -95,7 +94,7 @@ returns-in-Err-clause-memory g c =
     let net = c.args.net.now in
     let cells = c.args.cells.now in
     let i = c.loop-cell.cell-index in
-    let at : CellTable = held order.ghosts.cmp g.V.CellValue.meaning c.loop-cell.table.values in
+    let at : CellTable = held g.V.CellValue.meaning c.loop-cell.table.rows.items in
     let mid = g.E.Evaluator.count c.loop-cell.eval in
     let new = g.E.Evaluator.count c.eval.new.self in
     let cost = c.loop-cell.invariant.cost in
@@ -110,7 +109,7 @@ returns-in-Err-put-clause-memory g c =
     let net = c.args.net.now in
     let cells = c.args.cells.now in
     let i = c.loop-cell.cell-index in
-    let at : CellTable = held order.ghosts.cmp g.V.CellValue.meaning c.loop-cell.table.values in
+    let at : CellTable = held g.V.CellValue.meaning c.loop-cell.table.rows.items in
     let cost = c.loop-cell.invariant.cost in
     let exact = c.in-Ok.ensures.exact in
     ends_here net cells at i (work net (cell_at cells i)) (g.E.Evaluator.count c.eval.new.self - g.E.Evaluator.count c.args.eval.now)

@@ -43,16 +43,7 @@ returns-clause-answer g c =
 
 pub returns-clause-value : goal.returns-clause-value
 returns-clause-value g c =
-    let first = applied_seen (Scale c.turn_of-turn.result.share) c.args.beta.now c.args.beta.now c.scale.result
-    c.intact.result c.intact.ensures.same
-    c.scale.ensures.value c.scale.ensures.limits c.intact.ensures.kept in
-    let second = applied_seen (PosMinus c.turn_of-turn.result.owed) c.in_ok-scaled.scaled c.in_ok-scaled.scaled
-    c.pos_minus.result c.intact-2.result
-    c.intact-2.ensures.same c.pos_minus.ensures.value c.pos_minus.ensures.limits c.intact-2.ensures.kept in
-    ok_service c.args.beta.now c.args.quanta.now c.args.longest.now c.args.queue c.intact-2.result
-    (made c.args.beta.now c.in_ok-scaled.scaled c.args.quanta.now c.args.longest.now c.args.queue
-    c.turn_of-turn.result.share c.turn_of-turn.result.owed c.intact-2.result
-    c.turn_of-turn.ensures.share c.turn_of-turn.ensures.owed (rw c.in_ok-scaled.was at first) second)
+    ok_service c.args.beta.now c.args.quanta.now c.args.longest.now c.args.queue c.intact-2.result (returns-clause-answer g c)
 
 pub returns-in_err-scaled-clause-refused : goal.returns-in_err-scaled-clause-refused
 returns-in_err-scaled-clause-refused g c =

@@ -19,8 +19,8 @@ returns-in_err-above-clause-answer g c =
     c.pos_diff.ensures.limits c.intact.ensures.kept in
     rw (p.1, p.2) (stops c.in_err-above.field-0.0 (rw c.in_err-above.was at first) refl)
 
-pub pos_minus-requires : goal.pos_minus-requires
-pos_minus-requires g c =
+pub packetised-requires : goal.packetised-requires
+packetised-requires g c =
     let first = applied_seen PosDiff c.args.beta.now c.args.higher.now c.pos_diff.result c.intact.result
     c.intact.ensures.same c.pos_diff.ensures.value
     c.pos_diff.ensures.limits c.intact.ensures.kept in
@@ -32,11 +32,8 @@ returns-clause-answer g c =
     let first = applied_seen PosDiff c.args.beta.now c.args.higher.now c.pos_diff.result c.intact.result
     c.intact.ensures.same c.pos_diff.ensures.value
     c.pos_diff.ensures.limits c.intact.ensures.kept in
-    let second = applied_seen (PosMinus c.whole.result) c.in_ok-above.above c.in_ok-above.above c.pos_minus.result
-    c.intact-2.result
-    c.intact-2.ensures.same c.pos_minus.ensures.value c.pos_minus.ensures.limits c.intact-2.ensures.kept in
     goes_on c.in_ok-above.above (rw c.in_ok-above.was at first)
-    (subst (λ l. AppliesTo (PosMinus l) c.in_ok-above.above c.intact-2.result) c.whole.ensures second)
+    (subst (λ l. AppliesTo (PosMinus l) c.in_ok-above.above c.packetised.result) c.whole.ensures c.packetised.ensures.answer)
 
 pub returns-in_err-above-clause-refused : goal.returns-in_err-above-clause-refused
 returns-in_err-above-clause-refused g c =
@@ -52,17 +49,14 @@ returns-clause-refused g c =
     let first = applied_seen PosDiff c.args.beta.now c.args.higher.now c.pos_diff.result c.intact.result
     c.intact.ensures.same c.pos_diff.ensures.value
     c.pos_diff.ensures.limits c.intact.ensures.kept in
-    let second = applied_seen (PosMinus c.whole.result) c.in_ok-above.above c.in_ok-above.above c.pos_minus.result
-    c.intact-2.result
-    c.intact-2.ensures.same c.pos_minus.ensures.value c.pos_minus.ensures.limits c.intact-2.ensures.kept in
     let one = c.pos_diff.ensures.count in
-    let two = c.pos_minus.ensures.count in
-    let both : c.pos_minus.new.steps - c.args.steps.now ≡ 1 + 1 = omega (arith, one, two) in
-    if_err c.intact-2.result (λ e. LeftRefused c.args.beta.now c.args.higher.now c.args.lower e (c.pos_minus.new.steps - c.args.steps.now))
+    let two = c.packetised.ensures.count in
+    let both : c.packetised.new.steps - c.args.steps.now ≡ 1 + 1 = omega (arith, one, two) in
+    if_err c.packetised.result (λ e. LeftRefused c.args.beta.now c.args.higher.now c.args.lower e (c.packetised.new.steps - c.args.steps.now))
     (λ fault is. past c.in_ok-above.above 1 (rw c.in_ok-above.was at first) both (
       refl,
       subst (λ r. AppliesTo (PosMinus (whole c.args.lower)) c.in_ok-above.above r) is
-          (subst (λ l. AppliesTo (PosMinus l) c.in_ok-above.above c.intact-2.result) c.whole.ensures second),
+          (subst (λ l. AppliesTo (PosMinus l) c.in_ok-above.above c.packetised.result) c.whole.ensures c.packetised.ensures.answer),
     ))
 
 pub returns-in_err-above-clause-counts : goal.returns-in_err-above-clause-counts
@@ -74,5 +68,5 @@ returns-in_err-above-clause-counts g c =
 pub returns-clause-counts : goal.returns-clause-counts
 returns-clause-counts g c =
     let one = c.pos_diff.ensures.count in
-    let two = c.pos_minus.ensures.count in
-    counts_all 2 c.args.steps.now c.pos_minus.new.steps c.intact-2.result (omega (arith, one, two))
+    let two = c.packetised.ensures.count in
+    counts_all 2 c.args.steps.now c.packetised.new.steps c.packetised.result (omega (arith, one, two))
