@@ -15,7 +15,7 @@ use Rattle.net_cells.proofs.Growing.{filter_flat, flat_more, kept_number, droppe
 use Rattle.net_cells.proofs.Stored.{flow_kept}
 use Rattle.cell_numbers.specs.declared.found.Pick.{Pick}
 use Rattle.cell_numbers.specs.declared.found.Pick.TheVariants.{InQueue, InPart}
-use Rattle.cell_numbers.specs.Chosen.{flow_visits, picks, is_other, picked, chosen, all_picked, all_chosen}
+use Rattle.cell_numbers.specs.Chosen.{IsFreeBefore, FindsOn, flow_visits, visit_list, picks, is_other, picked, chosen, all_picked, all_chosen}
 
 -- ---- one of a row
 pub only_one : {Y : Type 0} (p : Y → Bool) (f : ℕ → Y) (k n : ℕ) → p (f k) ≡ true → filter p (map f (range_with_len 0 k)) ≡ []
@@ -42,17 +42,30 @@ differ : (net : Net) (i : ℕ) (o : Option NetFlow) (j k : ℕ) → IsAccepted n
 differ net i None j k a e h l = absurd (omega (arith, l))
 differ net i (Some f) j k a e h l = (flow_kept net i f a e).once j k 0 h l
 
-pub hop_here : (net : Net) (s i k : ℕ) → IsAccepted net → k < hops net i → server_of_hop net i k ≡ s
+hop_here : (net : Net) (s i k : ℕ) → IsAccepted net → k < hops net i → server_of_hop net i k ≡ s
     → filter (is_at net s) (map (visit i) (range_with_len 0 k)) ≡ [] → flow_visits net s i ≡ visit i k ∷ []
 hop_here net s i k a h e none =
     only_one (is_at net s) (visit i) k (hops net i) (eq-eqb (server_of_hop net i k) s e) none
     (λ j lo hi. ne_eqb (server_of_hop net i j) s (λ f. differ net i (flow_at net i) k j a refl lo hi (e ∙ sym f))) h
 
-pub not_here : (net : Net) (s i k : ℕ) → server_of_hop net i k ≢ s → filter (is_at net s) (map (visit i) (range_with_len 0 k)) ≡ []
+not_here : (net : Net) (s i k : ℕ) → server_of_hop net i k ≢ s → filter (is_at net s) (map (visit i) (range_with_len 0 k)) ≡ []
     → filter (is_at net s) (map (visit i) (range_with_len 0 (k + 1))) ≡ []
 not_here net s i k e none =
     dropped_number (is_at net s) (visit i) k (ne_eqb (server_of_hop net i k) s e)
     ∙ append-nil (filter (is_at net s) (map (visit i) (range_with_len 0 k))) ∙ none
+
+none_before : (net : Net) (s i n : ℕ) → IsFreeBefore (path_of (flow_at net i)) s n
+    → filter (is_at net s) (map (visit i) (range_with_len 0 n)) ≡ []
+none_before net s i zero free = refl
+none_before net s i (suc n) free =
+    let next : suc n ≡ n + 1 = omega arith in
+    subst (λ m. filter (is_at net s) (map (visit i) (range_with_len 0 m)) ≡ []) (sym next)
+    (not_here net s i n (free n (omega arith)) (none_before net s i n (λ j l. free j (omega (arith, l)))))
+
+pub found_on : (net : Net) (s i : ℕ) (r : Option ℕ) → IsAccepted net → FindsOn (path_of (flow_at net i)) s r
+    → flow_visits net s i ≡ visit_list i r
+found_on net s i None a free = none_before net s i (hops net i) free
+found_on net s i (Some k) a f = hop_here net s i k a f.inside f.here (none_before net s i k f.before)
 
 -- what is kept of one hop
 pub keep_one : {Y : Type 0} (p : Y → Bool) (xs : List Y) (y : Y) → xs ≡ y ∷ [] → p y ≡ true → filter p xs ≡ y ∷ []

@@ -1,5 +1,5 @@
 -- The hops at a server, flow by flow. Own choice.
-use Rattle.std.specs.Prelude.{ℕ, ◌==◌, ◌&&◌, List, [], ◌∷◌, map, Bool, true, not, nat_lt, Option, Some, None}
+use Rattle.std.specs.Prelude.{◌≡◌, ◌≢◌, ◌<◌, ℕ, ◌==◌, ◌&&◌, List, [], ◌∷◌, length, map, Bool, true, not, nat_lt, Option, Some, None, slice_index}
 use Rattle.std.specs.List.{filter, flat_map, range_with_len}
 use Rattle.net_model.specs.Networks.{Net}
 use Rattle.net_cells.specs.Numbered.{hops, queue_of_hop}
@@ -17,6 +17,21 @@ flow_visits net s i = filter (is_at net s) (map (visit i) (range_with_len 0 (hop
 abbrev pub visit_list : ℕ → Option ℕ → List Visit
 visit_list i None = []
 visit_list i (Some k) = visit i k ∷ []
+
+-- a server is at none of the first places of a path
+abbrev pub IsFreeBefore : List ℕ → (s n : ℕ) → Type 0
+IsFreeBefore way s n = (j : ℕ) → j < n → slice_index way j ≢ s
+
+-- it is at this place of the path, and at none before
+pub record IsFirstOn (way : List ℕ) (s k : ℕ) : Type 0 where
+  pub inside : k < length way
+  pub here : slice_index way k ≡ s
+  pub before : IsFreeBefore way s k
+
+-- where it is found, if it is there
+abbrev pub FindsOn : List ℕ → ℕ → Option ℕ → Type 0
+FindsOn way s None = IsFreeBefore way s (length way)
+FindsOn way s (Some k) = IsFirstOn way s k
 
 -- in one queue, in the queues of greater number, or in one part of a queue
 abbrev pub picks : Net → Pick → Visit → Bool

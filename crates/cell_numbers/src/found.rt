@@ -1,13 +1,13 @@
 //! Which hops are at a server, their longest packets, and the links of servers: nothing is stored.
 
-ghost use Rattle.std.specs.Prelude.{◌≡◌, ℕ, length, max};
+ghost use Rattle.std.specs.Prelude.{◌≡◌, ◌≤◌, ℕ, length, max};
 ghost use Rattle.net_cells.specs.Numbered as at;
 ghost use Rattle.net_cells.specs.Visits as visiting;
-ghost use Rattle.cell_numbers.specs.Chosen.{flow_visits, visit_list, picked, chosen, all_picked};
+ghost use Rattle.cell_numbers.specs.Chosen.{FindsOn, flow_visits, visit_list, picked, chosen, all_picked};
 ghost use Rattle.cell_numbers.specs.Chosen as spec;
 
 use fraction128::Frac;
-use net_cells::{Visit, hops, live_flow, part_of, queue_of_hop, server, server_of_hop};
+use net_cells::{Visit, live_flow, part_of, queue_of_hop, server};
 use net_model::Network;
 
 /// Which hops at a server are meant: those in a queue, those in the queues of greater number, or those in one part of a
@@ -49,17 +49,28 @@ pub fn rate(net: &Network, number: u32) -> Frac
     }
 }
 
+// The first place of a server on a path.
+fn place_on(path: &[u32], server: u32) -> Option<u32>
+    requires { length path.now ≤ 16 }
+    ensures { FindsOn path.now server result }
+{
+    for place in 0..path.len() {
+        if path[place] == server {
+            return Some(place as u32);
+        }
+    }
+    None
+}
+
 /// The hop of a flow that is at a server: its path is there once at most.
 pub fn hop_at(net: &Network, flow: u32, server: u32) -> Option<u32>
     ensures { flow_visits net.now server flow ≡ visit_list flow result }
 {
     net.keeps();
-    for hop in 0..hops(net, flow) {
-        if server_of_hop(net, flow, hop) == server {
-            return Some(hop);
-        }
+    match live_flow(net, flow) {
+        Some(found) => place_on(&found.path, server),
+        None => None,
     }
-    None
 }
 
 fn picks(net: &Network, pick: Pick, flow: u32, hop: u32) -> bool
