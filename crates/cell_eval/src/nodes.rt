@@ -12,6 +12,7 @@ ghost use Rattle.net_cells.specs.Refusals.{RefusedAt};
 ghost use Rattle.net_cells.specs.cell_table.Values.{answer_of, meaning_of};
 ghost use Rattle.outcomes.specs.Spending.{Counts};
 ghost use Rattle.cell_numbers.specs.Shapes.{Serving};
+ghost use Rattle.cell_eval.specs.Evaluates.{AreServed};
 ghost use Rattle.cell_numbers.specs.TableValues.{HasCurve, HasNumber, IsCurveAt, Deviate};
 
 use crate::inputs::{Answer, Inputs};
@@ -122,8 +123,7 @@ impl<T: Table<Value>> Inputs<'_, T> {
         bits: u32,
         steps: &mut Steps<L>,
     ) -> Answer
-        requires curve { IsCurveAt (T.at self.now.table.now) from }
-        requires serves { HasCurve (T.at self.now.table.now) service Serving }
+        requires { AreServed (T.at self.now.table.now) from service }
         ensures answer { Answers (T.at self.now.table.now) (made Deconvolve (value_of from) (less (value_of service) bits))
             (answer_of meaning_of result) }
         ensures refused { IfErr result (λ fault. RefusedAt (T.at self.now.table.now)
@@ -148,8 +148,7 @@ impl<T: Table<Value>> Inputs<'_, T> {
         bits: u32,
         steps: &mut Steps<L>,
     ) -> Result<Ext, OpFault>
-        requires curve { IsCurveAt (T.at self.now.table.now) from }
-        requires serves { HasCurve (T.at self.now.table.now) service Serving }
+        requires { AreServed (T.at self.now.table.now) from service }
         ensures answer { Answers (T.at self.now.table.now) (vertical (value_of from) (less (value_of service) bits))
             (answer_of number result) }
         ensures refused { IfErr result (λ fault. RefusedAt (T.at self.now.table.now)

@@ -11,11 +11,14 @@ use Rattle.net_cells.specs.Refusals.{RefusedAt}
 use Rattle.cell_eval.proofs.Stopping.{at_refusal}
 use Rattle.cell_eval.proofs.curves.Inputs.deconv_out.Goals as goal
 
-pub spread-requires-clause-curve : goal.spread-requires-clause-curve
-spread-requires-clause-curve g c = deconv_comes c.args.self.now.net.now (g.T.Table.at c.args.self.now.table.now) c.args.flow c.args.hop c.requires
-
-pub spread-requires-clause-serves : goal.spread-requires-clause-serves
-spread-requires-clause-serves g c = deconv_served_by c.args.self.now.net.now (g.T.Table.at c.args.self.now.table.now) c.args.flow c.args.hop c.requires
+pub spread-requires : goal.spread-requires
+spread-requires g c =
+    let net = c.args.self.now.net.now in
+    let at = g.T.Table.at c.args.self.now.table.now in
+    record {
+      curve = deconv_comes net at c.args.flow c.args.hop c.requires;
+      serves = deconv_served_by net at c.args.flow c.args.hop c.requires;
+    }
 
 pub returns : goal.returns
 returns g c = record {

@@ -13,11 +13,14 @@ use Rattle.net_cells.specs.Refusals.{RefusedAt}
 use Rattle.cell_eval.proofs.Stopping.{at_refusal}
 use Rattle.cell_eval.proofs.numbers.Inputs.queue_backlog.Goals as goal
 
-pub backlog-requires-clause-curve : goal.backlog-requires-clause-curve
-backlog-requires-clause-curve g c = backlog_comes c.args.self.now.net.now (g.T.Table.at c.args.self.now.table.now) c.args.place.0 c.args.place.1 c.requires
-
-pub backlog-requires-clause-serves : goal.backlog-requires-clause-serves
-backlog-requires-clause-serves g c = backlog_served_by c.args.self.now.net.now (g.T.Table.at c.args.self.now.table.now) c.args.place.0 c.args.place.1 c.requires
+pub backlog-requires : goal.backlog-requires
+backlog-requires g c =
+    let net = c.args.self.now.net.now in
+    let at = g.T.Table.at c.args.self.now.table.now in
+    record {
+      curve = backlog_comes net at c.args.place.0 c.args.place.1 c.requires;
+      serves = backlog_served_by net at c.args.place.0 c.args.place.1 c.requires;
+    }
 
 pub returns : goal.returns
 returns g c =
