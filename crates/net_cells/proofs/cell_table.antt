@@ -1,2 +1,3 @@
 pub mod GivesAnswers
+pub mod Rows
 pub mod Fronts

@@ -1,7 +1,7 @@
 -- Where the value of a cell is held in a table by rows. Own choice: a row for each kind and first number.
 use Rattle.std.specs.Prelude.{ℕ, ◌+◌, ◌*◌, List, [], map, Option, None, slice_index_or}
 use Rattle.std.specs.Option.{option_map}
-use Rattle.std.specs.Vec.{Vec}
+use Rattle.std.specs.declared.vec.Vec.{Vec}
 use Rattle.net_cells.specs.declared.cell.Cell.{Cell}
 use Rattle.net_cells.specs.declared.cell.Kind.{Kind}
 use Rattle.net_cells.specs.declared.cell.Kind.TheVariants.{In, Cross, Total, Higher, QueueService, Theta, Residual, QueueDelay, QueueBacklog, HopDelay, ShiftOut, DeconvOut, Out, PathService, Tfa, Sfa, Bound}
@@ -32,9 +32,9 @@ abbrev pub row_of : Cell → ℕ
 row_of c = c.a * 17 + kind_number c.kind
 
 -- what rows have at a place of one: nothing past their ends
-abbrev pub entry : {V : Type 0} → List (Vec (Option V)) → ℕ → ℕ → Option V
+abbrev pub entry : {V A : Type 0} → List (Vec (Option V) A) → ℕ → ℕ → Option V
 entry rows i k = slice_index_or (slice_index_or (map (λ row. row.items) rows) i []) k None
 
 -- what they have at each cell
-abbrev pub held : {V : Type 0} → (V → Meaning) → List (Vec (Option V)) → CellTable
+abbrev pub held : {V A : Type 0} → (V → Meaning) → List (Vec (Option V) A) → CellTable
 held meaning rows c = option_map meaning (entry rows (row_of c) c.b)
