@@ -1,5 +1,5 @@
 -- Where the value of a cell is held in a table by rows. Own choice: a row for each kind and first number.
-use Rattle.std.specs.Prelude.{ℕ, ◌+◌, ◌*◌, List, [], map, Option, None, slice_index_or}
+use Rattle.std.specs.Prelude.{ℕ, ◌+◌, ◌*◌, List, [], map, Option, None, get_or}
 use Rattle.std.specs.Option.{option_map}
 use Rattle.std.specs.declared.vec.Vec.{Vec}
 use Rattle.net_cells.specs.declared.cell.Cell.{Cell}
@@ -33,7 +33,7 @@ row_of c = c.a * 17 + kind_number c.kind
 
 -- what rows have at a place of one: nothing past their ends
 abbrev pub entry : {V A : Type 0} → List (Vec (Option V) A) → ℕ → ℕ → Option V
-entry rows i k = slice_index_or (slice_index_or (map (λ row. row.items) rows) i []) k None
+entry rows i k = get_or (get_or (map (λ row. row.items) rows) i []) k None
 
 -- what they have at each cell
 abbrev pub held : {V A : Type 0} → (V → Meaning) → List (Vec (Option V) A) → CellTable

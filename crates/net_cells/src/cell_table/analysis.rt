@@ -1,6 +1,6 @@
 //! Tables that are filled cell by cell.
 
-ghost use Rattle.std.specs.Prelude.{◌≡◌, ◌≤◌, ◌<◌, ℕ, None, OnOk, length, option_copied, slice_index_or};
+ghost use Rattle.std.specs.Prelude.{◌≡◌, ◌≤◌, ◌<◌, ℕ, None, OnOk, length, option_copied, Some, OnErr, get_or, ◌≢◌, ◌^◌, ◌⊎◌};
 ghost use Rattle.net_cells.specs.cell_table.Rows.{entry, kind_number, row_of};
 
 use crate::cell_table::table::{CellValue, Table};
@@ -46,7 +46,7 @@ fn row_of(cell: Cell) -> usize
 
 // What a row has at a place; nothing past its end.
 fn in_row<V>(row: &[Option<V>], place: usize) -> Option<&V>
-    ensures { option_copied result ≡ slice_index_or row.now place None }
+    ensures { option_copied result ≡ get_or row.now place None }
 {
     if place < row.len() {
         row[place].as_ref()
@@ -72,13 +72,43 @@ fn grow_rows<V: Drop>(
 
 // Makes room for so many places in a row, of which the new ones have nothing.
 fn grow_row<V: Drop>(row: &mut Vec<Option<V>>, count: usize) -> Result<(), AllocError>
-    ensures same { (k : ℕ) → slice_index_or row.new.items k None ≡ slice_index_or row.old.items k None }
+    ensures same { (k : ℕ) → get_or row.new.items k None ≡ get_or row.old.items k None }
     ensures room { OnOk result (count ≤ length row.new.items) }
 {
     for _number in row.len()..count {
         row.push(None)?;
     }
     Ok(())
+}
+
+// Puts a value at a place of a row; where there is no memory all is as it was.
+fn put_in_row<V: Drop>(row: &mut Vec<Option<V>>, place: usize, value: V) -> Result<(), AllocError>
+    requires { place < 2 ^ 32 }
+    ensures put { OnOk result (get_or row.new.items place None ≡ Some value) }
+    ensures others { (k : ℕ) → k ≢ place → get_or row.new.items k None ≡ get_or row.old.items k None }
+    ensures kept { OnErr result ((k : ℕ) → get_or row.new.items k None ≡ get_or row.old.items k None) }
+{
+    grow_row(row, place + 1)?;
+    row[place] = Some(value);
+    Ok(())
+}
+
+// Puts a value at a place of one of some rows; where there is no memory all is as it was.
+fn put_in<V: Drop>(
+    alloc: Global,
+    rows: &mut Vec<Vec<Option<V>>>,
+    row: usize,
+    place: usize,
+    value: V,
+) -> Result<(), AllocError>
+    requires row { row < 2 ^ 37 }
+    requires place { place < 2 ^ 32 }
+    ensures put { OnOk result (entry rows.new.items row place ≡ Some value) }
+    ensures others { (i k : ℕ) → (i ≢ row) ⊎ (k ≢ place) → entry rows.new.items i k ≡ entry rows.old.items i k }
+    ensures kept { OnErr result ((i k : ℕ) → entry rows.new.items i k ≡ entry rows.old.items i k) }
+{
+    grow_rows(alloc, rows, row + 1)?;
+    put_in_row(&mut rows[row], place, value)
 }
 
 /// Values by cell: a row for each kind and first number, in it by the second number. A cell is looked up without a search.
@@ -125,11 +155,12 @@ impl<V: CellValue + Drop> Analysis<V> {
         ensures kept { OnErr result
             ((c : Cell) → ⟦<Analysis<V> as Table<V>>⟧.at self.new c ≡ ⟦<Analysis<V> as Table<V>>⟧.at self.old c) }
     {
-        let row = row_of(cell);
-        let place = cell.b as usize;
-        grow_rows(self.alloc, &mut self.rows, row + 1)?;
-        grow_row(&mut self.rows[row], place + 1)?;
-        self.rows[row][place] = Some(value);
-        Ok(())
+        put_in(
+            self.alloc,
+            &mut self.rows,
+            row_of(cell),
+            cell.b as usize,
+            value,
+        )
     }
 }
