@@ -1,8 +1,9 @@
 -- Where a cell stands in a table by rows, and rows that grow.
-use Rattle.std.proofs.Common.{◌≡◌, ◌≢◌, ℕ, zero, suc, ◌+◌, ◌*◌, ◌<◌, List, [], ◌∷◌, ◌++◌, length, get_or, set, map, refl, sym, ap, ◌∙◌, arith}
+use Rattle.std.proofs.Common.{◌≡◌, ◌≢◌, ℕ, zero, suc, ◌+◌, ◌*◌, ◌<◌, ◌≤◌, ◌⊎◌, List, [], ◌∷◌, ◌++◌, length, get_or, set, map, refl, sym, ap, ◌∙◌, subst, inl, inr, arith}
 use Rattle.std.specs.Prelude.{Option, None}
 use Rattle.std.specs.declared.vec.Vec.{Vec}
-use Rattle.std.proofs.lemmas.List.{map-append, map-set, get_or-map, get_or-set_same, get_or-set_other, length-map}
+use Rattle.std.proofs.lemmas.List.{map-append, map-set, get_or-map, get_or-set_same, get_or-set_other, get_or_past, length-map}
+use Rattle.std.proofs.lemmas.Bool.{cases_eq}
 use Rattle.net_cells.specs.declared.cell.Cell.{Cell}
 use Rattle.net_cells.specs.declared.cell.Kind.{Kind}
 use Rattle.net_cells.specs.declared.cell.Kind.TheVariants.{In, Cross, Total, Higher, QueueService, Theta, Residual, QueueDelay, QueueBacklog, HopDelay, ShiftOut, DeconvOut, Out, PathService, Tfa, Sfa, Bound}
@@ -60,6 +61,13 @@ own_place c d e f =
     let kind : c.kind ≡ d.kind = sym (kind_is c.kind) ∙ ap kind_at number ∙ kind_is d.kind in
     ap (λ k. cell_of k c.a c.b) kind ∙ ap (λ a. cell_of d.kind a c.b) first ∙ ap (λ b. cell_of d.kind d.a b) f
 
+pub apart : (c d : Cell) → d ≢ c → (row_of d ≢ row_of c) ⊎ (d.b ≢ c.b)
+apart c d n =
+    elim (cases_eq (row_of d) (row_of c)) [
+      | inl e ↦ inr (λ f. n (own_place d c e f))
+      | inr e ↦ inl e
+    ]
+
 -- ---- one more that is empty
 pub one_empty : {X : Type 0} (xs : List X) (i : ℕ) (d : X) → get_or (xs ++ d ∷ []) i d ≡ get_or xs i d
 one_empty [] zero d = refl
@@ -99,3 +107,20 @@ module _ {V A : Type 0} where
       ap (λ ys. get_or ys k None)
       (ap (λ xs. get_or xs j []) (map-set (λ (r : Vec (Option V) A). r.items) rows i row)
       ∙ get_or-set_other (lists rows) i j row.items [] n)
+
+  -- of which some places are as they were
+  pub row_put : (rows : List (Vec (Option V) A)) (i : ℕ) (row more : Vec (Option V) A) (P : ℕ → Type 0) → i < length rows
+      → row ≡ get_or rows i row → ((k : ℕ) → P k → get_or more.items k None ≡ get_or row.items k None)
+      → (j k : ℕ) → (j ≢ i) ⊎ P k → entry (set rows i more) j k ≡ entry rows j k
+  row_put rows i row more P l is same j k (inl d) = other_row rows i j k more d
+  row_put rows i row more P l is same j k (inr p) =
+      elim (cases_eq j i) [
+        | inl e ↦ subst (λ m. entry (set rows i more) m k ≡ entry rows m k) (sym e)
+            (new_row rows i k more l ∙ same k p ∙ sym (row_entry rows i k row l is))
+        | inr d ↦ other_row rows i j k more d
+      ]
+
+  pub no_row : (rows : List (Vec (Option V) A)) (i k : ℕ) → length rows ≤ i → entry rows i k ≡ None
+  no_row rows i k l =
+      ap (λ ys. get_or ys k None)
+      (get_or_past (lists rows) i [] (let same = length-map rows (λ (r : Vec (Option V) A). r.items) in omega (arith, same, l)))

@@ -108,7 +108,8 @@ fn put_in<V: Drop>(
     ensures kept { OnErr result ((i k : ℕ) → entry rows.new.items i k ≡ entry rows.old.items i k) }
 {
     grow_rows(alloc, rows, row + 1)?;
-    put_in_row(&mut rows[row], place, value)
+    put_in_row(&mut rows[row], place, value)?;
+    Ok(())
 }
 
 /// Values by cell: a row for each kind and first number, in it by the second number. A cell is looked up without a search.
@@ -161,6 +162,7 @@ impl<V: CellValue + Drop> Analysis<V> {
             row_of(cell),
             cell.b as usize,
             value,
-        )
+        )?;
+        Ok(())
     }
 }
