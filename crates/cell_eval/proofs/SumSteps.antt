@@ -22,7 +22,7 @@ use Rattle.net_cells.specs.cell_table.Gives.{Gives}
 use Rattle.cell_eval.specs.declared.curve_sums.Partial.{Partial}
 use Rattle.cell_eval.specs.declared.curve_sums.Partial.TheVariants.{Nothing, One, Made}
 use Rattle.cell_eval.specs.Sharing.{IsShared}
-use Rattle.cell_eval.specs.Partial.{IsSumOf, IsSummed, IsPartial, Fails, FailsAt, Adds}
+use Rattle.cell_eval.specs.Partial.{IsSumOf, IsSummed, IsPartial, Fails, FailsAt, Adds, sum_made}
 use Rattle.cell_eval.proofs.OperatorStopping.{both_refused}
 
 -- ---- formulas
@@ -84,7 +84,7 @@ step_refused at (x ∷ xs) f g cell fault s is a =
 longer : (cells : List Cell) (cell : Cell) → length (cells ++ cell ∷ []) ≡ length cells + 1
 longer cells cell = length-append cells (cell ∷ [])
 
-pub adds_made : (at : CellTable) (cells : List Cell) (f g h : SpecCurve) (cell : Cell) (old new : ℕ) → IsSummed at cells f
+adds_made : (at : CellTable) (cells : List Cell) (f g h : SpecCurve) (cell : Cell) (old new : ℕ) → IsSummed at cells f
     → at cell ≡ Some (curve g) → Applies Sum f g (Ok h) → new ≡ old + 1 → Adds at cells (cell ∷ []) old new (Ok (Made h))
 adds_made at cells f g h cell old new s is a count = (
   record {
@@ -98,7 +98,7 @@ adds_made at cells f g h cell old new s is a count = (
   let some = s.some in let l = longer cells cell in omega (arith, some, l, count),
 )
 
-pub adds_refused : (at : CellTable) (cells : List Cell) (f g : SpecCurve) (fault : OpFault) (cell : Cell) (old new : ℕ) → IsSummed at cells f
+adds_refused : (at : CellTable) (cells : List Cell) (f g : SpecCurve) (fault : OpFault) (cell : Cell) (old new : ℕ) → IsSummed at cells f
     → at cell ≡ Some (curve g) → Applies Sum f g (Err fault) → new ≡ old + 1 → Adds at cells (cell ∷ []) old new (Err fault)
 adds_refused at cells f g fault cell old new s is a count =
     let some = s.some in
@@ -111,6 +111,11 @@ adds_refused at cells f g fault cell old new s is a count =
       omega (arith, count),
       omega (arith, some, l, count),
     )
+
+pub adds_sum : (at : CellTable) (cells : List Cell) (f g : SpecCurve) (cell : Cell) (old new : ℕ) (r : Result SpecCurve OpFault)
+    → IsSummed at cells f → at cell ≡ Some (curve g) → Applies Sum f g r → new ≡ old + 1 → Adds at cells (cell ∷ []) old new (sum_made r)
+adds_sum at cells f g cell old new (Ok h) = adds_made at cells f g h cell old new
+adds_sum at cells f g cell old new (Err fault) = adds_refused at cells f g fault cell old new
 
 pub adds_first : (at : CellTable) (cells : List Cell) (cell : Cell) (old : ℕ) → cells ≡ [] → Adds at cells (cell ∷ []) old old (Ok (One cell))
 adds_first at cells cell old e = subst (λ (cs : List Cell). Adds at cs (cell ∷ []) old old (Ok (One cell))) (sym e) (refl, refl)

@@ -51,3 +51,14 @@ Adds at cells more old new (Err fault) =
 pub record IsSummed (at : CellTable) (cells : List Cell) (f : SpecCurve) : Type 0 where
   pub some : 1 ≤ length cells
   pub answers : Answers at (sum_of_cells cells) (Ok (curve f))
+
+-- ---- sums that grow in place
+-- a curve that was made is the sum of two cells or more
+abbrev pub sum_made : Result SpecCurve OpFault → Result Partial OpFault
+sum_made (Ok f) = Ok (Made f)
+sum_made (Err fault) = Err fault
+
+-- what is answered, with the sum as it is then
+abbrev pub in_place : {U : Type 0} → Partial → Result U OpFault → Result Partial OpFault
+in_place p (Ok u) = Ok p
+in_place p (Err fault) = Err fault

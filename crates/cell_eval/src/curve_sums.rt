@@ -1,18 +1,19 @@
 //! Sums of the curves of cells, one cell after the other: no memory is taken but for the curves themselves.
 
-ghost use Rattle.std.specs.Prelude.{◌≡◌, ◌<◌, ℕ, List, [], ◌∷◌, length, map, Some, IfOk};
+ghost use Rattle.std.specs.Prelude.{◌≡◌, ◌<◌, ℕ, List, [], ◌∷◌, length, map, Some, IfOk, OnOk};
 ghost use Rattle.std.specs.List.{range_with_len};
 ghost use Rattle.curve_call.specs.Again.{IsAgain};
 ghost use Rattle.net_cells.specs.declared.cell.Cell.{Cell};
 ghost use Rattle.net_cells.specs.declared.cell.Kind.TheVariants.{In, Total};
 ghost use Rattle.net_cells.specs.Numbered.{zero_curve};
+ghost use Rattle.net_cells.specs.Meanings.{CellTable};
 ghost use Rattle.net_cells.specs.Cells.{cell_of};
 ghost use Rattle.net_cells.specs.Order.{at_visit};
 ghost use Rattle.net_cells.specs.CellFormulas.{sum_of_cells};
 ghost use Rattle.net_cells.specs.cell_table.Gives.{Gives};
 ghost use Rattle.net_cells.specs.cell_table.Values.{answer_of, meaning_of};
 ghost use Rattle.cell_numbers.specs.Chosen.{chosen, all_chosen, visit_list};
-ghost use Rattle.cell_eval.specs.Partial.{IsPartial, IsReady, IsSummed, Adds};
+ghost use Rattle.cell_eval.specs.Partial.{IsPartial, IsReady, IsSummed, Adds, in_place, sum_made};
 ghost use Rattle.cell_numbers.specs.TableValues.{IsCurveAt};
 
 use crate::sharing::{again, shared};
@@ -56,36 +57,55 @@ fn with_cell<T: Table<Value>, L: Ledger>(
     table: &T,
     cell: Cell,
     steps: &mut Steps<L>,
-) -> Result<Partial, OpFault>
+) -> Result<Curve, OpFault>
     requires { IsCurveAt (T.at table.now) cell }
-    ensures sum { (cells : List Cell) → IsSummed (T.at table.now) cells so_far.now →
-        Adds (T.at table.now) cells (cell ∷ []) steps.old steps.new result }
-    ensures ready { IfOk result (IsReady (T.at table.now)) }
+    ensures { (cells : List Cell) → IsSummed (T.at table.now) cells so_far.now →
+        Adds (T.at table.now) cells (cell ∷ []) steps.old steps.new (sum_made result) }
 {
-    match intact(sum(alloc, so_far, curve_at(table, cell), steps)) {
-        Ok(made) => Ok(Partial::Made(made)),
+    intact(sum(alloc, so_far, curve_at(table, cell), steps))
+}
+
+// A sum that was made, in place of the one before it; where it was refused that one stays.
+fn replace(so_far: &mut Partial, made: Result<Curve, OpFault>) -> Result<(), OpFault>
+    ensures made { in_place so_far.new result ≡ sum_made made }
+    ensures ready { (at : CellTable) → OnOk result (IsReady at so_far.new) }
+{
+    match made {
+        Ok(curve) => {
+            *so_far = Partial::Made(curve);
+            Ok(())
+        }
         Err(fault) => Err(fault),
     }
 }
 
-/// A sum and a cell more.
-pub fn added<T: Table<Value>, L: Ledger>(
+// A cell more in a sum.
+fn add<T: Table<Value>, L: Ledger>(
     alloc: Global,
-    so_far: Partial,
+    so_far: &mut Partial,
     table: &T,
     cell: Cell,
     steps: &mut Steps<L>,
-) -> Result<Partial, OpFault>
+) -> Result<(), OpFault>
     requires cell { IsCurveAt (T.at table.now) cell }
-    requires ready { IsReady (T.at table.now) so_far }
-    ensures sum { (cells : List Cell) → IsPartial (T.at table.now) cells so_far →
-        Adds (T.at table.now) cells (cell ∷ []) steps.old steps.new result }
-    ensures ready { IfOk result (IsReady (T.at table.now)) }
+    requires ready { IsReady (T.at table.now) so_far.old }
+    ensures sum { (cells : List Cell) → IsPartial (T.at table.now) cells so_far.old →
+        Adds (T.at table.now) cells (cell ∷ []) steps.old steps.new (in_place so_far.new result) }
+    ensures ready { OnOk result (IsReady (T.at table.now) so_far.new) }
 {
     match so_far {
-        Partial::Nothing => Ok(Partial::One(cell)),
-        Partial::One(first) => with_cell(alloc, curve_at(table, first), table, cell, steps),
-        Partial::Made(made) => with_cell(alloc, &made, table, cell, steps),
+        Partial::Nothing => {
+            *so_far = Partial::One(cell);
+            Ok(())
+        }
+        Partial::One(first) => {
+            let made = with_cell(alloc, curve_at(table, *first), table, cell, steps);
+            replace(so_far, made)
+        }
+        Partial::Made(first) => {
+            let made = with_cell(alloc, first, table, cell, steps);
+            replace(so_far, made)
+        }
     }
 }
 
@@ -102,10 +122,10 @@ pub fn finished<T: Table<Value>>(alloc: Global, table: &T, whole: Partial) -> Re
     }
 }
 
-// A sum and the flow's curve at its hop that is meant, if there is one.
-fn with_flow<T: Table<Value>, L: Ledger>(
+// The flow's curve at its hop that is meant more in a sum, if there is one.
+fn add_flow<T: Table<Value>, L: Ledger>(
     alloc: Global,
-    so_far: Partial,
+    so_far: &mut Partial,
     table: &T,
     net: &Network,
     server: u32,
@@ -113,13 +133,13 @@ fn with_flow<T: Table<Value>, L: Ledger>(
     except: Option<u32>,
     flow: u32,
     steps: &mut Steps<L>,
-) -> Result<Partial, OpFault>
+) -> Result<(), OpFault>
     requires curves { (k : ℕ) → chosen net.now server pick except flow ≡ visit_list flow (Some k) →
         IsCurveAt (T.at table.now) (cell_of In flow k) }
-    requires ready { IsReady (T.at table.now) so_far }
-    ensures sum { (cells : List Cell) → IsPartial (T.at table.now) cells so_far → Adds (T.at table.now) cells
-        (map (at_visit In) (chosen net.now server pick except flow)) steps.old steps.new result }
-    ensures ready { IfOk result (IsReady (T.at table.now)) }
+    requires ready { IsReady (T.at table.now) so_far.old }
+    ensures sum { (cells : List Cell) → IsPartial (T.at table.now) cells so_far.old → Adds (T.at table.now) cells
+        (map (at_visit In) (chosen net.now server pick except flow)) steps.old steps.new (in_place so_far.new result) }
+    ensures ready { OnOk result (IsReady (T.at table.now) so_far.new) }
 {
     match chosen_at(net, flow, server, pick, except) {
         Some(hop) => {
@@ -128,9 +148,9 @@ fn with_flow<T: Table<Value>, L: Ledger>(
                 a: flow,
                 b: hop,
             };
-            added(alloc, so_far, table, cell, steps)
+            add(alloc, so_far, table, cell, steps)
         }
-        None => Ok(so_far),
+        None => Ok(()),
     }
 }
 
@@ -153,8 +173,18 @@ pub fn flows_sum<T: Table<Value>, L: Ledger>(
     let count = net.flows().len() as u32;
     let mut so_far = Partial::Nothing;
     for flow in 0..count {
-        match with_flow(alloc, so_far, table, net, server, pick, except, flow, steps) {
-            Ok(more) => so_far = more,
+        match add_flow(
+            alloc,
+            &mut so_far,
+            table,
+            net,
+            server,
+            pick,
+            except,
+            flow,
+            steps,
+        ) {
+            Ok(()) => {}
             Err(fault) => return Err(fault),
         }
     }
@@ -181,8 +211,8 @@ pub fn queues_sum<T: Table<Value>, L: Ledger>(
             a: server,
             b: queue,
         };
-        match added(alloc, so_far, table, cell, steps) {
-            Ok(more) => so_far = more,
+        match add(alloc, &mut so_far, table, cell, steps) {
+            Ok(()) => {}
             Err(fault) => return Err(fault),
         }
     }
