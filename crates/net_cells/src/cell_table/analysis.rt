@@ -1,6 +1,6 @@
 //! Tables that are filled cell by cell.
 
-ghost use Rattle.std.specs.Prelude.{◌≡◌, ◌≤◌, ◌<◌, ℕ, None, OnOk, length, option_copied, Some, OnErr, get_or, ◌≢◌, ◌^◌, ◌⊎◌};
+ghost use Rattle.std.specs.Prelude.{◌≡◌, ◌≢◌, ◌≤◌, ◌<◌, ◌^◌, ◌⊎◌, ℕ, length, get_or, Some, None, OnOk, OnErr, option_copied};
 ghost use Rattle.net_cells.specs.cell_table.Rows.{entry, kind_number, row_of};
 
 use crate::cell_table::table::{CellValue, Table};
@@ -50,6 +50,17 @@ fn in_row<V>(row: &[Option<V>], place: usize) -> Option<&V>
 {
     if place < row.len() {
         row[place].as_ref()
+    } else {
+        None
+    }
+}
+
+// What rows have at a place of one; nothing past the last row.
+fn at_place<V>(rows: &[Vec<Option<V>>], row: usize, place: usize) -> Option<&V>
+    ensures { option_copied result ≡ entry rows.now row place }
+{
+    if row < rows.len() {
+        in_row(&rows[row], place)
     } else {
         None
     }
@@ -108,8 +119,10 @@ fn put_in<V: Drop>(
     ensures kept { OnErr result ((i k : ℕ) → entry rows.new.items i k ≡ entry rows.old.items i k) }
 {
     grow_rows(alloc, rows, row + 1)?;
-    put_in_row(&mut rows[row], place, value)?;
-    Ok(())
+    match put_in_row(&mut rows[row], place, value) {
+        Ok(()) => Ok(()),
+        Err(error) => Err(error),
+    }
 }
 
 /// Values by cell: a row for each kind and first number, in it by the second number. A cell is looked up without a search.
@@ -125,12 +138,7 @@ impl<V: CellValue + Drop> Table<V> for Analysis<V> {
     ghost at = { λ t. held V.meaning t.rows.items };
 
     fn value(&self, cell: Cell) -> Option<&V> {
-        let row = row_of(cell);
-        if row < self.rows.len() {
-            in_row(&self.rows[row], cell.b as usize)
-        } else {
-            None
-        }
+        at_place(&self.rows, row_of(cell), cell.b as usize)
     }
 }
 
@@ -156,13 +164,10 @@ impl<V: CellValue + Drop> Analysis<V> {
         ensures kept { OnErr result
             ((c : Cell) → ⟦<Analysis<V> as Table<V>>⟧.at self.new c ≡ ⟦<Analysis<V> as Table<V>>⟧.at self.old c) }
     {
-        put_in(
-            self.alloc,
-            &mut self.rows,
-            row_of(cell),
-            cell.b as usize,
-            value,
-        )?;
-        Ok(())
+        let row = row_of(cell);
+        match put_in(self.alloc, &mut self.rows, row, cell.b as usize, value) {
+            Ok(()) => Ok(()),
+            Err(error) => Err(error),
+        }
     }
 }
