@@ -11,7 +11,7 @@ use Rattle.net_cells.specs.Cells.{cell_of, server_kinds, path_kinds}
 use Rattle.net_cells.specs.cell_table.Rows.{kind_number, row_of, entry}
 
 -- ---- each cell has a place of its own
-kind_at : ℕ → Kind
+abbrev kind_at : ℕ → Kind
 kind_at n = get_or (server_kinds ++ path_kinds) n In
 
 kind_is : (k : Kind) → kind_at (kind_number k) ≡ k
