@@ -2,6 +2,8 @@
 
 mod analyse_all;
 mod each_cell;
+mod in_order;
 
 pub use analyse_all::analyse;
 pub use each_cell::analysed;
+pub use in_order::analysed_in_order;

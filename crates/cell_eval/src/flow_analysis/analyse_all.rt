@@ -10,9 +10,8 @@ ghost use Rattle.net_cells.specs.MemoryEnds.{MemoryEnds};
 ghost use Rattle.cell_eval.specs.flow_analysis.Analyses.{HasNothingElse, IsRefusal, WantsMemory};
 
 use crate::Counted;
-use crate::flow_analysis::each_cell::analysed;
+use crate::flow_analysis::in_order::analysed_in_order;
 use net_cells::cell_table::{Analysis, AnalysisFault, Table, Value};
-use net_cells::cells;
 use net_model::Network;
 use outcomes::Steps;
 use std::alloc::Global;
@@ -42,8 +41,5 @@ pub fn analyse<L: Ledger>(
     ensures within { steps.new ≤ steps.old + sum_by (work net.now) (evaluation_order net.now order.now) }
 {
     let mut counted = Counted { alloc, steps };
-    match cells(alloc, net, order) {
-        Ok(all) => analysed(alloc, net, &all, &mut counted),
-        Err(_) => Err(AnalysisFault::NoMemory),
-    }
+    analysed_in_order(alloc, net, order, &mut counted)
 }

@@ -15,11 +15,11 @@ returns-in-One-clause-sum g c = λ cells h.
     let at = g.T.Table.at c.args.table.now in
     subst (Adds at cells (c.args.cell ∷ []) c.args.steps.now c.with_cell-made.new.steps) (sym c.replace.ensures.made)
     (c.with_cell-made.ensures cells
-    (one_summed at cells c.in-One.first.now c.deref.result.now (subst (IsPartial at cells) c.in-One.is h)
+    (one_summed at cells c.in-One.first c.deref.result.now (subst (IsPartial at cells) c.in-One.is h)
     (c.curve_at.ensures ∙ ap (λ f. Some (curve f)) (sym c.deref.ensures))))
 
 pub returns-in-Made-clause-sum : goal.returns-in-Made-clause-sum
 returns-in-Made-clause-sum g c = λ cells h.
     let at = g.T.Table.at c.args.table.now in
-    subst (Adds at cells (c.args.cell ∷ []) c.args.steps.now c.with_cell-in-Made-made.new.steps) (sym c.replace-in-Made.ensures.made)
-    (c.with_cell-in-Made-made.ensures cells (made_summed at cells c.in-Made.first.now (subst (IsPartial at cells) c.in-Made.is h)))
+    subst (Adds at cells (c.args.cell ∷ []) c.args.steps.now c.with_cell-made-in-Made.new.steps) (sym c.replace-in-Made.ensures.made)
+    (c.with_cell-made-in-Made.ensures cells (made_summed at cells c.in-Made.first (subst (IsPartial at cells) c.in-Made.is h)))

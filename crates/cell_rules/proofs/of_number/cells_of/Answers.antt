@@ -11,5 +11,7 @@ pub returns : goal.returns
 returns c =
     let f = kind_cells_of c.args.net.now c.args.number in
     are_cells c.args.net.now c.args.number c.push_kinds-2.new.cells.items c.keeps.ensures
-    (c.in_ok-push_kinds-2.ensures ∙ ap (λ (front : List Cell). front ++ flat_map f path_kinds) c.in_ok-push_kinds.ensures
+    (c.in_ok-push_kinds-2.ensures
+    ∙ ap (λ (front : List Cell). front ++ flat_map f path_kinds)
+    (c.in_ok-push_kinds.ensures ∙ ap (λ (none : List Cell). none ++ flat_map f server_kinds) c.new-cells.ensures.items)
     ∙ sym (flat_map-append f server_kinds path_kinds))

@@ -22,7 +22,7 @@ spread-requires g c =
 
 pub returns : goal.returns
 returns g c = record {
-  answer = rw c.packet.ensures at c.spread.ensures.answer;
+  answer = rw c.packet-bits.ensures at c.spread.ensures.answer;
   counts = c.spread.ensures.counts;
   memory = λ is. let at = g.T.Table.at c.args.self.now.table.now in
       let counted = c.spread.new.steps - c.args.steps.now in
@@ -30,6 +30,6 @@ returns g c = record {
       let service = value_of (cell_of Residual c.args.flow c.args.hop) in
       inr (at_refusal meaning_of c.spread.result
       (λ e. RefusedAt at (formula c.args.self.now.net.now (cell_of DeconvOut c.args.flow c.args.hop)) e counted)
-      (subst (λ b. IfErr c.spread.result (λ e. RefusedAt at (made Deconvolve from (less service b)) e counted)) c.packet.ensures
+      (subst (λ b. IfErr c.spread.result (λ e. RefusedAt at (made Deconvolve from (less service b)) e counted)) c.packet-bits.ensures
       c.spread.ensures.refused) is);
 }

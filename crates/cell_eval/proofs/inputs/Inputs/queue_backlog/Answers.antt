@@ -13,8 +13,8 @@ use Rattle.net_cells.specs.Refusals.{RefusedAt}
 use Rattle.cell_eval.proofs.Stopping.{at_refusal}
 use Rattle.cell_eval.proofs.inputs.Inputs.queue_backlog.Goals as goal
 
-pub backlog-requires : goal.backlog-requires
-backlog-requires g c =
+pub backlog-made-requires : goal.backlog-made-requires
+backlog-made-requires g c =
     let net = c.args.self.now.net.now in
     let at = g.T.Table.at c.args.self.now.table.now in
     record {
@@ -26,14 +26,14 @@ pub returns : goal.returns
 returns g c =
     let bits = c.longest_at-bits.ensures ∙ ap (longest_of c.args.self.now.net.now) (sym (picked_are c.args.self.now.net.now c.args.place.0 (InQueue c.args.place.1))) in
     record {
-      answer = rw c.numbered.ensures (rw bits at c.backlog.ensures.answer);
-      counts = rw c.numbered.ensures c.backlog.ensures.counts;
+      answer = rw c.numbered.ensures (rw bits at c.backlog-made.ensures.answer);
+      counts = rw c.numbered.ensures c.backlog-made.ensures.counts;
       memory = λ is. let at = g.T.Table.at c.args.self.now.table.now in
-          let counted = c.backlog.new.steps - c.args.steps.now in
+          let counted = c.backlog-made.new.steps - c.args.steps.now in
           let from = value_of (cell_of Total c.args.place.0 c.args.place.1) in
           let service = value_of (cell_of QueueService c.args.place.0 c.args.place.1) in
-          inr (at_refusal number c.backlog.result
+          inr (at_refusal number c.backlog-made.result
           (λ e. RefusedAt at (formula c.args.self.now.net.now (cell_of QueueBacklog c.args.place.0 c.args.place.1)) e counted)
-          (subst (λ b. IfErr c.backlog.result (λ e. RefusedAt at (vertical from (less service b)) e counted)) bits
-          c.backlog.ensures.refused) (sym c.numbered.ensures ∙ is));
+          (subst (λ b. IfErr c.backlog-made.result (λ e. RefusedAt at (vertical from (less service b)) e counted)) bits
+          c.backlog-made.ensures.refused) (sym c.numbered.ensures ∙ is));
     }
