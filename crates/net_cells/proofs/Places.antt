@@ -201,11 +201,11 @@ apart_path_kinds = apart_back kind_number path_kinds (apart_range 13 4)
 kinds : List Kind
 kinds = server_kinds ++ path_kinds
 
-pub kind_at : ℕ → Kind
+kind_at : ℕ → Kind
 unfolding kinds
 kind_at n = get_or kinds n In
 
-pub kind_at_number : (kind : Kind) → kind_at (kind_number kind) ≡ kind
+kind_at_number : (kind : Kind) → kind_at (kind_number kind) ≡ kind
 unfolding kind_at kinds
 kind_at_number In = refl
 kind_at_number Cross = refl
@@ -225,15 +225,15 @@ kind_at_number Tfa = refl
 kind_at_number Sfa = refl
 kind_at_number Bound = refl
 
-pub rank_one : (j k : Kind) → kind_number j ≡ kind_number k → j ≡ k
-rank_one j k e = sym (kind_at_number j) ∙ ap kind_at e ∙ kind_at_number k
+pub same_kind : (j k : Kind) → kind_number j ≡ kind_number k → j ≡ k
+same_kind j k e = sym (kind_at_number j) ∙ ap kind_at e ∙ kind_at_number k
 
 pub kinds_before : (j k : Kind) → kind_number j < kind_number k → kind_number k < 13 → Before j k server_kinds
-kinds_before j k h l = before_back kind_number j k server_kinds rank_one
+kinds_before j k h l = before_back kind_number j k server_kinds same_kind
     (before_range 0 13 (kind_number j) (kind_number k) (omega arith) h l)
 
 pub path_kinds_before : (j k : Kind) → 13 ≤ kind_number j → kind_number j < kind_number k → kind_number k < 17 → Before j k path_kinds
-path_kinds_before j k g h l = before_back kind_number j k path_kinds rank_one (before_range 13 4 (kind_number j) (kind_number k) g h l)
+path_kinds_before j k g h l = before_back kind_number j k path_kinds same_kind (before_range 13 4 (kind_number j) (kind_number k) g h l)
 
 pub path_scope : (kind : Kind) → Has path_kinds kind → scope_of kind ≡ EachPath
 path_scope kind (inl e) = ap scope_of (sym e)
