@@ -191,11 +191,14 @@ side_of Sfa = of_paths (inr (inr (inl refl))) refl
 side_of Bound = of_paths (inr (inr (inr (inl refl)))) refl
 
 -- by their places
+abbrev pub rank : Kind → ℕ
+rank kind = kind_number kind
+
 apart_kinds : Apart server_kinds
-apart_kinds = apart_back kind_number server_kinds (apart_range 0 13)
+apart_kinds = apart_back rank server_kinds (apart_range 0 13)
 
 pub apart_path_kinds : Apart path_kinds
-apart_path_kinds = apart_back kind_number path_kinds (apart_range 13 4)
+apart_path_kinds = apart_back rank path_kinds (apart_range 13 4)
 
 -- and back
 kinds : List Kind
@@ -205,35 +208,35 @@ kind_at : ℕ → Kind
 unfolding kinds
 kind_at n = get_or kinds n In
 
-kind_at_number : (kind : Kind) → kind_at (kind_number kind) ≡ kind
+kind_at_rank : (kind : Kind) → kind_at (rank kind) ≡ kind
 unfolding kind_at kinds
-kind_at_number In = refl
-kind_at_number Cross = refl
-kind_at_number Total = refl
-kind_at_number Higher = refl
-kind_at_number QueueService = refl
-kind_at_number Theta = refl
-kind_at_number Residual = refl
-kind_at_number QueueDelay = refl
-kind_at_number QueueBacklog = refl
-kind_at_number HopDelay = refl
-kind_at_number ShiftOut = refl
-kind_at_number DeconvOut = refl
-kind_at_number Out = refl
-kind_at_number PathService = refl
-kind_at_number Tfa = refl
-kind_at_number Sfa = refl
-kind_at_number Bound = refl
+kind_at_rank In = refl
+kind_at_rank Cross = refl
+kind_at_rank Total = refl
+kind_at_rank Higher = refl
+kind_at_rank QueueService = refl
+kind_at_rank Theta = refl
+kind_at_rank Residual = refl
+kind_at_rank QueueDelay = refl
+kind_at_rank QueueBacklog = refl
+kind_at_rank HopDelay = refl
+kind_at_rank ShiftOut = refl
+kind_at_rank DeconvOut = refl
+kind_at_rank Out = refl
+kind_at_rank PathService = refl
+kind_at_rank Tfa = refl
+kind_at_rank Sfa = refl
+kind_at_rank Bound = refl
 
-pub same_kind : (j k : Kind) → kind_number j ≡ kind_number k → j ≡ k
-same_kind j k e = sym (kind_at_number j) ∙ ap kind_at e ∙ kind_at_number k
+pub rank_one : (j k : Kind) → rank j ≡ rank k → j ≡ k
+rank_one j k e = sym (kind_at_rank j) ∙ ap kind_at e ∙ kind_at_rank k
 
-pub kinds_before : (j k : Kind) → kind_number j < kind_number k → kind_number k < 13 → Before j k server_kinds
-kinds_before j k h l = before_back kind_number j k server_kinds same_kind
-    (before_range 0 13 (kind_number j) (kind_number k) (omega arith) h l)
+pub kinds_before : (j k : Kind) → rank j < rank k → rank k < 13 → Before j k server_kinds
+kinds_before j k h l = before_back rank j k server_kinds rank_one
+    (before_range 0 13 (rank j) (rank k) (omega arith) h l)
 
-pub path_kinds_before : (j k : Kind) → 13 ≤ kind_number j → kind_number j < kind_number k → kind_number k < 17 → Before j k path_kinds
-path_kinds_before j k g h l = before_back kind_number j k path_kinds same_kind (before_range 13 4 (kind_number j) (kind_number k) g h l)
+pub path_kinds_before : (j k : Kind) → 13 ≤ rank j → rank j < rank k → rank k < 17 → Before j k path_kinds
+path_kinds_before j k g h l = before_back rank j k path_kinds rank_one (before_range 13 4 (rank j) (rank k) g h l)
 
 pub path_scope : (kind : Kind) → Has path_kinds kind → scope_of kind ≡ EachPath
 path_scope kind (inl e) = ap scope_of (sym e)

@@ -20,14 +20,13 @@ use Rattle.net_cells.specs.Numbered.{flow_at, path_of, hops, server_of_hop, queu
 use Rattle.net_cells.specs.Visits.{Visit, visits, visits_in, others}
 use Rattle.net_cells.specs.QueueParts.{part_of, in_part, part_numbers, by_parts}
 use Rattle.net_cells.specs.Cells.{cell_of, scope_of, is_in_scope, has_cell, server_kinds, path_kinds}
-use Rattle.net_cells.specs.cell_table.Rows.{kind_number}
 use Rattle.net_cells.specs.Order.{at_visit, evaluation_order, server_cells, kind_cells, path_cells}
 use Rattle.net_cells.specs.Formulas.{Formula, leaves, made, value_of}
 use Rattle.net_cells.specs.CellFormulas.{formula, total, sum_of_cells, sum_from, queue_service, less}
 use Rattle.net_cells.specs.Laws.{OperandsComeFirst, OperandsAreCells}
 use Rattle.net_cells.proofs.LeavesOf.{parts_leaves, served_leaves}
 use Rattle.net_cells.proofs.Lists.{Before, map_has, flat_has, filter_has, range_has, before_left, before_right, before_across, before_flat, before_inside, before_place, before_split, Apart}
-use Rattle.net_cells.proofs.Places.{flow_inside, live_inside, visit_has, home, home_in, kinds_before, path_kinds_before, IsHome, has_kind, has_server, has_path}
+use Rattle.net_cells.proofs.Places.{flow_inside, live_inside, visit_has, home, home_in, rank, kinds_before, path_kinds_before, IsHome, has_kind, has_server, has_path}
 use Rattle.net_cells.proofs.Members.{hop_of, hop_kept, home_inside, home_in_order, order_has, apart_cells}
 use Rattle.run_laws.proofs.Members.{Has, has_right, has_either, has_flat, contains_has, has_contains}
 
@@ -47,7 +46,7 @@ in_it net order s c o h =
 
 -- at one server, by their kinds
 at_one : (net : Net) (order : List ℕ) (s : ℕ) (c d : Cell) → Ordered net order → IsHome net s c → IsHome net s d
-    → kind_number d.kind < kind_number c.kind → kind_number c.kind < 13 → Before d c (All net order)
+    → rank d.kind < rank c.kind → rank c.kind < 13 → Before d c (All net order)
 at_one net order s c d o p q k l =
     before_left d c (flat_map (server_cells net) order) (flat_map (path_cells net) path_kinds)
     (before_inside (server_cells net) s d c order (in_it net order s c o p)
@@ -69,8 +68,8 @@ at_last net order s c d o q p =
     (has_flat (server_cells net) order s d (in_it net order s d o q) (has_server net s d q)) p
 
 -- of one whole path, by their kinds
-on_path : (net : Net) (order : List ℕ) (i : ℕ) (j k : Kind) → is_live net i ≡ true → 13 ≤ kind_number j → kind_number j < kind_number k
-    → kind_number k < 17 → Before (cell_of j i 0) (cell_of k i 0) (All net order)
+on_path : (net : Net) (order : List ℕ) (i : ℕ) (j k : Kind) → is_live net i ≡ true → 13 ≤ rank j → rank j < rank k
+    → rank k < 17 → Before (cell_of j i 0) (cell_of k i 0) (All net order)
 on_path net order i j k h low less high =
     before_right (cell_of j i 0) (cell_of k i 0) (flat_map (server_cells net) order)
     (flat_map (path_cells net) path_kinds)
@@ -144,7 +143,7 @@ leaf_of_sum (c ∷ cs) d h = elim (sum_leaves (value_of c) cs d h) [ inl l ↦ o
 -- the curve of a visit of a server
 of_visit : (net : Net) (order : List ℕ) (s : ℕ) (c : Cell) (v : Visit) → Ordered net order → IsHome net s c
     → Has (visits net s) v
-    → 0 < kind_number c.kind → kind_number c.kind < 13 → Before (at_visit In v) c (All net order)
+    → 0 < rank c.kind → rank c.kind < 13 → Before (at_visit In v) c (All net order)
 of_visit net order s c v o h m k l =
     let found = visit_has net s v m in
     at_one net order s c (at_visit In v) o h (at_hop net In v.flow v.hop s refl found.0 found.1) k l
@@ -267,14 +266,14 @@ service_first net order s q o h d m = by (discipline net s) refl m
 
 -- a cell of the same hop, or the service or the delay of its queue
 of_hop : (net : Net) (order : List ℕ) (i k : ℕ) (c : Cell) (kind : Kind) → Ordered net order → k < hops net i
-    → IsHome net (server_of_hop net i k) c → scope_of kind ≡ EachHop → kind_number kind < kind_number c.kind → kind_number c.kind < 13
+    → IsHome net (server_of_hop net i k) c → scope_of kind ≡ EachHop → rank kind < rank c.kind → rank c.kind < 13
     → Before (cell_of kind i k) c (All net order)
 of_hop net order i k c kind o h p e l u =
     at_one net order (server_of_hop net i k) c (cell_of kind i k) o p
     (at_hop net kind i k (server_of_hop net i k) e h refl) l u
 
 of_queue : (net : Net) (order : List ℕ) (i k : ℕ) (c : Cell) (kind : Kind) → Ordered net order → k < hops net i
-    → IsHome net (server_of_hop net i k) c → scope_of kind ≡ EachQueue → kind_number kind < kind_number c.kind → kind_number c.kind < 13
+    → IsHome net (server_of_hop net i k) c → scope_of kind ≡ EachQueue → rank kind < rank c.kind → rank c.kind < 13
     → Before (cell_of kind (server_of_hop net i k) (queue_of_hop net i k)) c (All net order)
 of_queue net order i k c kind o h p e l u =
     at_one net order (server_of_hop net i k) c (cell_of kind (server_of_hop net i k) (queue_of_hop net i k)) o p
@@ -290,7 +289,7 @@ at_hop_before net kind i k s e h is = record {
 }
 
 of_last : (net : Net) (order : List ℕ) (i k : ℕ) (c : Cell) (kind : Kind) → Ordered net order → suc k < hops net i
-    → IsHome net (server_of_hop net i k) c → scope_of kind ≡ EachHopButLast → kind_number kind < kind_number c.kind → kind_number c.kind < 13
+    → IsHome net (server_of_hop net i k) c → scope_of kind ≡ EachHopButLast → rank kind < rank c.kind → rank c.kind < 13
     → Before (cell_of kind i k) c (All net order)
 of_last net order i k c kind o h p e l u =
     at_one net order (server_of_hop net i k) c (cell_of kind i k) o p
@@ -347,8 +346,8 @@ hop_delay_first net order i k o h =
 
 -- what enters a hop that is not the last, and one cell more of it
 past_first : (net : Net) (order : List ℕ) (i k : ℕ) (last kind : Kind) → Ordered net order → k < hops net i
-    → suc k < hops net i → scope_of last ≡ EachHopButLast → scope_of kind ≡ EachHop → kind_number In < kind_number last
-    → kind_number kind < kind_number last → kind_number last < 13
+    → suc k < hops net i → scope_of last ≡ EachHopButLast → scope_of kind ≡ EachHop → rank In < rank last
+    → rank kind < rank last → rank last < 13
     → leaves (formula net (cell_of last i k)) ≡ cell_of In i k ∷ cell_of kind i k ∷ []
     → OperandsFirst net order (cell_of last i k)
 past_first net order i k last kind o h g a e below l u are =
@@ -377,7 +376,7 @@ out_first net order i k o h g =
 
 -- what enters a queue, and its service
 of_its_queue : (net : Net) (order : List ℕ) (s q : ℕ) (last : Kind) → Ordered net order → q < queues net s
-    → scope_of last ≡ EachQueue → kind_number Total < kind_number last → kind_number QueueService < kind_number last → kind_number last < 13
+    → scope_of last ≡ EachQueue → rank Total < rank last → rank QueueService < rank last → rank last < 13
     → leaves (formula net (cell_of last s q)) ≡ cell_of Total s q ∷ cell_of QueueService s q ∷ []
     → OperandsFirst net order (cell_of last s q)
 of_its_queue net order s q last o h a first second u are =

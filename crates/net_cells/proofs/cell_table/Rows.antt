@@ -9,7 +9,7 @@ use Rattle.net_cells.specs.declared.cell.Kind.{Kind}
 use Rattle.net_cells.specs.declared.cell.Kind.TheVariants.{In, Cross, Total, Higher, QueueService, Theta, Residual, QueueDelay, QueueBacklog, HopDelay, ShiftOut, DeconvOut, Out, PathService, Tfa, Sfa, Bound}
 use Rattle.net_cells.specs.Cells.{cell_of}
 use Rattle.net_cells.specs.cell_table.Rows.{kind_number, row_of, entry}
-use Rattle.net_cells.proofs.Places.{same_kind}
+use Rattle.net_cells.proofs.Places.{rank_one}
 
 -- ---- each cell has a place of its own
 few_kinds : (k : Kind) → kind_number k < 17
@@ -37,7 +37,7 @@ own_place c d e f =
     let others = few_kinds d.kind in
     let first : c.a ≡ d.a = omega (arith, e, few, others) in
     let number : kind_number c.kind ≡ kind_number d.kind = omega (arith, e, few, others) in
-    let kind : c.kind ≡ d.kind = same_kind c.kind d.kind number in
+    let kind : c.kind ≡ d.kind = rank_one c.kind d.kind number in
     ap (λ k. cell_of k c.a c.b) kind ∙ ap (λ a. cell_of d.kind a c.b) first ∙ ap (λ b. cell_of d.kind d.a b) f
 
 pub apart : (c d : Cell) → d ≢ c → (row_of d ≢ row_of c) ⊎ (d.b ≢ c.b)
