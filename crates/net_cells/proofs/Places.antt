@@ -12,6 +12,7 @@ use Rattle.net_cells.specs.declared.cell.Scope.{Scope}
 use Rattle.net_cells.specs.declared.cell.Scope.TheVariants.{EachHop, EachHopButLast, EachQueue, EachPriorityQueue, EachPath}
 use Rattle.net_cells.specs.Numbered.{flow_at, path_of, hops, server_of_hop, is_live, queues, levels}
 use Rattle.net_cells.specs.Visits.{Visit, visit, all_visits, visits, is_at, goes_on}
+use Rattle.net_cells.specs.cell_table.Rows.{kind_number}
 use Rattle.net_cells.specs.Cells.{cell_of, scope_of, is_in_scope, has_cell, server_kinds, path_kinds}
 use Rattle.net_cells.specs.Order.{at_visit, cells_in_scope, kind_cells, server_cells, path_cells}
 use Rattle.net_cells.proofs.Lists.{Apart, map_has, apart_map, has_filter, filter_has, apart_filter, apart_back, Before, before_back, before_range, flat_has, apart_flat, has_range, range_has, apart_range}
@@ -191,23 +192,7 @@ side_of Bound = of_paths (inr (inr (inr (inl refl)))) refl
 
 -- by their places
 abbrev pub rank : Kind → ℕ
-rank In = 0
-rank Cross = 1
-rank Total = 2
-rank Higher = 3
-rank QueueService = 4
-rank Theta = 5
-rank Residual = 6
-rank QueueDelay = 7
-rank QueueBacklog = 8
-rank HopDelay = 9
-rank ShiftOut = 10
-rank DeconvOut = 11
-rank Out = 12
-rank PathService = 13
-rank Tfa = 14
-rank Sfa = 15
-rank Bound = 16
+rank kind = kind_number kind
 
 apart_kinds : Apart server_kinds
 apart_kinds = apart_back rank server_kinds (apart_range 0 13)

@@ -1,5 +1,5 @@
 -- Where a cell stands in a table by rows, and rows that grow.
-use Rattle.std.proofs.Common.{◌≡◌, ◌≢◌, ℕ, zero, suc, ◌+◌, ◌*◌, ◌<◌, ◌≤◌, ◌⊎◌, List, [], ◌∷◌, ◌++◌, length, get_or, set, map, refl, sym, ap, ◌∙◌, subst, inl, inr, arith}
+use Rattle.std.proofs.Common.{◌≡◌, ◌≢◌, ℕ, zero, suc, ◌<◌, ◌≤◌, ◌⊎◌, List, [], ◌∷◌, ◌++◌, length, get_or, set, map, refl, sym, ap, ◌∙◌, subst, inl, inr, arith}
 use Rattle.std.specs.Prelude.{Option, None}
 use Rattle.std.specs.declared.vec.Vec.{Vec}
 use Rattle.std.proofs.lemmas.List.{map-append, map-set, get_or-map, get_or-set_same, get_or-set_other, get_or_past, length-map}
@@ -7,32 +7,11 @@ use Rattle.std.proofs.lemmas.Bool.{cases_eq}
 use Rattle.net_cells.specs.declared.cell.Cell.{Cell}
 use Rattle.net_cells.specs.declared.cell.Kind.{Kind}
 use Rattle.net_cells.specs.declared.cell.Kind.TheVariants.{In, Cross, Total, Higher, QueueService, Theta, Residual, QueueDelay, QueueBacklog, HopDelay, ShiftOut, DeconvOut, Out, PathService, Tfa, Sfa, Bound}
-use Rattle.net_cells.specs.Cells.{cell_of, server_kinds, path_kinds}
+use Rattle.net_cells.specs.Cells.{cell_of}
 use Rattle.net_cells.specs.cell_table.Rows.{kind_number, row_of, entry}
+use Rattle.net_cells.proofs.Places.{rank_one}
 
 -- ---- each cell has a place of its own
-abbrev kind_at : ℕ → Kind
-kind_at n = get_or (server_kinds ++ path_kinds) n In
-
-kind_is : (k : Kind) → kind_at (kind_number k) ≡ k
-kind_is In = refl
-kind_is Cross = refl
-kind_is Total = refl
-kind_is Higher = refl
-kind_is QueueService = refl
-kind_is Theta = refl
-kind_is Residual = refl
-kind_is QueueDelay = refl
-kind_is QueueBacklog = refl
-kind_is HopDelay = refl
-kind_is ShiftOut = refl
-kind_is DeconvOut = refl
-kind_is Out = refl
-kind_is PathService = refl
-kind_is Tfa = refl
-kind_is Sfa = refl
-kind_is Bound = refl
-
 few_kinds : (k : Kind) → kind_number k < 17
 few_kinds In = omega arith
 few_kinds Cross = omega arith
@@ -58,7 +37,7 @@ own_place c d e f =
     let others = few_kinds d.kind in
     let first : c.a ≡ d.a = omega (arith, e, few, others) in
     let number : kind_number c.kind ≡ kind_number d.kind = omega (arith, e, few, others) in
-    let kind : c.kind ≡ d.kind = sym (kind_is c.kind) ∙ ap kind_at number ∙ kind_is d.kind in
+    let kind : c.kind ≡ d.kind = rank_one c.kind d.kind number in
     ap (λ k. cell_of k c.a c.b) kind ∙ ap (λ a. cell_of d.kind a c.b) first ∙ ap (λ b. cell_of d.kind d.a b) f
 
 pub apart : (c d : Cell) → d ≢ c → (row_of d ≢ row_of c) ⊎ (d.b ≢ c.b)
