@@ -130,7 +130,8 @@ impl Stops {
             return Ok(());
         }
         let place = self.stops.len();
-        self.stops.reserve(1)?;
+        // The first finds room for as many as most trees have.
+        self.stops.reserve(if place == 0 { FEW } else { 1 })?;
         note(&mut self.places, port, place)?;
         self.stops.push_reserved((port, after));
         Ok(())

@@ -89,7 +89,7 @@ fn stairs_of_spots(
     requires { All (λ n. n < length stairs.now) numbers.now }
     ensures { IfOk result (λ v. v.items ≡ stairs_among (λ n. stair_in stairs.now n) numbers.now) }
 {
-    let mut found = Vec::new(alloc);
+    let mut found = Vec::with_capacity(alloc, numbers.len())?;
     for n in numbers {
         keep(&mut found, stairs[*n])?;
     }

@@ -148,7 +148,7 @@ pub(crate) fn groups_of(
     ensures { IfOk result (λ v. v.items ≡ grouped spots.now (λ n. line_of (stair_in stairs.now n)) numbers.now) }
 {
     let own = stairs_at(alloc, stairs, numbers)?;
-    let mut groups = Vec::new(alloc);
+    let mut groups = Vec::with_capacity(alloc, numbers.len())?;
     for place in 0..numbers.len() {
         let line = line_by(&own, place);
         add_group(&mut groups, group_of_one(spots[numbers[place]], line))?;

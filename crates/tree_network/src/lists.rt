@@ -7,15 +7,64 @@ ghost use Rattle.tree_network.specs.Spots.{spot_at};
 use crate::spots::Spot;
 use std::alloc::{AllocError, Global};
 
-/// So many empty lists.
-fn empty_lists(alloc: Global, count: usize) -> Result<Vec<Vec<usize>>, AllocError>
-    ensures { IfOk result (λ v. lists_of v.items ≡ replicate count []) }
+/// How many spots have each source.
+fn source_counts(alloc: Global, spots: &[Spot], sources: usize) -> Result<Vec<usize>, AllocError>
+    requires { (n : ℕ) → n < length spots.now → (spot_at spots.now n).source < sources }
+    ensures { IfOk result (λ v. length v.items ≡ sources) }
 {
-    let mut lists = Vec::with_capacity(alloc, count)?;
-    for _list in 0..count {
-        lists.push(Vec::new(alloc))?;
+    let mut counts = vec![in alloc; 0usize; sources]?;
+    for spot in spots {
+        let source = spot.source as usize;
+        counts[source] = counts[source].saturating_add(1);
+    }
+    Ok(counts)
+}
+
+/// How many spots each port has.
+fn port_counts(alloc: Global, spots: &[Spot], ports: usize) -> Result<Vec<usize>, AllocError>
+    requires { (n : ℕ) → n < length spots.now → (spot_at spots.now n).port < ports }
+    ensures { IfOk result (λ v. length v.items ≡ ports) }
+{
+    let mut counts = vec![in alloc; 0usize; ports]?;
+    for spot in spots {
+        let port = spot.port as usize;
+        counts[port] = counts[port].saturating_add(1);
+    }
+    Ok(counts)
+}
+
+/// An empty list for each count, with room for so many numbers.
+fn empty_lists(alloc: Global, counts: &[usize]) -> Result<Vec<Vec<usize>>, AllocError>
+    ensures { IfOk result (λ v. lists_of v.items ≡ replicate (length counts.now) []) }
+{
+    let mut lists = Vec::with_capacity(alloc, counts.len())?;
+    for count in counts {
+        let list = Vec::with_capacity(alloc, *count)?;
+        lists.push(list)?;
     }
     Ok(lists)
+}
+
+/// An empty list for each source, with room for its spots.
+fn source_lists(
+    alloc: Global,
+    spots: &[Spot],
+    sources: usize,
+) -> Result<Vec<Vec<usize>>, AllocError>
+    requires { (n : ℕ) → n < length spots.now → (spot_at spots.now n).source < sources }
+    ensures { IfOk result (λ v. lists_of v.items ≡ replicate sources []) }
+{
+    let counts = source_counts(alloc, spots, sources)?;
+    empty_lists(alloc, &counts)
+}
+
+/// An empty list for each port, with room for its spots.
+fn port_lists(alloc: Global, spots: &[Spot], ports: usize) -> Result<Vec<Vec<usize>>, AllocError>
+    requires { (n : ℕ) → n < length spots.now → (spot_at spots.now n).port < ports }
+    ensures { IfOk result (λ v. lists_of v.items ≡ replicate ports []) }
+{
+    let counts = port_counts(alloc, spots, ports)?;
+    empty_lists(alloc, &counts)
 }
 
 /// Adds a number to list k.
@@ -36,7 +85,7 @@ pub(crate) fn by_source(
     requires { (n : ℕ) → n < length spots.now → (spot_at spots.now n).source < sources }
     ensures { IfOk result (λ v. AreBySource spots.now sources (lists_of v.items)) }
 {
-    let mut lists = empty_lists(alloc, sources)?;
+    let mut lists = source_lists(alloc, spots, sources)?;
     for n in 0..spots.len() {
         add_to(&mut lists, spots[n].source as usize, n)?;
     }
@@ -72,7 +121,7 @@ pub(crate) fn by_port(
     requires ports { (n : ℕ) → n < length spots.now → (spot_at spots.now n).port < ports }
     ensures { IfOk result (λ v. AreByPort spots.now ports (length sources.now) (lists_of v.items)) }
 {
-    let mut lists = empty_lists(alloc, ports)?;
+    let mut lists = port_lists(alloc, spots, ports)?;
     for numbers in sources {
         add_spots(&mut lists, spots, numbers)?;
     }

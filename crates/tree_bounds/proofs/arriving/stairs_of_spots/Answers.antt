@@ -7,7 +7,7 @@ use Rattle.tree_bounds.proofs.Coming.{none_among, one_among}
 use Rattle.tree_bounds.proofs.arriving.stairs_of_spots.Goals as goal
 
 pub loop-n-init : goal.loop-n-init
-loop-n-init c = c.new-found.ensures.items ∙ none_among (λ n. stair_in c.args.stairs.now n) c.args.numbers.now
+loop-n-init c = c.in_ok-found.ensures.items ∙ none_among (λ n. stair_in c.args.stairs.now n) c.args.numbers.now
 
 pub loop-n-preserved : goal.loop-n-preserved
 loop-n-preserved c =

@@ -14,7 +14,7 @@ use Rattle.tree_bounds.proofs.groups.groups_of.Goals as goal
 pub loop-place-init : goal.loop-place-init
 loop-place-init c =
     let P : List Group → Type 0 = λ gs. Grouping c.args.spots.now (λ n. line_of (stair_in c.args.stairs.now n)) c.args.numbers.now 0 gs in
-    subst P (sym c.new-groups.ensures.items) (no_spot_yet c.args.spots.now (λ n. line_of (stair_in c.args.stairs.now n)) c.args.numbers.now)
+    subst P (sym c.in_ok-groups.ensures.items) (no_spot_yet c.args.spots.now (λ n. line_of (stair_in c.args.stairs.now n)) c.args.numbers.now)
 
 pub line_by-line-requires-clause-stairs : goal.line_by-line-requires-clause-stairs
 line_by-line-requires-clause-stairs c = subst AreAllStairs (sym c.deref.ensures.value) c.in_ok-own.ensures.range
