@@ -59,4 +59,3 @@ pub mod SumPieces
 pub mod SumCurves
 pub mod ZeroCalls
 pub mod ZeroStars
-pub mod OrderedCurves

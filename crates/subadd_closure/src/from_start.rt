@@ -106,7 +106,7 @@ pub(crate) fn started_from<L: Ledger>(
     if begins_at(&whole, start) {
         return Ok(whole);
     }
-    let frame = star_frame(alloc, sofar, star, thin)?;
+    let frame = star_frame(alloc, sofar, star)?;
     let started = match started_within(alloc, sofar, star, &frame, start, thin) {
         Ok(c) => Ok(c),
         Err(_) => Err(OpFault::NoMemory),

@@ -36,9 +36,7 @@ fn frame_between(
     g: &Curve,
     first: &CallWindow,
     from: Frac,
-    thin: bool,
 ) -> Result<Option<Frame>, OpFault>
-    requires thin { MayThin thin f.now g.now }
     requires curves { IsCurve f.now × IsCurve g.now }
     requires window { IsFirstWindow Convolve f.now g.now first.now }
     requires from { from ≡ first.now.end -ℚ first.now.period }
@@ -46,7 +44,7 @@ fn frame_between(
     ensures refused { IfErr result (IsCauseOf Convolve f.now g.now) }
 {
     let kind = OpKind::Convolve;
-    let Some(bounds) = quick_bounds(f, g, from, first.period, first.end, thin) else {
+    let Some(bounds) = quick_bounds(f, g, from, first.period, first.end) else {
         return Ok(None);
     };
     refuse_between(&kind, f, g, bounds.low, bounds.high)?;
@@ -82,15 +80,14 @@ fn later_frame(f: &Curve, g: &Curve, first: &Frame, from: Frac, bounds: &Bounds)
 
 // The frame of a call within both limits with no period, where few numbers tell how many are enough: mostly none, so that
 // the pieces are gone over once alone for the limits.
-fn frame_at_once(f: &Curve, g: &Curve, thin: bool) -> Option<Frame>
-    requires { MayThin thin f.now g.now }
+fn frame_at_once(f: &Curve, g: &Curve) -> Option<Frame>
     ensures { IfSome result (λ r. IsConvolveFrame f.now g.now r × IsWithin Convolve f.now g.now) }
 {
     let Ok(frame) = within(&OpKind::Convolve, f, g, 0) else {
         return None;
     };
     let from = difference(frame.end, frame.period);
-    let Some(bounds) = quick_bounds(f, g, from, frame.period, frame.end, thin) else {
+    let Some(bounds) = quick_bounds(f, g, from, frame.period, frame.end) else {
         return None;
     };
     if bounds.high > 0 {
@@ -100,29 +97,26 @@ fn frame_at_once(f: &Curve, g: &Curve, thin: bool) -> Option<Frame>
 }
 
 // The frame where that does not tell.
-fn searched_frame(alloc: Global, f: &Curve, g: &Curve, thin: bool) -> Result<Frame, OpFault>
-    requires { MayThin thin f.now g.now }
+fn searched_frame(alloc: Global, f: &Curve, g: &Curve) -> Result<Frame, OpFault>
     ensures frame { IfOk result (IsConvolveFrame f.now g.now) }
     ensures limits { KeepsLimits Convolve f.now g.now result }
 {
     let first = first_window(&OpKind::Convolve, f, g)?;
     let from = difference(first.end, first.period);
-    match frame_between(f, g, &first, from, thin)? {
+    match frame_between(f, g, &first, from)? {
         Some(frame) => Ok(frame),
         None => convolve_frame(alloc, f, g),
     }
 }
 
-/// The frame of the call, as `convolve_frame` of `curve_conv`, which is asked where few numbers do not tell it; `thin` as of
-/// `window_of`.
-pub(crate) fn star_frame(alloc: Global, f: &Curve, g: &Curve, thin: bool) -> Result<Frame, OpFault>
-    requires { MayThin thin f.now g.now }
+/// The frame of the call, as `convolve_frame` of `curve_conv`, which is asked where few numbers do not tell it.
+pub(crate) fn star_frame(alloc: Global, f: &Curve, g: &Curve) -> Result<Frame, OpFault>
     ensures frame { IfOk result (IsConvolveFrame f.now g.now) }
     ensures limits { KeepsLimits Convolve f.now g.now result }
 {
-    match frame_at_once(f, g, thin) {
+    match frame_at_once(f, g) {
         Some(frame) => Ok(frame),
-        None => searched_frame(alloc, f, g, thin),
+        None => searched_frame(alloc, f, g),
     }
 }
 
@@ -177,7 +171,7 @@ fn stars_convolved(alloc: Global, f: &Curve, g: &Curve, thin: bool) -> Result<Cu
         → IsConvolution (value_at f.now) (value_at g.now) t (value_at c t)) }
     ensures limits { KeepsLimits Convolve f.now g.now result }
 {
-    let frame = star_frame(alloc, f, g, thin)?;
+    let frame = star_frame(alloc, f, g)?;
     match convolved_within(alloc, f, g, &frame, thin) {
         Ok(c) => Ok(c),
         Err(_) => Err(OpFault::NoMemory),

@@ -2,8 +2,8 @@ use Rattle.std.proofs.lemmas.Result.{err_from_is_err_and}
 use Rattle.curve_conv.proofs.ConvolveCalls.{parts_call, refused_by, high_frame, high_within}
 use Rattle.subadd_closure.proofs.star_convolution.frame_between.Goals as goal
 
-pub quick_bounds-requires-clause-parts : goal.quick_bounds-requires-clause-parts
-quick_bounds-requires-clause-parts c = parts_call c.args.f.now c.args.g.now c.args.first.now c.args.from c.requires.curves c.requires.window c.requires.from
+pub quick_bounds-requires : goal.quick_bounds-requires
+quick_bounds-requires c = parts_call c.args.f.now c.args.g.now c.args.first.now c.args.from c.requires.curves c.requires.window c.requires.from
 
 pub returns-in_err-refuse_between-clause-refused : goal.returns-in_err-refuse_between-clause-refused
 returns-in_err-refuse_between-clause-refused c =
