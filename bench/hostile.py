@@ -257,7 +257,7 @@ CASES = {
         "curve",
         "let a = close(sum(bucket(1/3, 0), sum(latency(12, 1024), min(shift(latency(12, 726), 676572/731), "
         "conv(gate(1/1024, 3/7, 3/28), bucket(0, 967628/19))))))\n",
-        0,
+        7,
     ),
     "script: the closure of a gate that waits, 250": ("curve", waiting_gate(250), 0),
     "script: the closure of a gate that waits, 1000": ("curve", waiting_gate(1000), 0),
