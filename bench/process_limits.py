@@ -135,7 +135,7 @@ def table_calls() -> dict[str, tuple[list[str], dict[str, bytes]]]:
         folder = TOP / "tests/netbound" / name
         words = (folder / "words").read_text().split()
         calls[name.replace("_", " ")] = (words, {file: (folder / file).read_bytes() for file in words if file.endswith(".csv")})
-    ports, links = (table.encode() for table in real_size.tables(1, 1))
+    ports, links = (table.encode() for table in real_size.tables(1, 1, real_size.SHORT))
     words = ["ports.csv", "links.csv"]
     some = b"".join(links.splitlines(keepends=True)[:2000])
     return calls | {

@@ -1,16 +1,20 @@
 #!/usr/bin/env python3
 """Networks of the shape of a real avionics network, and what netbound and the plain program of its rules take for them.
 
-    python3 bench/real_size.py NETBOUND [SEED [SIZE ..]]    times and memory, a line a size (1, 4 and 10)
-    python3 bench/real_size.py --write FOLDER [SEED [SIZE]]    writes the two tables alone
+    python3 bench/real_size.py [--short] NETBOUND [SEED [SIZE ..]]    times and memory, a line a size (1, 4 and 10)
+    python3 bench/real_size.py [--short] --write FOLDER [SEED [SIZE]]    writes the two tables alone
 
 A size of 1 has 104 end systems at 8 switches with 12 cables between them: 232 ports of 100 Mbit/s, 974 multicast links
 of 6,795 branches, gaps of 2 to 128 milliseconds, frames of 84 to 1,538 bytes on the wire, and a deadline of
 28.7 milliseconds for each branch. A size of k has k such clusters, each with one of its cables to the next one, and a tenth
 of the branches go over. No path goes up and then down again in the order of the switches, so that there is no cycle.
-examples/avionics_real has the tables of seed 1 and size 1.
 
-Processor time (the least of five runs; of the Python one run) and largest memory are those of each child; the branches a second are those
+Names are as long as those of interface control documents are, and as long at each size: links of 974 take some 0.9 MB. With
+--short they are as short as can be, and longer in larger networks: 10 times the branches are then 11.9 times the bytes.
+examples/avionics_real has the tables of seed 1 and size 1 with short names. Paths of larger networks are longer, since
+branches go over, so that 10 times the branches visit 10.7 times the ports.
+
+Processor time (the least of twenty runs; of the Python one run) and largest memory are those of each child; the branches a second are those
 of netbound, and the last lines say how much longer a larger network takes. Where there is a cargo, the same is timed in plain
 Rust (bench/twin, src/tables.rs). It ends with 1 where they print unlike lines.
 """
@@ -22,13 +26,28 @@ import subprocess
 import sys
 import tempfile
 import time
+from dataclasses import dataclass
 from pathlib import Path
 
 TWIN = Path(__file__).resolve().parent / "plain_document.py"
 SYSTEMS, SWITCHES, CABLES, LINKS, BRANCHES = 104, 8, 12, 974, 6795
 DEADLINE = 28_700
-RUNS = 5
+RUNS = 20
 GAPS = {2: 1, 4: 2, 8: 4, 16: 8, 32: 16, 64: 24, 128: 45}
+
+
+@dataclass(frozen=True)
+class Names:
+    """How links are named, and the ports of an end system, of a cable from switch to switch, and of one to an end system."""
+
+    link: str
+    system: str
+    cable: str
+    last: str
+
+
+LONG = Names("virtual_link_{:05}", "end_system_{:04}", "switch_{:03}_to_switch_{:03}", "switch_{:03}_to_end_system_{:04}")
+SHORT = Names("v{}", "e{}", "s{}_s{}", "s{}_e{}")
 
 
 def cables_of(draw, size):
@@ -69,14 +88,19 @@ def path_to(state, before):
     return path[::-1]
 
 
-def ports_table(systems, cables):
-    yield "name,rate,latency,link,discipline"
+def ports_of(systems, cables, names):
     for system in systems:
-        yield f"e{system},100,16,1,fifo"
-        yield f"s{systems[system]}_e{system},100,16,1,fifo"
+        yield names.system.format(system)
+        yield names.last.format(systems[system], system)
     for a, b in cables:
-        yield f"s{a}_s{b},100,16,1,fifo"
-        yield f"s{b}_s{a},100,16,1,fifo"
+        yield names.cable.format(a, b)
+        yield names.cable.format(b, a)
+
+
+def ports_table(systems, cables, names):
+    yield "name,rate,latency,link,discipline"
+    for name in ports_of(systems, cables, names):
+        yield f"{name},100,16,1,fifo"
 
 
 def counts_of(draw, links, branches):
@@ -89,7 +113,7 @@ def counts_of(draw, links, branches):
     return counts
 
 
-def links_table(draw, size, systems, ways):
+def links_table(draw, size, systems, ways, names):
     yield "name,bag,largest_frame,jitter,priority,path,deadline"
     counts = [count for _ in range(size) for count in counts_of(draw, LINKS, BRANCHES)]
     for number, count in enumerate(counts):
@@ -107,12 +131,12 @@ def links_table(draw, size, systems, ways):
             ends |= {end} - {source}
         for end in sorted(ends):
             switches = ways[systems[source]][systems[end]]
-            hops = [f"s{a}_s{b}" for a, b in zip(switches, switches[1:])]
-            path = " ".join([f"e{source}", *hops, f"s{systems[end]}_e{end}"])
-            yield f"v{number},{gap},{frame},{jitter},0,{path},{DEADLINE}"
+            hops = [names.cable.format(a, b) for a, b in zip(switches, switches[1:])]
+            path = " ".join([names.system.format(source), *hops, names.last.format(systems[end], end)])
+            yield f"{names.link.format(number)},{gap},{frame},{jitter},0,{path},{DEADLINE}"
 
 
-def tables(seed, size):
+def tables(seed, size, names=LONG):
     draw = random.Random(seed)
     systems = {number: number // SYSTEMS * SWITCHES + number % SYSTEMS % SWITCHES for number in range(SYSTEMS * size)}
     cables = cables_of(draw, size)
@@ -121,12 +145,12 @@ def tables(seed, size):
         near[a].append(b)
         near[b].append(a)
     ways = {switch: ways_from(switch, near) for switch in near}
-    ports = "\n".join(ports_table(systems, cables)) + "\n"
-    return ports, "\n".join(links_table(draw, size, systems, ways)) + "\n"
+    ports = "\n".join(ports_table(systems, cables, names)) + "\n"
+    return ports, "\n".join(links_table(draw, size, systems, ways, names)) + "\n"
 
 
-def write(folder, seed, size):
-    for name, text in zip(["ports.csv", "links.csv"], tables(seed, size)):
+def write(folder, seed, size, names):
+    for name, text in zip(["ports.csv", "links.csv"], tables(seed, size, names)):
         (Path(folder) / name).write_text(text)
 
 
@@ -155,10 +179,10 @@ def least(words, folder, name):
     return min((measured(words, folder, name) for _ in range(RUNS)), key=lambda run: run[1])
 
 
-def compared(program, rust, seed, size):
+def compared(program, rust, seed, size, names):
     """Prints a line, and tells whether all print the same, the seconds, and the branches."""
     with tempfile.TemporaryDirectory() as folder:
-        write(folder, seed, size)
+        write(folder, seed, size, names)
         files = [str(Path(folder) / name) for name in ["ports.csv", "links.csv"]]
         sizes = " and ".join(f"{Path(file).stat().st_size / 1e6:.1f}" for file in files)
         ours = least([program, *files], folder, "ours")
@@ -181,14 +205,16 @@ def compared(program, rust, seed, size):
 
 
 def main(words):
+    names = SHORT if words[:1] == ["--short"] else LONG
+    words = words[1:] if names is SHORT else words
     if words[:1] == ["--write"]:
         seed, size = [int(word) for word in words[2:]] + [1, 1][len(words[2:]) :]
-        write(words[1], seed, size)
+        write(words[1], seed, size, names)
         return 0
     seed, *sizes = [int(word) for word in words[1:]] or [1]
     with tempfile.TemporaryDirectory() as folder:
         rust = plain_rust(folder)
-        found = [compared(words[0], rust, seed, size) for size in sizes or [1, 4, 10]]
+        found = [compared(words[0], rust, seed, size, names) for size in sizes or [1, 4, 10]]
     for _, seconds, branches in found[1:]:
         _, first, few = found[0]
         print(f"{branches / few:.1f} times the branches: {seconds / first:.1f} times the time")
