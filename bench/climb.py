@@ -1,7 +1,7 @@
 #!/usr/bin/env python3
 """Looks for small files that take long, by hill climbing, and prints the slowest that it found.
 
-    python3 bench/climb.py NETCALC [MINUTES] [SEED] [FOLDER] [COMMAND..]
+    python3 bench/climb.py NETCALC [MINUTES] [SEED] [FILE] [COMMAND..]
 
 NETCALC is the program. For MINUTES (5) in all, in turn for each of five kinds of files (or for the commands that are named): the network of
 `analyse`, the edit list of `edit`, the trace of `simulate`, the recorded run of `check`, the script of `curve`, a climb begins at an odd file
@@ -9,9 +9,11 @@ of bench/odd_cases.py. Each step changes one or two numbers or lines of its file
 seconds of processor time and 1 GiB. A climb ends after 40 steps that gained nothing, or with a call that was ended by the limit (`late`).
 
 All is drawn by SEED (1), so others find the same files with the same program where the times do not decide otherwise. Of each kind the five slowest
-are printed: seconds, status, bytes and the climb; with FOLDER their files are kept there, a folder a case. It ends with 1 where one was late.
+are printed: seconds, status, bytes and the climb. FILE then has the twenty slowest of each kind, with those that it had before: bench/climbed.json was
+made so, and bench/hostile.py runs it. It ends with 1 where one was late.
 """
 
+import json
 import random
 import re
 import resource
@@ -27,6 +29,7 @@ import odd_cases
 
 MOST = 3000  # bytes of a file, so that what is slow is no large file
 STALE = 40  # steps without a gain that end a climb
+SHOWN, KEPT = 5, 20  # how many of a kind are printed, and kept
 NUMBER = re.compile(rb"(?<![\w/])\d+(?:/\d+)?(?![\w/])")
 
 
@@ -84,12 +87,28 @@ def climb(program: str, kind: str, seed: str, until: float, folder: Path) -> Fou
     return best
 
 
-def told(kind: str, slowest: list[Found], climbs: int, kept: Path | None) -> None:
+def told(kind: str, slowest: list[Found], climbs: int) -> None:
     print(f"{kind}: {climbs} climbs; the slowest:")
-    for place, found in enumerate(slowest):
+    for found in slowest[:SHOWN]:
         size = sum(map(len, found.case.files.values()))
         print(f"    {found.seconds:6.2f} s, status {found.status}, {size} bytes, climb {found.climb}", flush=True)
-        mutate.keep(kept, f"{kind}_{place}", found.case)
+
+
+def keep(kept: Path, kind: str, slowest: list[Found]) -> None:
+    """The file with these among those that it had, a kind's slowest first."""
+    had = json.loads(kept.read_text()) if kept.exists() else {}
+    mine = [
+        {
+            "climb": found.climb,
+            "seconds": round(found.seconds, 2),
+            "status": found.status,
+            "words": found.case.words,
+            "files": {name: text.decode("latin-1") for name, text in found.case.files.items()},
+        }
+        for found in slowest
+    ]
+    had[kind] = sorted(had.get(kind, []) + mine, key=lambda it: -it["seconds"])[:KEPT]
+    kept.write_text(json.dumps(had, indent=1) + "\n")
 
 
 def main() -> None:
@@ -109,7 +128,10 @@ def main() -> None:
             while time.monotonic() < until:
                 found.append(climb(program, kind, f"{seed} {kind} {len(found)}", until, Path(folder)))
             late += sum(it.late for it in found)
-            told(kind, sorted(found, key=lambda it: -it.seconds)[:5], len(found), kept)
+            found.sort(key=lambda it: -it.seconds)
+            told(kind, found, len(found))
+            if kept:
+                keep(kept, kind, found[:KEPT])
     print(f"{late} climbs ended late")
     sys.exit(1 if late else 0)
 

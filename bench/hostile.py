@@ -5,7 +5,7 @@
 
 NETCALC is the program. Each case is a file of at most a few kilobytes whose numbers have large common periods, prime
 denominators, infinite curves or long closures. It is run with a limit of SECONDS of processor time (20), and of 4 GiB
-of memory. With WORD only the cases run whose name has it.
+of memory. Behind them come those of bench/climbed.json, which bench/climb.py found, with 1 GiB. With WORD only the cases run whose name has it.
 
 A line a case: what it is, its bytes, the status that is wanted (? where nobody has worked it out) and the one that
 came, the seconds of processor time, the most memory in MiB, and the first line that was written where it is a
@@ -14,6 +14,7 @@ another status than the wanted one, how many were late, and how many took over a
 differs, and asserts nothing about time.
 """
 
+import json
 import os
 import random
 import re
@@ -24,6 +25,7 @@ import tempfile
 from pathlib import Path
 
 GIB = 2**30
+CLIMBED = Path(__file__).resolve().parent / "climbed.json"
 
 
 def server(name: str, rate="100", service='{ kind = "latency", latency = 0 }', more: str = "") -> str:
@@ -313,13 +315,13 @@ RUNS = {
 }
 
 
-def run_files(program: str, words: list[str], files: dict[str, str], folder: Path, seconds: int) -> tuple[str, float, float, str]:
+def run_files(program: str, words: list[str], files: dict[str, str], folder: Path, seconds: int, gib: int) -> tuple[str, float, float, str]:
     """The status of a call where these files lie, its seconds of processor time, its MiB at most, and the line of a refusal."""
     for name, text in files.items():
-        (folder / name).write_text(text)
+        (folder / name).write_text(text, encoding="latin-1")
     out = folder / "out"
     with open(out, "wb") as out_file:
-        child = subprocess.Popen([program, *words], cwd=folder, stdout=out_file, preexec_fn=lambda: limits(seconds))
+        child = subprocess.Popen([program, *words], cwd=folder, stdout=out_file, preexec_fn=lambda: limits(seconds, gib))
         _, status, usage = os.wait4(child.pid, 0)
         child.returncode = os.waitstatus_to_exitcode(status)
     ended = "late" if child.returncode in (-24, -9) else str(child.returncode)
@@ -327,14 +329,24 @@ def run_files(program: str, words: list[str], files: dict[str, str], folder: Pat
     return ended, usage.ru_utime + usage.ru_stime, usage.ru_maxrss / 1024, said[0] if said else ""
 
 
-def run(program: str, words: list[str], files: dict[str, str], seconds: int) -> tuple[str, float, float, str]:
+def run(program: str, words: list[str], files: dict[str, str], seconds: int, gib: int = 4) -> tuple[str, float, float, str]:
     with tempfile.TemporaryDirectory(prefix="hostile_") as folder:
-        return run_files(program, words, files, Path(folder), seconds)
+        return run_files(program, words, files, Path(folder), seconds, gib)
 
 
-def limits(seconds: int) -> None:
+def limits(seconds: int, gib: int) -> None:
     resource.setrlimit(resource.RLIMIT_CPU, (seconds, seconds + 1))
-    resource.setrlimit(resource.RLIMIT_AS, (4 * GIB, 4 * GIB))
+    resource.setrlimit(resource.RLIMIT_AS, (gib * GIB, gib * GIB))
+
+
+def climbed() -> list[tuple[str, list[str], dict[str, str], str | None, int]]:
+    """What climbs found, with the status that it had."""
+    found = json.loads(CLIMBED.read_text()) if CLIMBED.exists() else {}
+    return [
+        (f"climbed: {kind} {place}", it["words"], it["files"], None if it["status"] == "late" else it["status"], 1)
+        for kind, cases in found.items()
+        for place, it in enumerate(cases)
+    ]
 
 
 def main() -> None:
@@ -345,12 +357,12 @@ def main() -> None:
     word = sys.argv[3] if len(sys.argv) > 3 else ""
     print(f"{'case':<64}{'bytes':>7}{'wanted':>8}{'came':>6}{'seconds':>9}{'MiB':>8}  line")
     tried = others = late = slow = 0
-    cases = [(name, [command, "file"], {"file": text}, wanted) for name, (command, text, wanted) in CASES.items()]
-    cases += [(name, words.split(), files, wanted) for name, (words, files, wanted) in RUNS.items()]
-    for name, words, files, wanted in cases:
+    cases = [(name, [command, "file"], {"file": text}, wanted, 4) for name, (command, text, wanted) in CASES.items()]
+    cases += [(name, words.split(), files, wanted, 4) for name, (words, files, wanted) in RUNS.items()]
+    for name, words, files, wanted, gib in cases + climbed():
         if word not in name:
             continue
-        came, time, memory, line = run(program, words, files, seconds)
+        came, time, memory, line = run(program, words, files, seconds, gib)
         size = sum(map(len, files.values()))
         print(f"{name:<64}{size:>7}{'?' if wanted is None else wanted:>8}{came:>6}{time:>9.2f}{memory:>8.0f}  {line}", flush=True)
         tried += 1
