@@ -315,7 +315,7 @@ RUNS = {
 }
 
 
-def run_files(program: str, words: list[str], files: dict[str, str], folder: Path, seconds: int, gib: int) -> tuple[str, float, float, str]:
+def run_files(program: str, words: list[str], files: dict[str, str], folder: Path, seconds: int, gib: int = 4) -> tuple[str, float, float, str]:
     """The status of a call where these files lie, its seconds of processor time, its MiB at most, and the line of a refusal."""
     for name, text in files.items():
         (folder / name).write_text(text, encoding="latin-1")
