@@ -1,5 +1,6 @@
 -- Tables on the grid, one row after another.
-use Rattle.std.proofs.Common.{◌≡◌, ℕ, zero, suc, ◌+◌, ◌<◌, ◌≤◌, ◌==◌, Bool, true, false, cond, List, [], ◌∷◌, ◌++◌, map, filter, length, take, drop, get_or, refl, sym, ap, ◌∙◌, arith, append_assoc, ◌⊎◌}
+use Rattle.std.specs.Prelude.{slice_get}
+use Rattle.std.proofs.Common.{◌≡◌, set, ℕ, zero, suc, ◌+◌, ◌<◌, ◌≤◌, ◌==◌, Bool, true, false, cond, List, [], ◌∷◌, ◌++◌, map, filter, length, take, drop, get_or, refl, sym, ap, ◌∙◌, arith, append_assoc, ◌⊎◌}
 use Rattle.std.proofs.lemmas.List.{take_more, drop_more, drop_all, map-append, append-nil}
 use Rattle.std.proofs.lemmas.Bool.{eq-eqb, cases_lt}
 use Rattle.document_rows.specs.PortRows.{PortText}
@@ -34,6 +35,14 @@ module _ (ports : List PortText) (overhead : ℕ) (branches : List BranchText) w
   pub links_all : (made : List LinkOnGrid) (keys : List LinkKeys) (k : ℕ) → length keys ≤ k → made ++ links_from ports overhead branches k (drop k keys) ≡ made
   unfolding links_from
   links_all made keys k h = ap (λ (left : List LinkKeys). made ++ links_from ports overhead branches k left) (drop_all k keys h) ∙ append-nil made
+
+-- what stands behind one that is changed
+pub set_later : {X : Type 0} (xs : List X) (n k : ℕ) (x : X) → n < k → slice_get (set xs n x) k ≡ slice_get xs k
+set_later [] n k x h = refl
+set_later (y ∷ ys) zero zero x h = absurd (omega arith)
+set_later (y ∷ ys) zero (suc k) x h = refl
+set_later (y ∷ ys) (suc n) zero x h = absurd (omega arith)
+set_later (y ∷ ys) (suc n) (suc k) x h = set_later ys n k x (omega arith)
 
 -- one more is made of one more
 pub made_next : {X Y : Type 0} (make : X → Y) (ys more : List Y) (y : Y) (xs : List X) (k : ℕ) (d : X) → k < length xs → ys ≡ map make (take k xs) → more ≡ ys ++ y ∷ [] → y ≡ make (get_or xs k d) → more ≡ map make (take (k + 1) xs)

@@ -18,6 +18,10 @@ pub record IsHung (passed : List ℕ) (branches : List BranchText) (b : Branch) 
   pub inside : b.first + b.count ≤ length passed
   pub ends : place_after (stops_of (paths_of b.link branches)) (last_of None (passed_by passed b)) ≡ Some b.node
 
+-- each is the tree of the paths of its link
+pub record AreTreesOf (branches : List BranchText) (trees : List Tree) : Type 0 where
+  pub each : (k : ℕ) (tree : Tree) → slice_get trees k ≡ Some tree → IsTreeOf (paths_of k branches) tree
+
 -- each link has a name, what its rows agree in, and the tree of its paths; a branch is of one of them, and hangs on its tree
 pub record AreTrees (table : LinkTable) : Type 0 where
   pub names : length table.names ≡ length table.keys.items

@@ -1,12 +1,12 @@
 //! Documents.
 
-ghost use Rattle.std.specs.Prelude.{◌≡◌, ◌≤◌, ◌<◌, All, map, length, IfOk};
+ghost use Rattle.std.specs.Prelude.{◌≡◌, ◌≤◌, ◌<◌, List, All, map, length, IfOk};
 ghost use Rattle.csv_rows.specs.Coming.{Stands, rows_of};
 ghost use Rattle.tree_network.specs.Networks.{IsNetwork};
 ghost use Rattle.document_tables.specs.Documents as spec;
 ghost use Rattle.document_tables.specs.Grids as grids;
-ghost use Rattle.document_tables.specs.Links.{branches_of, links_view};
-ghost use Rattle.document_tables.specs.LinkTrees.{AreTrees};
+ghost use Rattle.document_tables.specs.Links.{BranchText, branches_of, links_view};
+ghost use Rattle.document_tables.specs.LinkTrees.{AreTrees, AreTreesOf};
 ghost use Rattle.document_tables.specs.Ports.{ports_view};
 ghost use Rattle.document_tables.specs.Ranges.{IsPortText, AreLinkKeys};
 ghost use Rattle.document_tables.specs.Tables.{line_row, row_view};
@@ -15,9 +15,10 @@ ghost use Rattle.document_tables.specs.declared.fault.DocumentError.TheVariants 
 
 use crate::fault::{DocumentError, LineError, TableFile};
 use crate::grid::{links_on_grid, ports_on_grid};
-use crate::links::{Branch, LinkTable, read_links};
+use crate::links::{Branch, LinkKeys, LinkTable, read_links};
 use crate::names::Names;
 use crate::ports::{PortTable, read_ports};
+use crate::trees::Tree;
 use csv_rows::{TableRow, TableRows};
 use std::alloc::{AllocError, Global};
 use table_cells::Amount;
@@ -33,13 +34,13 @@ pub struct BranchEnd {
 }
 
 /// What a document means: its network, the names of the ports and links by their numbers, and its branches in the order
-/// of the rows.
+/// of the rows. The names are let go last, as in `Names`.
 #[derive(Drop)]
 pub struct Document {
-    pub port_names: Names,
-    pub link_names: Names,
     pub network: Network,
     pub branches: Vec<BranchEnd>,
+    pub port_names: Names,
+    pub link_names: Names,
 }
 
 // The fault of a table.
@@ -81,19 +82,19 @@ fn network_of(
     alloc: Global,
     ports: &PortTable,
     overhead: u64,
-    table: &LinkTable,
+    keys: &[LinkKeys],
+    trees: &mut Vec<Tree>,
 ) -> Result<Network, AllocError>
     requires overhead { overhead ≤ 1048576 }
     requires ports { All IsPortText (ports_view ports.now).ports }
-    requires keys { All AreLinkKeys table.now.keys.items }
-    requires trees { AreTrees table.now }
+    requires keys { All AreLinkKeys keys.now }
+    requires count { length trees.old.items ≡ length keys.now }
     ensures ports { IfOk result (λ n. map grids.grid_port n.ports.items
         ≡ map grids.port_on_grid (ports_view ports.now).ports) }
-    ensures links { IfOk result (λ n. map grids.grid_link n.links.items
-        ≡ grids.links_from (ports_view ports.now).ports overhead (branches_of table.now) 0
-        table.now.keys.items) }
+    ensures links { (branches : List BranchText) → AreTreesOf branches trees.old.items → IfOk result (λ n.
+        map grids.grid_link n.links.items ≡ grids.links_from (ports_view ports.now).ports overhead branches 0 keys.now) }
 {
-    let links = links_on_grid(alloc, ports, overhead, table)?;
+    let links = links_on_grid(alloc, ports, overhead, keys, trees)?;
     let ports = ports_on_grid(alloc, &ports.ports)?;
     Ok(Network { ports, links })
 }
@@ -112,13 +113,14 @@ fn document_with(
     ensures { IfOk result (λ d. spec.document_view d
         ≡ spec.document_with overhead (ports_view ports) (links_view table)) }
 {
-    let network = network_of(alloc, &ports, overhead, &table)?;
     let branches = branch_ends(alloc, &table)?;
+    let mut trees = table.trees;
+    let network = network_of(alloc, &ports, overhead, &table.keys, &mut trees)?;
     Ok(Document {
-        port_names: ports.names,
-        link_names: table.names,
         network,
         branches,
+        port_names: ports.names,
+        link_names: table.names,
     })
 }
 

@@ -1,21 +1,22 @@
 //! Tables on the grid of networks.
 
-ghost use Rattle.std.specs.Prelude.{◌≡◌, ◌≤◌, ◌<◌, All, map, length, IfOk};
+ghost use Rattle.std.specs.Prelude.{◌≡◌, ◌≤◌, ◌<◌, ℕ, List, Some, All, map, length, slice_get, IfOk};
 ghost use Rattle.document_rows.specs.Disciplines.{discipline_view};
 ghost use Rattle.document_rows.specs.PortRows.{port_view};
 ghost use Rattle.document_tables.specs.Grids as spec;
-ghost use Rattle.document_tables.specs.Links.{branches_of};
-ghost use Rattle.document_tables.specs.LinkTrees.{AreTrees};
+ghost use Rattle.document_tables.specs.Links.{BranchText};
+ghost use Rattle.document_tables.specs.LinkTrees.{AreTreesOf};
 ghost use Rattle.document_tables.specs.Ports.{ports_view};
 ghost use Rattle.document_tables.specs.Ranges.{IsGate, IsPortText, AreLinkKeys};
 ghost use Rattle.document_tables.specs.Stops.{Stop};
 
-use crate::links::{LinkKeys, LinkTable};
+use crate::links::LinkKeys;
 use crate::paths::queue_at;
 use crate::ports::PortTable;
 use crate::trees::Tree;
 use document_rows::{GateRow, PortRow, frame_on_wire};
 use std::alloc::{AllocError, Global};
+use std::mem::replace;
 use tree_network::{Discipline, Gate, Link, Node, Port};
 
 const PICOSECONDS_IN_A_MICROSECOND: u64 = 1_000_000;
@@ -137,29 +138,34 @@ fn link_of(
     })
 }
 
-/// The links on the grid.
+// Takes the tree of a link.
+fn take_tree(alloc: Global, trees: &mut Vec<Tree>, number: usize) -> Tree
+    requires { number < length trees.old.items }
+    ensures tree { slice_get trees.old.items number ≡ Some result }
+    ensures count { length trees.new.items ≡ length trees.old.items }
+    ensures later { (k : ℕ) → number < k → slice_get trees.new.items k ≡ slice_get trees.old.items k }
+{
+    replace(&mut trees[number], Tree::new(alloc))
+}
+
+/// The links on the grid. Each tree is let go as soon as the nodes of its link are made: those of the next link take its room.
 pub(crate) fn links_on_grid(
     alloc: Global,
     ports: &PortTable,
     overhead: u64,
-    table: &LinkTable,
+    keys: &[LinkKeys],
+    trees: &mut Vec<Tree>,
 ) -> Result<Vec<Link>, AllocError>
     requires overhead { overhead ≤ 1048576 }
-    requires keys { All AreLinkKeys table.now.keys.items }
-    requires trees { AreTrees table.now }
-    ensures { IfOk result (λ links. map spec.grid_link links.items
-        ≡ spec.links_from (ports_view ports.now).ports overhead (branches_of table.now) 0
-        table.now.keys.items) }
+    requires keys { All AreLinkKeys keys.now }
+    requires count { length trees.old.items ≡ length keys.now }
+    ensures { (branches : List BranchText) → AreTreesOf branches trees.old.items → IfOk result (λ links.
+        map spec.grid_link links.items ≡ spec.links_from (ports_view ports.now).ports overhead branches 0 keys.now) }
 {
-    let mut links = Vec::with_capacity(alloc, table.keys.len())?;
-    for number in 0..table.keys.len() {
-        links.push(link_of(
-            alloc,
-            ports,
-            overhead,
-            table.keys[number],
-            &table.trees[number],
-        )?)?;
+    let mut links = Vec::with_capacity(alloc, keys.len())?;
+    for number in 0..keys.len() {
+        let tree = take_tree(alloc, trees, number);
+        links.push(link_of(alloc, ports, overhead, keys[number], &tree)?)?;
     }
     Ok(links)
 }

@@ -15,12 +15,14 @@ const SLOTS: u64 = 8_192;
 
 /// Names by their numbers, in the order in which they came: contracts see the list of their texts. Each is found among
 /// the others in their order, so that no choice of names makes it slow; most are found before at the number that their
-/// slot has.
+/// slot has, or had before that. The many short texts are let go last: behind them, a large list that goes would have the
+/// allocator join them all.
 #[derive(Drop)]
 pub struct Names {
+    slots: Vec<usize>,
+    earlier: Vec<usize>,
     texts: Vec<String>,
     numbers: BTreeMap<String, usize>,
-    slots: Vec<usize>,
 }
 
 impl Model for Names {
@@ -41,9 +43,10 @@ impl Names {
         ensures { result ≡ [] }
     {
         Names {
+            slots: Vec::new(alloc),
+            earlier: Vec::new(alloc),
             texts: Vec::new(alloc),
             numbers: BTreeMap::new(alloc),
-            slots: Vec::new(alloc),
         }
     }
 
@@ -107,10 +110,19 @@ fn number_in_slot(names: &Names, name: &str) -> usize {
     }
 }
 
-// Puts a number into the slot of its name.
+// The number that the slot of a name had before this one.
+fn number_before(names: &Names, number: usize) -> usize {
+    match names.earlier.get(number) {
+        Some(number) => *number,
+        None => 0,
+    }
+}
+
+// Puts a number into the slot of its name, and the one that it had behind those of the other slots.
 fn take_slot(
     alloc: Global,
     slots: &mut Vec<usize>,
+    earlier: &mut Vec<usize>,
     name: &str,
     number: usize,
 ) -> Result<(), AllocError> {
@@ -119,22 +131,28 @@ fn take_slot(
     }
     let slot = slot_of(name);
     if slot < slots.len() {
+        earlier.push(slots[slot])?;
         slots[slot] = number;
     }
     Ok(())
 }
 
-// The number of a name, which is mostly in its slot.
-fn number_by_slot(names: &Names, name: &str) -> Option<usize>
-    ensures value { result ≡ position (bytes_eq name.now) names.now }
-    ensures within { IfSome result (λ n. n < length names.now) }
+// The number of a name, where it is this one, or that in its slot, or the one before that.
+fn near_number(names: &Names, name: &str, near: usize) -> Option<usize>
+    ensures { IfSome result (λ n. slice_get names.now n ≡ Some name.now) }
 {
-    names.are_own();
-    let near = number_in_slot(names, name);
     if is_named(names, near, name) {
         return Some(near);
     }
-    number_of(names, name)
+    let number = number_in_slot(names, name);
+    if is_named(names, number, name) {
+        return Some(number);
+    }
+    let earlier = number_before(names, number);
+    if is_named(names, earlier, name) {
+        return Some(earlier);
+    }
+    None
 }
 
 /// The number of a name. It is found at once where it is this one.
@@ -143,10 +161,10 @@ pub(crate) fn number_near(names: &Names, name: &str, near: usize) -> Option<usiz
     ensures within { IfSome result (λ n. n < length names.now) }
 {
     names.are_own();
-    if is_named(names, near, name) {
-        return Some(near);
+    match near_number(names, name, near) {
+        Some(number) => Some(number),
+        None => number_of(names, name),
     }
-    number_by_slot(names, name)
 }
 
 // Puts a text that is new behind others, under the next number.
@@ -177,7 +195,7 @@ pub(crate) fn push_name(alloc: Global, names: &mut Names, name: &str) -> Result<
 {
     let number = names.texts.len();
     push_text(alloc, &mut names.texts, &mut names.numbers, name)?;
-    take_slot(alloc, &mut names.slots, name, number)?;
+    take_slot(alloc, &mut names.slots, &mut names.earlier, name, number)?;
     Ok(())
 }
 

@@ -97,11 +97,28 @@ fn next_port(
     }
 }
 
-// Where a port of a path is looked for first: at its place in a path that may be alike.
-fn near_at(path: &[usize], place: usize) -> usize {
-    match path.get(place) {
+/// No port has this number.
+const NOWHERE: usize = usize::MAX;
+
+// Whether the last of these ports is at its place in another path too.
+fn goes_along(path: &[usize], before: &[usize]) -> bool {
+    let Some(last) = before.last() else {
+        return true;
+    };
+    match path.get(before.len().saturating_sub(1)) {
+        Some(number) => *number == *last,
+        None => false,
+    }
+}
+
+// Where the next port behind these is looked for first: at its place in a path that may be alike, as long as both go along.
+fn near_at(path: &[usize], before: &[usize]) -> usize {
+    if !goes_along(path, before) {
+        return NOWHERE;
+    }
+    match path.get(before.len()) {
         Some(number) => *number,
-        None => 0,
+        None => NOWHERE,
     }
 }
 
@@ -128,7 +145,7 @@ pub(crate) fn path_ports(
             frame,
             &path,
             word_at(words, place),
-            near_at(near, place),
+            near_at(near, &path),
         ) {
             Ok(number) => path.push(number)?,
             Err(wrong) => return Err(RowError::Cell(CellFault {

@@ -8,11 +8,10 @@ ghost use Rattle.tree_network.specs.Spots.{spots_of};
 ghost use Rattle.arrival_stairs.specs.Views.{bunch_of, bunches};
 ghost use Rattle.port_bounds.specs.Incoming.{incoming_of};
 ghost use Rattle.port_bounds.specs.StairsIncoming.{stairs_of};
-ghost use Rattle.tree_bounds.specs.Bunches.{arriving_at, arriving_of, arriving_of_groups, bunch_of_group, stair_list, stairs_among};
+ghost use Rattle.tree_bounds.specs.Bunches.{arriving_of, arriving_of_groups, bunch_of_group, stair_list, stairs_among};
 ghost use Rattle.tree_bounds.specs.Coming.{IsComing, IsGrouped, is_of_queue};
 ghost use Rattle.tree_bounds.specs.Grouping.{AreInGroups};
-ghost use Rattle.tree_bounds.specs.Groups.{incoming_at, incoming_of_groups, pace_line};
-ghost use Rattle.tree_bounds.specs.Lines.{line_of};
+ghost use Rattle.tree_bounds.specs.Groups.{incoming_of_groups, pace_line};
 ghost use Rattle.tree_bounds.specs.Onward.{stair_in};
 ghost use Rattle.tree_bounds.specs.Parts.{IsOfNetwork};
 ghost use Rattle.tree_bounds.specs.Solved.{AreAllStairs};
@@ -33,20 +32,11 @@ pub(crate) struct Coming {
     pub(crate) stairs: Vec<StairArrivals>,
 }
 
-/// What arrives at one queue.
-#[derive(Drop)]
-struct Both {
-    /// By lines.
-    lines: Arrivals,
-    /// As stairs.
-    stairs: StairArrivals,
-}
-
 /// The spots of a queue, the groups in which their links come, and what these bring by lines.
 #[derive(Drop)]
 struct Grouped {
     /// The numbers of the spots, one group after the other.
-    numbers: Vec<usize>,
+    numbers: Vec<u32>,
     groups: Vec<Group>,
     lines: Arrivals,
 }
@@ -65,15 +55,15 @@ fn keep(stairs: &mut Vec<Stair>, stair: Option<Stair>) -> Result<(), AllocError>
 fn of_queue(
     alloc: Global,
     spots: &[Spot],
-    numbers: &[usize],
+    numbers: &[u32],
     q: usize,
-) -> Result<Vec<usize>, AllocError>
+) -> Result<Vec<u32>, AllocError>
     requires { All (λ n. n < length spots.now) numbers.now }
     ensures { IfOk result (λ v. v.items ≡ filter (is_of_queue spots.now q) numbers.now) }
 {
     let mut found = Vec::with_capacity(alloc, numbers.len())?;
     for n in numbers {
-        if spots[*n].queue as usize == q {
+        if spots[*n as usize].queue as usize == q {
             found.push(*n)?;
         }
     }
@@ -84,14 +74,14 @@ fn of_queue(
 fn stairs_of_spots(
     alloc: Global,
     stairs: &[Option<Stair>],
-    numbers: &[usize],
+    numbers: &[u32],
 ) -> Result<Vec<Stair>, AllocError>
     requires { All (λ n. n < length stairs.now) numbers.now }
     ensures { IfOk result (λ v. v.items ≡ stairs_among (λ n. stair_in stairs.now n) numbers.now) }
 {
     let mut found = Vec::with_capacity(alloc, numbers.len())?;
     for n in numbers {
-        keep(&mut found, stairs[*n])?;
+        keep(&mut found, stairs[*n as usize])?;
     }
     Ok(found)
 }
@@ -101,7 +91,7 @@ fn bundle(
     alloc: Global,
     network: &Network,
     stairs: &[Option<Stair>],
-    numbers: &[usize],
+    numbers: &[u32],
     group: Group,
 ) -> Result<Bundle, AllocError>
     requires inside { All (λ n. n < length stairs.now) numbers.now }
@@ -121,7 +111,7 @@ fn bundles(
     alloc: Global,
     network: &Network,
     stairs: &[Option<Stair>],
-    numbers: &[usize],
+    numbers: &[u32],
     groups: &[Group],
 ) -> Result<Vec<Bundle>, AllocError>
     requires inside { All (λ n. n < length stairs.now) numbers.now }
@@ -145,7 +135,7 @@ fn stair_arrivals(
     alloc: Global,
     network: &Network,
     stairs: &[Option<Stair>],
-    numbers: &[usize],
+    numbers: &[u32],
     groups: &[Group],
     lines: &Arrivals,
 ) -> Result<StairArrivals, AllocError>
@@ -197,40 +187,6 @@ fn grouped_at(
     })
 }
 
-/// What arrives at a queue of a port, both ways.
-fn arrivals_at(
-    alloc: Global,
-    network: &Network,
-    plan: &Plan,
-    stairs: &[Option<Stair>],
-    port: usize,
-    q: usize,
-) -> Result<Both, AllocError>
-    requires network { IsNetwork network.now }
-    requires plan { IsPlanOf network.now plan.now }
-    requires stairs { length stairs.now ≡ length plan.now.spots.items }
-    requires range { AreAllStairs stairs.now }
-    requires port { port < length network.now.ports.items }
-    ensures lines { IfOk result (λ b. incoming_of b.lines
-        ≡ incoming_at network.now (spots_of network.now) (λ n. line_of (stair_in stairs.now n)) port q) }
-    ensures stairs { IfOk result (λ b. arriving_of (stairs_of b.stairs)
-        ≡ arriving_at network.now (spots_of network.now) (λ n. stair_in stairs.now n) port q) }
-{
-    let found = grouped_at(alloc, network, plan, stairs, port, q)?;
-    let stairs = stair_arrivals(
-        alloc,
-        network,
-        stairs,
-        &found.numbers,
-        &found.groups,
-        &found.lines,
-    )?;
-    Ok(Both {
-        lines: found.lines,
-        stairs,
-    })
-}
-
 /// What arrives at each of so many queues of a port.
 pub(crate) fn all_arrivals(
     alloc: Global,
@@ -250,9 +206,17 @@ pub(crate) fn all_arrivals(
     let mut lines = Vec::with_capacity(alloc, count)?;
     let mut all_stairs = Vec::with_capacity(alloc, count)?;
     for q in 0..count {
-        let both = arrivals_at(alloc, network, plan, stairs, port, q)?;
-        all_stairs.push(both.stairs)?;
-        lines.push(both.lines)?;
+        let found = grouped_at(alloc, network, plan, stairs, port, q)?;
+        let come = stair_arrivals(
+            alloc,
+            network,
+            stairs,
+            &found.numbers,
+            &found.groups,
+            &found.lines,
+        )?;
+        all_stairs.push(come)?;
+        lines.push(found.lines)?;
     }
     Ok(Coming {
         lines,

@@ -1,6 +1,7 @@
 //! The links that come to a queue, by where they come from.
 
 ghost use Rattle.std.specs.Prelude.{◌≡◌, ◌<◌, ◌++◌, ◌∷◌, [], All, length, map, max, IfOk, OnOk};
+ghost use Rattle.tree_network.specs.Spots.{spot_at};
 ghost use Rattle.tree_bounds.specs.Groups.{longest_group};
 ghost use Rattle.tree_bounds.specs.Grouping.{FitTogether, IsOfOne, both_groups, group_of_spot, grouped, last_with, with_group};
 ghost use Rattle.tree_bounds.specs.Lines.{line_of};
@@ -47,7 +48,7 @@ fn group_of_one(spot: Spot, line: Option<Line>) -> Group
             source: spot.source as usize,
             burst: 0,
             rate: 0,
-            longest: spot.frame,
+            longest: spot.frame as u64,
             known: false,
             count: 1,
         },
@@ -55,7 +56,7 @@ fn group_of_one(spot: Spot, line: Option<Line>) -> Group
             source: spot.source as usize,
             burst: line.burst as u128,
             rate: line.rate as u128,
-            longest: spot.frame,
+            longest: spot.frame as u64,
             known: true,
             count: 1,
         },
@@ -116,12 +117,24 @@ fn add_group(groups: &mut Vec<Group>, next: Group) -> Result<(), AllocError>
     }
 }
 
-/// The stairs of these spots, side by side. They stand far apart among those of all spots: here none of them waits for another one
-/// to be fetched, as it would behind the divisions of a line.
+/// These spots, side by side. They stand far apart among all spots: here none of them waits for another one to be fetched, as it would
+/// behind the divisions of a line.
+fn spots_at(alloc: Global, spots: &[Spot], numbers: &[u32]) -> Result<Vec<Spot>, AllocError>
+    requires { All (λ n. n < length spots.now) numbers.now }
+    ensures { IfOk result (λ v. v.items ≡ map (λ n. spot_at spots.now n) numbers.now) }
+{
+    let mut found = Vec::with_capacity(alloc, numbers.len())?;
+    for n in numbers {
+        found.push(spots[*n as usize])?;
+    }
+    Ok(found)
+}
+
+/// The stairs of these spots, side by side, for the same.
 fn stairs_at(
     alloc: Global,
     stairs: &[Option<Stair>],
-    numbers: &[usize],
+    numbers: &[u32],
 ) -> Result<Vec<Option<Stair>>, AllocError>
     requires inside { All (λ n. n < length stairs.now) numbers.now }
     requires range { AreAllStairs stairs.now }
@@ -130,7 +143,7 @@ fn stairs_at(
 {
     let mut found = Vec::with_capacity(alloc, numbers.len())?;
     for n in numbers {
-        found.push(stairs[*n])?;
+        found.push(stairs[*n as usize])?;
     }
     Ok(found)
 }
@@ -139,7 +152,7 @@ fn stairs_at(
 pub(crate) fn groups_of(
     alloc: Global,
     spots: &[Spot],
-    numbers: &[usize],
+    numbers: &[u32],
     stairs: &[Option<Stair>],
 ) -> Result<Vec<Group>, AllocError>
     requires inside { All (λ n. n < length spots.now) numbers.now }
@@ -147,11 +160,12 @@ pub(crate) fn groups_of(
     requires range { AreAllStairs stairs.now }
     ensures { IfOk result (λ v. v.items ≡ grouped spots.now (λ n. line_of (stair_in stairs.now n)) numbers.now) }
 {
+    let near = spots_at(alloc, spots, numbers)?;
     let own = stairs_at(alloc, stairs, numbers)?;
     let mut groups = Vec::with_capacity(alloc, numbers.len())?;
     for place in 0..numbers.len() {
         let line = line_by(&own, place);
-        add_group(&mut groups, group_of_one(spots[numbers[place]], line))?;
+        add_group(&mut groups, group_of_one(near[place], line))?;
     }
     Ok(groups)
 }

@@ -142,7 +142,7 @@ pub(crate) fn first_stairs(
 /// Notes the stairs with which links come from a port with these rows to these spots.
 pub(crate) fn pass_on(
     spots: &[Spot],
-    numbers: &[usize],
+    numbers: &[u32],
     rows: &[Option<Queue>],
     stairs: &mut Vec<Option<Stair>>,
 )
@@ -150,7 +150,7 @@ pub(crate) fn pass_on(
     ensures { ArePassedOn spots.now numbers.now rows.now (length numbers.now) stairs.old.items stairs.new.items }
 {
     for n in numbers {
-        let from = spots[*n].from;
-        stairs[*n] = stair_after(stairs[from], rows[spots[from].queue as usize]);
+        let from = spots[*n as usize].from as usize;
+        stairs[*n as usize] = stair_after(stairs[from], rows[spots[from].queue as usize]);
     }
 }

@@ -7,7 +7,7 @@ use Rattle.std.proofs.lemmas.List.Sums.{sum_by-append, count_by_more_yes, count_
 use Rattle.tree_network.specs.declared.spots.Spot.{Spot}
 use Rattle.tree_network.specs.Spots.{spot_at}
 use Rattle.tree_network.specs.Lists.{those}
-use Rattle.tree_network.specs.Turns.{is_late, waits_at, count_at}
+use Rattle.tree_network.specs.Turns.{is_late, waits_at, count_of}
 use Rattle.tree_network.proofs.Those.{those_zero, length_more, one_if, eq_true, eq_false}
 
 pub record Waiting (spots : List Spot) (ports n : ℕ) (waiting : List ℕ) : Type 0 where
@@ -93,30 +93,30 @@ count_front p xs k =
     let parts = sum_by-append (λ x. one_if (p x)) (take k xs) (drop k xs) in
     omega (arith, whole, parts)
 
-pub at_most : (spots : List Spot) (waiting old : List ℕ) (numbers : List ℕ) (k : ℕ) → k < length numbers
-    → let s = (spot_at spots (get_or numbers k 0)).port in
-    get_or waiting s 0 + count_at spots s (take k numbers) ≡ get_or old s 0 → count_at spots s numbers ≤ get_or old s 0 → 1 ≤ get_or waiting s 0
-at_most spots waiting old numbers k h e le =
-    let s = (spot_at spots (get_or numbers k 0)).port in
-    let more = count_by_more_yes (λ n. (spot_at spots n).port == s) numbers k 0 h (eq_true s s refl) in
-    let front = count_front (λ n. (spot_at spots n).port == s) numbers (k + 1) in
+pub at_most : (port : ℕ → ℕ) (waiting old : List ℕ) (numbers : List ℕ) (k : ℕ) → k < length numbers
+    → let s = port (get_or numbers k 0) in
+    get_or waiting s 0 + count_of port s (take k numbers) ≡ get_or old s 0 → count_of port s numbers ≤ get_or old s 0 → 1 ≤ get_or waiting s 0
+at_most port waiting old numbers k h e le =
+    let s = port (get_or numbers k 0) in
+    let more = count_by_more_yes (λ n. port n == s) numbers k 0 h (eq_true s s refl) in
+    let front = count_front (λ n. port n == s) numbers (k + 1) in
     omega (arith, e, le, more, front)
 
-pub one_less : (spots : List Spot) (waiting old : List ℕ) (numbers : List ℕ) (k v s : ℕ) → k < length numbers
-    → (spot_at spots (get_or numbers k 0)).port < length waiting
-    → v + 1 ≡ get_or waiting (spot_at spots (get_or numbers k 0)).port 0
-    → get_or waiting s 0 + count_at spots s (take k numbers) ≡ get_or old s 0
-    → get_or (set waiting (spot_at spots (get_or numbers k 0)).port v) s 0 + count_at spots s (take (k + 1) numbers) ≡ get_or old s 0
-one_less spots waiting old numbers k v s h inside is e =
-    let p = (spot_at spots (get_or numbers k 0)).port in
+pub one_less : (port : ℕ → ℕ) (waiting old : List ℕ) (numbers : List ℕ) (k v s : ℕ) → k < length numbers
+    → port (get_or numbers k 0) < length waiting
+    → v + 1 ≡ get_or waiting (port (get_or numbers k 0)) 0
+    → get_or waiting s 0 + count_of port s (take k numbers) ≡ get_or old s 0
+    → get_or (set waiting (port (get_or numbers k 0)) v) s 0 + count_of port s (take (k + 1) numbers) ≡ get_or old s 0
+one_less port waiting old numbers k v s h inside is e =
+    let p = port (get_or numbers k 0) in
     elim (cases_eq s p) [
       | inl same ↦
-          let more = count_by_more_yes (λ n. (spot_at spots n).port == s) numbers k 0 h (eq_true (spot_at spots (get_or numbers k 0)).port s (sym same)) in
+          let more = count_by_more_yes (λ n. port n == s) numbers k 0 h (eq_true (port (get_or numbers k 0)) s (sym same)) in
           let new = ap (λ m. get_or (set waiting p v) m 0) same ∙ get_or-set_same waiting p v 0 inside in
           let was = ap (λ m. get_or waiting m 0) same in
           omega (arith, more, new, was, is, e)
       | inr other ↦
-          let more = count_by_more_no (λ n. (spot_at spots n).port == s) numbers k 0 h (eq_false (spot_at spots (get_or numbers k 0)).port s (λ f. other (sym f))) in
+          let more = count_by_more_no (λ n. port n == s) numbers k 0 h (eq_false (port (get_or numbers k 0)) s (λ f. other (sym f))) in
           let new = get_or-set_other waiting p s v 0 other in
           omega (arith, more, new, e)
     ]

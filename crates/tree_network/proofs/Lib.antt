@@ -12,3 +12,4 @@ pub mod Walked
 pub mod Noted
 pub mod Rings
 pub mod InRange
+pub mod FewSpots

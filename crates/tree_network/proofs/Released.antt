@@ -1,20 +1,18 @@
 -- Spots of a list are taken off what waits, one after the other.
 use Rattle.std.proofs.Common.{◌≡◌, ◌≢◌, ℕ, ◌<◌, ◌≤◌, ◌+◌, List, [], ◌∷◌, ◌++◌, length, get_or, set, take, refl, ◌∙◌, arith, length-append}
 use Rattle.std.proofs.lemmas.List.{length-set, get_or_append_left}
-use Rattle.tree_network.specs.declared.spots.Spot.{Spot}
-use Rattle.tree_network.specs.Spots.{spot_at}
-use Rattle.tree_network.specs.Turns.{AreReady, Begins, count_at}
+use Rattle.tree_network.specs.Turns.{AreReady, Begins, count_of}
 use Rattle.tree_network.proofs.Counted.{at_most, one_less}
 use Rattle.tree_network.proofs.Ready.{ready_same, ready_more}
 
-pub record Released (spots : List Spot) (numbers : List ℕ) (k : ℕ) (old waiting before ready : List ℕ) : Type 0 where
+pub record Released (port : ℕ → ℕ) (numbers : List ℕ) (k : ℕ) (old waiting before ready : List ℕ) : Type 0 where
   pub count : length waiting ≡ length old
-  pub less : (s : ℕ) → s < length old → get_or waiting s 0 + count_at spots s (take k numbers) ≡ get_or old s 0
+  pub less : (s : ℕ) → s < length old → get_or waiting s 0 + count_of port s (take k numbers) ≡ get_or old s 0
   pub are_ready : AreReady waiting ready
   pub begins : Begins before ready
 
-pub none_released : (spots : List Spot) (numbers old before : List ℕ) → AreReady old before → Released spots numbers 0 old old before before
-none_released spots numbers old before r = record {
+pub none_released : (port : ℕ → ℕ) (numbers old before : List ℕ) → AreReady old before → Released port numbers 0 old old before before
+none_released port numbers old before r = record {
   count = refl;
   less = λ s h. omega arith;
   are_ready = r;
@@ -30,35 +28,35 @@ begins_push before ready x b =
     }
 
 -- at least one waits
-pub some_waits : (spots : List Spot) (numbers : List ℕ) (k : ℕ) (old waiting before ready : List ℕ) → Released spots numbers k old waiting before ready
-    → k < length numbers → (spot_at spots (get_or numbers k 0)).port < length old
-    → ((s : ℕ) → s < length old → count_at spots s numbers ≤ get_or old s 0) → 1 ≤ get_or waiting (spot_at spots (get_or numbers k 0)).port 0
-some_waits spots numbers k old waiting before ready r h inside waits =
-    let p = (spot_at spots (get_or numbers k 0)).port in
-    at_most spots waiting old numbers k h (r.less p inside) (waits p inside)
+pub some_waits : (port : ℕ → ℕ) (numbers : List ℕ) (k : ℕ) (old waiting before ready : List ℕ) → Released port numbers k old waiting before ready
+    → k < length numbers → port (get_or numbers k 0) < length old
+    → ((s : ℕ) → s < length old → count_of port s numbers ≤ get_or old s 0) → 1 ≤ get_or waiting (port (get_or numbers k 0)) 0
+some_waits port numbers k old waiting before ready r h inside waits =
+    let p = port (get_or numbers k 0) in
+    at_most port waiting old numbers k h (r.less p inside) (waits p inside)
 
-pub one_released : (spots : List Spot) (numbers : List ℕ) (k v : ℕ) (old waiting before ready : List ℕ) → Released spots numbers k old waiting before ready
-    → k < length numbers → (spot_at spots (get_or numbers k 0)).port < length old → v + 1 ≡ get_or waiting (spot_at spots (get_or numbers k 0)).port 0 → v ≢ 0
-    → Released spots numbers (k + 1) old (set waiting (spot_at spots (get_or numbers k 0)).port v) before ready
-one_released spots numbers k v old waiting before ready r h inside is left =
-    let p = (spot_at spots (get_or numbers k 0)).port in
+pub one_released : (port : ℕ → ℕ) (numbers : List ℕ) (k v : ℕ) (old waiting before ready : List ℕ) → Released port numbers k old waiting before ready
+    → k < length numbers → port (get_or numbers k 0) < length old → v + 1 ≡ get_or waiting (port (get_or numbers k 0)) 0 → v ≢ 0
+    → Released port numbers (k + 1) old (set waiting (port (get_or numbers k 0)) v) before ready
+one_released port numbers k v old waiting before ready r h inside is left =
+    let p = port (get_or numbers k 0) in
     let within : p < length waiting = omega (arith, inside, r.count) in
     record {
       count = length-set waiting p v ∙ r.count;
-      less = λ s lt. one_less spots waiting old numbers k v s h within is (r.less s lt);
+      less = λ s lt. one_less port waiting old numbers k v s h within is (r.less s lt);
       are_ready = ready_same waiting ready p v within (omega (arith, is)) left r.are_ready;
       begins = r.begins;
     }
 
-pub last_released : (spots : List Spot) (numbers : List ℕ) (k v : ℕ) (old waiting before ready : List ℕ) → Released spots numbers k old waiting before ready
-    → k < length numbers → (spot_at spots (get_or numbers k 0)).port < length old → v + 1 ≡ get_or waiting (spot_at spots (get_or numbers k 0)).port 0 → v ≡ 0
-    → Released spots numbers (k + 1) old (set waiting (spot_at spots (get_or numbers k 0)).port v) before (ready ++ (spot_at spots (get_or numbers k 0)).port ∷ [])
-last_released spots numbers k v old waiting before ready r h inside is none =
-    let p = (spot_at spots (get_or numbers k 0)).port in
+pub last_released : (port : ℕ → ℕ) (numbers : List ℕ) (k v : ℕ) (old waiting before ready : List ℕ) → Released port numbers k old waiting before ready
+    → k < length numbers → port (get_or numbers k 0) < length old → v + 1 ≡ get_or waiting (port (get_or numbers k 0)) 0 → v ≡ 0
+    → Released port numbers (k + 1) old (set waiting (port (get_or numbers k 0)) v) before (ready ++ port (get_or numbers k 0) ∷ [])
+last_released port numbers k v old waiting before ready r h inside is none =
+    let p = port (get_or numbers k 0) in
     let within : p < length waiting = omega (arith, inside, r.count) in
     record {
       count = length-set waiting p v ∙ r.count;
-      less = λ s lt. one_less spots waiting old numbers k v s h within is (r.less s lt);
+      less = λ s lt. one_less port waiting old numbers k v s h within is (r.less s lt);
       are_ready = ready_more waiting ready p v within (omega (arith, is)) none r.are_ready;
       begins = begins_push before ready p r.begins;
     }

@@ -8,7 +8,8 @@ use Rattle.tree_network.specs.declared.network.Link.{Link}
 use Rattle.tree_network.specs.declared.network.Network.{Network}
 use Rattle.tree_network.specs.declared.network.Node.{Node}
 use Rattle.tree_network.specs.declared.spots.Spot.{Spot}
-use Rattle.tree_network.specs.Spots.{no_spot, spot_of, spots_in, spots_below, spots_of_link, source_in, number_before}
+use Rattle.tree_network.specs.Lists.{number_at, ports_in}
+use Rattle.tree_network.specs.Spots.{no_spot, spot_at, spot_of, spots_in, spots_below, spots_of_link, source_in, number_before}
 
 pub in_zero : (i first : ℕ) (link : Link) → spots_in i first link 0 ≡ []
 unfolding spots_in
@@ -68,3 +69,12 @@ pub below_more : (net : Network) (i : ℕ) (link : Link) → slice_get net.links
     → spots_below net (i + 1) ≡ spots_below net i ++ spots_in i (length (spots_below net i)) link (length link.nodes.items)
 unfolding spots_below
 below_more net i link e = rw add-one (ap (λ l. spots_below net i ++ spots_of_link i (length (spots_below net i)) l) e)
+
+-- the port of each spot, by the list of the ports alone
+pub its_port : (spots : List Spot) (n : ℕ) → number_at (ports_in spots) n ≡ (spot_at spots n).port
+its_port [] n = refl
+its_port (spot ∷ spots) zero = refl
+its_port (spot ∷ spots) (suc n) = its_port spots n
+
+pub port_by : (spots : List Spot) (ports : List ℕ) → ports ≡ ports_in spots → (n : ℕ) → number_at ports n ≡ (spot_at spots n).port
+port_by spots ports own n = ap (λ (l : List ℕ). number_at l n) own ∙ its_port spots n

@@ -3,13 +3,14 @@ use Rattle.std.proofs.Common.{◌≡◌, ◌≢◌, ℕ, zero, suc, ◌<◌, ◌
 use Rattle.std.specs.Prelude.{All}
 use Rattle.std.specs.List.{Contains, count_by}
 use Rattle.std.proofs.lemmas.Bool.{cases_eq, eq-eqb, ne_eqb, eqb-true}
-use Rattle.std.proofs.lemmas.List.{length-set, get_or_append_left, take_more}
+use Rattle.std.proofs.lemmas.List.{length-map, length-set, get_or_append_left, take_more}
 use Rattle.std.proofs.lemmas.List.Elements.{All-append, filter-append, Contains-push}
 use Rattle.std.proofs.lemmas.List.Sums.{length-filter}
+use Rattle.std.specs.declared.vec.Vec.{Vec}
 use Rattle.tree_network.specs.declared.spots.Spot.{Spot}
 use Rattle.tree_network.specs.Spots.{spot_at}
-use Rattle.tree_network.specs.Lists.{list_at, those, is_from, is_between, spots_at_port}
-use Rattle.tree_network.proofs.ListSets.{each_after_set}
+use Rattle.tree_network.specs.Lists.{lists_of, list_at, those, is_from, is_between, spots_at_port, AreBySource, AreByPort}
+use Rattle.tree_network.proofs.ListSets.{each_after_set, list_of}
 
 -- ---- one more
 pub those_yes : (test : ℕ → Bool) (n : ℕ) → test n ≡ true → those test (suc n) ≡ those test n ++ n ∷ []
@@ -128,6 +129,21 @@ pub record BySourceBelow (spots : List Spot) (sources n : ℕ) (lists : List (Li
   pub count : length lists ≡ sources
   pub each : (k : ℕ) → k < sources → list_at lists k ≡ those (is_from spots k) n
 
+-- the list of a source, as it is read
+pub from_source : {Z : Type 0} (spots : List Spot) (count k : ℕ) (sources : List (Vec ℕ Z)) (v : Vec ℕ Z) (list : List ℕ)
+    → AreBySource spots count (lists_of sources) → k < count → v ≡ get_or sources k v → list ≡ v.items
+    → list ≡ those (is_from spots k) (length spots)
+from_source spots count k sources v list by h is e =
+    let all = length-map sources (λ v. v.items) in
+    e ∙ sym (list_of sources k v (omega (arith, h, all, by.count)) is) ∙ by.each k h
+
+-- and of a port
+pub from_port : {Z : Type 0} (spots : List Spot) (ports sources s : ℕ) (at : List (Vec ℕ Z)) (v : Vec ℕ Z) (list : List ℕ)
+    → AreByPort spots ports sources (lists_of at) → s < ports → v ≡ get_or at s v → list ≡ v.items → list ≡ spots_at_port spots s sources
+from_port spots ports sources s at v list by h is e =
+    let all = length-map at (λ v. v.items) in
+    e ∙ sym (list_of at s v (omega (arith, h, all, by.count)) is) ∙ by.each s h
+
 pub eq_true : (a b : ℕ) → a ≡ b → (a == b) ≡ true
 eq_true a b e = eq-eqb a b e
 
@@ -149,15 +165,15 @@ sources_more spots sources n old new h e b =
     }
 
 -- a number is added to the list of its port
-pub port_added : (spots : List Spot) (numbers : List ℕ) (k : ℕ) (first old new : List (List ℕ)) → k < length numbers
-    → (spot_at spots (get_or numbers k 0)).port < length old
-    → new ≡ set old (spot_at spots (get_or numbers k 0)).port (list_at old (spot_at spots (get_or numbers k 0)).port ++ get_or numbers k 0 ∷ [])
-    → (s : ℕ) → list_at old s ≡ list_at first s ++ filter (λ n. (spot_at spots n).port == s) (take k numbers)
-    → list_at new s ≡ list_at first s ++ filter (λ n. (spot_at spots n).port == s) (take (k + 1) numbers)
-port_added spots numbers k first old new h inside e s before =
+pub port_added : (port : ℕ → ℕ) (numbers : List ℕ) (k : ℕ) (first old new : List (List ℕ)) → k < length numbers
+    → port (get_or numbers k 0) < length old
+    → new ≡ set old (port (get_or numbers k 0)) (list_at old (port (get_or numbers k 0)) ++ get_or numbers k 0 ∷ [])
+    → (s : ℕ) → list_at old s ≡ list_at first s ++ filter (λ n. port n == s) (take k numbers)
+    → list_at new s ≡ list_at first s ++ filter (λ n. port n == s) (take (k + 1) numbers)
+port_added port numbers k first old new h inside e s before =
     let n = get_or numbers k 0 in
-    let p = (spot_at spots n).port in
-    let test : ℕ → Bool = λ n. (spot_at spots n).port == s in
+    let p = port n in
+    let test : ℕ → Bool = λ n. port n == s in
     let front = filter test (take k numbers) in
     let more : filter test (take (k + 1) numbers) ≡ front ++ filter test (n ∷ []) =
     ap (filter test) (take_more numbers k 0 h) ∙ filter-append test (take k numbers) (n ∷ []) in

@@ -10,6 +10,13 @@ lists_of = map (λ v. v.items)
 abbrev pub list_at : List (List ℕ) → ℕ → List ℕ
 list_at lists k = get_or lists k []
 
+-- the ports of the spots alone
+abbrev pub ports_in : List Spot → List ℕ
+ports_in = map (λ (spot : Spot). spot.port)
+
+abbrev pub number_at : List ℕ → ℕ → ℕ
+number_at numbers n = get_or numbers n 0
+
 -- the numbers below n that pass a test
 unfoldable pub those : (ℕ → Bool) → ℕ → List ℕ
 those test zero = []

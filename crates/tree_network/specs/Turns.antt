@@ -25,9 +25,13 @@ pub record AreReady (waiting ready : List ℕ) : Type 0 where
   pub once : (i j : ℕ) → i < j → j < length ready → get_or ready i 0 ≡ get_or ready j 0 → ⊥
   pub all : (s : ℕ) → s < length waiting → get_or waiting s 0 ≡ 0 → (i : ℕ) × StandsAt ready s i
 
+-- the numbers in a list that are at port s, by the port of each
+abbrev pub count_of : (ℕ → ℕ) → ℕ → List ℕ → ℕ
+count_of port s list = count_by (λ n. port n == s) list
+
 -- the numbers of spots in a list that are at port s
 abbrev pub count_at : List Spot → ℕ → List ℕ → ℕ
-count_at spots s list = count_by (λ n. (spot_at spots n).port == s) list
+count_at spots s list = count_of (λ n. (spot_at spots n).port) s list
 
 -- one list begins with the other
 pub record Begins (old new : List ℕ) : Type 0 where

@@ -2,15 +2,15 @@
 
 ghost use Rattle.std.specs.Prelude.{◌≡◌, ◌<◌, ◌≤◌, ◌+◌, ℕ, All, length, IfErr, IfOk, OnOk, false, get_or, replicate};
 ghost use Rattle.tree_network.specs.Networks.{IsNetwork};
-ghost use Rattle.tree_network.specs.Lists.{lists_of, AreBySource, AreByPort};
+ghost use Rattle.tree_network.specs.Lists.{lists_of, number_at, ports_in, AreBySource, AreByPort};
 ghost use Rattle.tree_network.specs.Orders.{IsOrderOf, OrderOrRing};
 ghost use Rattle.tree_network.specs.Plans.{IsPlanOf, IsFault, IsRingFault};
 ghost use Rattle.tree_network.specs.Rings.{OneRing, ToldRingsAreRings};
 ghost use Rattle.tree_network.specs.Spots.{spot_at};
-ghost use Rattle.tree_network.specs.Turns.{AreReady, Begins, count_at, count_waiting};
+ghost use Rattle.tree_network.specs.Turns.{AreReady, Begins, count_of, count_waiting};
 
 use crate::fault::Fault;
-use crate::lists::{by_port, by_source};
+use crate::lists::{by_port, by_source, ports_of};
 use crate::network::Network;
 use crate::ring::ring_of;
 use crate::spots::{Spot, spots_in_order};
@@ -45,22 +45,22 @@ fn idle_ports(alloc: Global, waiting: &[usize]) -> Result<Vec<usize>, AllocError
 
 /// Takes the spots off what waits, and adds each port that then waits for none.
 fn release(
-    spots: &[Spot],
-    numbers: &[usize],
+    spot_ports: &[u16],
+    numbers: &[u32],
     waiting: &mut Vec<usize>,
     ready: &mut Vec<usize>,
 ) -> Result<(), AllocError>
-    requires inside { All (λ n. n < length spots.now) numbers.now }
-    requires ports { (n : ℕ) → n < length spots.now → (spot_at spots.now n).port < length waiting.old.items }
-    requires waits { (s : ℕ) → s < length waiting.old.items → count_at spots.now s numbers.now ≤ get_or waiting.old.items s 0 }
+    requires inside { All (λ n. n < length spot_ports.now) numbers.now }
+    requires ports { (n : ℕ) → n < length spot_ports.now → number_at spot_ports.now n < length waiting.old.items }
+    requires waits { (s : ℕ) → s < length waiting.old.items → count_of (number_at spot_ports.now) s numbers.now ≤ get_or waiting.old.items s 0 }
     requires ready { AreReady waiting.old.items ready.old.items }
     ensures count { OnOk result (length waiting.new.items ≡ length waiting.old.items) }
-    ensures less { OnOk result ((s : ℕ) → s < length waiting.old.items → get_or waiting.new.items s 0 + count_at spots.now s numbers.now ≡ get_or waiting.old.items s 0) }
+    ensures less { OnOk result ((s : ℕ) → s < length waiting.old.items → get_or waiting.new.items s 0 + count_of (number_at spot_ports.now) s numbers.now ≡ get_or waiting.old.items s 0) }
     ensures ready { OnOk result (AreReady waiting.new.items ready.new.items) }
     ensures more { OnOk result (Begins ready.old.items ready.new.items) }
 {
     for n in numbers {
-        let port = spots[*n].port as usize;
+        let port = spot_ports[*n as usize] as usize;
         let left = waiting[port] - 1;
         waiting[port] = left;
         if left == 0 {
@@ -74,10 +74,12 @@ fn release(
 fn order_of(
     alloc: Global,
     spots: &[Spot],
+    spot_ports: &[u16],
     ports: usize,
-    sources: &[Vec<usize>],
-    at: &[Vec<usize>],
+    sources: &[Vec<u32>],
+    at: &[Vec<u32>],
 ) -> Result<Vec<usize>, Fault>
+    requires own { spot_ports.now ≡ ports_in spots.now }
     requires sources { AreBySource spots.now (ports + 1) (lists_of sources.now) }
     requires at { AreByPort spots.now ports (ports + 1) (lists_of at.now) }
     requires ports { (n : ℕ) → n < length spots.now → (spot_at spots.now n).port < ports }
@@ -94,7 +96,7 @@ fn order_of(
         }
         let port = ready[turn];
         is_done[port] = true;
-        release(spots, &sources[port + 1], &mut waiting, &mut ready)?;
+        release(spot_ports, &sources[port + 1], &mut waiting, &mut ready)?;
     }
     Ok(ready)
 }
@@ -105,9 +107,9 @@ pub struct Plan {
     /// In the order of the links, and of each link's nodes.
     pub spots: Vec<Spot>,
     /// The numbers of the spots by their source: first those where frames begin, then those to which frames come from each port.
-    pub sources: Vec<Vec<usize>>,
+    pub sources: Vec<Vec<u32>>,
     /// The numbers of the spots at each port, in the order of their sources.
-    pub at: Vec<Vec<usize>>,
+    pub at: Vec<Vec<u32>>,
     /// Each port once, after those from which links come to it.
     pub order: Vec<usize>,
 }
@@ -121,8 +123,9 @@ pub fn plan_of(alloc: Global, network: &Network) -> Result<Plan, Fault>
     let ports = network.ports.len();
     let spots = spots_in_order(alloc, network)?;
     let sources = by_source(alloc, &spots, ports + 1)?;
-    let at = by_port(alloc, &spots, ports, &sources)?;
-    let order = order_of(alloc, &spots, ports, &sources, &at)?;
+    let spot_ports = ports_of(alloc, &spots)?;
+    let at = by_port(alloc, &spots, &spot_ports, ports, &sources)?;
+    let order = order_of(alloc, &spots, &spot_ports, ports, &sources, &at)?;
     Ok(Plan {
         spots,
         sources,

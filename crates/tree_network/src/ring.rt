@@ -49,7 +49,7 @@ fn late_source(source: usize, is_done: &[bool]) -> Option<usize>
 }
 
 /// The least port that is not done and from which frames come to these spots, which stand in the order of their sources.
-fn waits_for(spots: &[Spot], numbers: &[usize], is_done: &[bool]) -> Option<usize>
+fn waits_for(spots: &[Spot], numbers: &[u32], is_done: &[bool]) -> Option<usize>
     requires inside { All (λ n. n < length spots.now) numbers.now }
     requires from { (n : ℕ) → n < length spots.now → (spot_at spots.now n).source ≤ length is_done.now }
     requires rise { RiseBySource spots.now numbers.now }
@@ -57,7 +57,7 @@ fn waits_for(spots: &[Spot], numbers: &[usize], is_done: &[bool]) -> Option<usiz
         (λ a. IsFirstLateFrom spots.now is_done.now numbers.now a) }
 {
     for n in numbers {
-        if let Some(port) = late_source(spots[*n].source as usize, is_done) {
+        if let Some(port) = late_source(spots[*n as usize].source as usize, is_done) {
             return Some(port);
         }
     }
@@ -68,7 +68,7 @@ fn waits_for(spots: &[Spot], numbers: &[usize], is_done: &[bool]) -> Option<usiz
 fn loop_back(
     alloc: Global,
     spots: &[Spot],
-    at: &[Vec<usize>],
+    at: &[Vec<u32>],
     is_done: &[bool],
     start: usize,
 ) -> Result<Vec<usize>, AllocError>
@@ -118,7 +118,7 @@ fn first_free(is_done: &[bool]) -> Option<usize>
 pub(crate) fn ring_of(
     alloc: Global,
     spots: &[Spot],
-    at: &[Vec<usize>],
+    at: &[Vec<u32>],
     is_done: &[bool],
 ) -> Result<Vec<usize>, AllocError>
     requires at { AreByPort spots.now (length is_done.now) (length is_done.now + 1) (lists_of at.now) }

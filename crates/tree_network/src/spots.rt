@@ -2,27 +2,27 @@
 
 ghost use Rattle.std.specs.Prelude.{◌≡◌, ◌<◌, ◌≤◌, ◌+◌, ◌^◌, ◌++◌, ℕ, length, IfOk, OnOk};
 ghost use Rattle.std.specs.Option.{ForSome};
-ghost use Rattle.tree_network.specs.Networks.{HangsBefore, IsNetwork, node_at};
+ghost use Rattle.tree_network.specs.Networks.{HangsBefore, IsNetwork, longest_frame, node_at};
 ghost use Rattle.tree_network.specs.Spots.{HangsTogether, SpotsAreInRange, number_before, source_in, spots_in, spots_of};
 
 use crate::network::{Link, Network};
 use std::alloc::{AllocError, Global};
 
-/// A node of a link's tree. It is kept short, since ports look at their spots all over the list of these.
+/// A node of a link's tree. It is kept in 16 bytes, since ports look at their spots all over the list of these.
 #[derive(Clone, Copy)]
 pub struct Spot {
     /// The longest frame of the link, in bits.
-    pub frame: u64,
+    pub frame: u32,
     /// The number of the spot before; its own where its frames begin.
-    pub from: usize,
+    pub from: u32,
     /// The number of the link.
-    pub link: u32,
+    pub link: u16,
     /// The number of the port.
-    pub port: u32,
-    /// The queue of the link's frames there.
-    pub queue: u32,
+    pub port: u16,
     /// Where its frames come from: 0 where they begin, else one more than the number of the port before.
-    pub source: u32,
+    pub source: u16,
+    /// The queue of the link's frames there.
+    pub queue: u8,
 }
 
 /// Where the frames of a link's node come from: 0 where they begin, else one more than the number of the port before.
@@ -42,7 +42,8 @@ fn source_of(link: &Link, from: Option<usize>) -> usize
 fn spot_before(first: usize, place: usize, from: Option<usize>) -> usize
     requires fits { first + place < 2 ^ 64 }
     requires hangs { HangsBefore place from }
-    ensures { result ≡ number_before first place from }
+    ensures value { result ≡ number_before first place from }
+    ensures small { result ≤ first + place }
 {
     match from {
         None => first + place,
@@ -54,23 +55,28 @@ fn spot_before(first: usize, place: usize, from: Option<usize>) -> usize
 fn add_link(spots: &mut Vec<Spot>, link: &Link, number: usize) -> Result<(), AllocError>
     requires hangs { HangsTogether link.now }
     requires small { number < 16384 }
+    requires frame { link.now.frame ≤ longest_frame }
+    requires few { length spots.old.items + length link.now.nodes.items ≤ 2 ^ 32 }
     ensures { OnOk result (spots.new.items ≡ spots.old.items ++ spots_in number (length spots.old.items) link.now (length link.now.nodes.items)) }
 {
     for place in 0..link.nodes.len() {
         let node = link.nodes[place];
         let first = spots.len() - place;
         let before = source_of(link, node.from);
-        let own = number as u32;
-        let port = node.port as u32;
-        let queue = node.queue as u32;
-        let source = before as u32;
+        let earlier = spot_before(first, place, node.from);
+        let frame = link.frame as u32;
+        let from = earlier as u32;
+        let own = number as u16;
+        let port = node.port as u16;
+        let source = before as u16;
+        let queue = node.queue as u8;
         spots.push(Spot {
-            frame: link.frame,
-            from: spot_before(first, place, node.from),
+            frame,
+            from,
             link: own,
             port,
-            queue,
             source,
+            queue,
         })?;
     }
     Ok(())

@@ -28,7 +28,6 @@ returns-clause-value c =
     let name = c.args.name.now in
     let text = link_view c.args.row.now in
     let made = links_view c.add_link.new.table in
-    let next = number_or_next before c.args.number in
-    let m = subst (λ (keys : LinkKeys). MakesLink (Ok c.in_ok-link.link) (with_link before name c.args.number keys) made next) c.keys_of.ensures c.in_ok-link.ensures.value in
+    let m = subst (λ (keys : LinkKeys). MakesLink (Ok c.in_ok-link.link) (with_link before name c.args.number keys) made (number_or_next before c.args.number)) c.keys_of.ensures c.in_ok-link.ensures.value in
     let same = to_branch ports c.args.overhead before name c.args.number text made c.in_ok-link.link m in
     subst (λ read. Makes c.add_branch.result read (links_view c.add_branch.new.table)) (sym same) c.add_branch.ensures.value

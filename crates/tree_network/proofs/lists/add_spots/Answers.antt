@@ -1,17 +1,16 @@
 use Rattle.std.proofs.Common.{◌++◌, ◌∷◌, [], length, get_or, ap, sym, ◌∙◌, arith, length-set}
 use Rattle.std.proofs.lemmas.List.{length-map}
-use Rattle.tree_network.specs.Lists.{lists_of, list_at}
-use Rattle.tree_network.specs.Spots.{spot_at}
+use Rattle.tree_network.specs.Lists.{lists_of, list_at, number_at}
 use Rattle.tree_network.proofs.Those.{port_added}
 use Rattle.tree_network.proofs.lists.add_spots.Goals as goal
 
 pub loop-n-preserved : goal.loop-n-preserved
 loop-n-preserved c =
-    let spots = c.args.spots.now in
+    let port = number_at c.args.spot_ports.now in
     let numbers = c.args.numbers.now in
     let k = c.loop-n.n-index in
     let n = get_or numbers k 0 in
-    let p = (spot_at spots n).port in
+    let p = port n in
     let old = lists_of c.loop-n.lists.items in
     let grown = c.in_ok-add_to.ensures in
     let old_count = length-map c.loop-n.lists.items (λ v. v.items) in
@@ -21,6 +20,6 @@ loop-n-preserved c =
     record {
       count = sym new_count ∙ ap length grown ∙ length-set old p (list_at old p ++ n ∷ []) ∙ old_count ∙ all;
       added = λ s h.
-          port_added spots numbers k (lists_of c.args.lists.now.items) old (lists_of c.add_to.new.lists.items) c.loop-n-test.true
+          port_added port numbers k (lists_of c.args.lists.now.items) old (lists_of c.add_to.new.lists.items) c.loop-n-test.true
           (omega (arith, inside, old_count, all)) grown s (c.loop-n.invariant.added s h);
     }

@@ -15,11 +15,11 @@ loop-n-init c =
 pub loop-n-preserved : goal.loop-n-preserved
 loop-n-preserved c =
     sources_more c.args.spots.now c.args.sources c.loop-n.n (lists_of c.loop-n.lists.items) (lists_of c.add_to.new.lists.items)
-    (c.requires c.loop-n.n c.loop-n-test.true) c.in_ok-add_to.ensures c.loop-n.invariant
+    (c.requires.sources c.loop-n.n c.loop-n-test.true) c.in_ok-add_to.ensures c.loop-n.invariant
 
 pub add_to-requires : goal.add_to-requires
 add_to-requires c =
-    let inside = c.requires c.loop-n.n c.loop-n-test.true in
+    let inside = c.requires.sources c.loop-n.n c.loop-n-test.true in
     let count = length-map c.loop-n.lists.items (λ v. v.items) in
     omega (arith, inside, count, c.loop-n.invariant.count)
 

@@ -1,10 +1,12 @@
 use Rattle.std.proofs.Common.{◌≡◌, ◌<◌, ◌≤◌, ◌+◌, ℕ, List, Bool, false, length, get_or, arith, subst, sym, ◌∙◌, ap}
 use Rattle.std.specs.Prelude.{All}
 use Rattle.std.proofs.lemmas.List.{get_or_default, length-map}
-use Rattle.tree_network.specs.Lists.{lists_of, is_from, AreByPort}
-use Rattle.tree_network.specs.Turns.{IsFree, AreReady, AreStuck, AreEndless, count_at}
-use Rattle.tree_network.proofs.ListSets.{list_of}
-use Rattle.tree_network.proofs.Those.{those_pass}
+use Rattle.tree_network.specs.Lists.{lists_of, number_at, those, is_from, AreByPort}
+use Rattle.tree_network.specs.Spots.{spot_at}
+use Rattle.tree_network.specs.Turns.{IsFree, AreReady, AreStuck, AreEndless, count_at, count_of}
+use Rattle.tree_network.specs.declared.spots.Spot.{Spot}
+use Rattle.tree_network.proofs.SpotLists.{port_by}
+use Rattle.tree_network.proofs.Those.{those_pass, from_source}
 use Rattle.tree_network.proofs.Turned.{Turned, no_turn_yet, stuck, some_free, fresh, split, after_turn, all_turns}
 use Rattle.tree_network.proofs.Endless.{endless_free}
 use Rattle.tree_network.proofs.order.order_of.Goals as goal
@@ -72,15 +74,18 @@ release-requires-clause-inside c =
     let p = c.index-port.result.now in
     let is = c.index-port.ensures ∙ get_or_default c.loop-turn.ready.items c.loop-turn.turn p 0 h in
     let lt = c.loop-turn.invariant.are_ready.small c.loop-turn.turn h in
-    let count = length-map c.args.sources.now (λ v. v.items) in
-    let list = c.deref-in-loop-turn.ensures.value
-    ∙ sym (list_of c.args.sources.now (p + 1) c.index-sources-port.result (omega (arith, is, lt, c.loop-turn.invariant.counts, count, c.requires.sources.count)) c.index-sources-port.is)
-    ∙ c.requires.sources.each (p + 1) (omega (arith, is, lt, c.loop-turn.invariant.counts)) in
-    let P : List ℕ → Type 0 = λ xs. All (λ n. n < length spots) xs in
-    subst P (sym list) (those_pass (λ n. n < length spots) (is_from spots (p + 1)) (length spots) (λ k small e. small))
+    let list = from_source spots (c.args.ports + 1) (p + 1) c.args.sources.now c.index-sources-port.result c.deref-in-loop-turn.result.now c.requires.sources
+    (omega (arith, is, lt, c.loop-turn.invariant.counts)) c.index-sources-port.is c.deref-in-loop-turn.ensures.value in
+    let few = ap length c.requires.own ∙ length-map spots (λ (s : Spot). s.port) in
+    let P : List ℕ → Type 0 = λ xs. All (λ n. n < length c.args.spot_ports.now) xs in
+    subst P (sym list) (those_pass (λ n. n < length c.args.spot_ports.now) (is_from spots (p + 1)) (length spots) (λ k small e. omega (arith, few, small)))
 
 pub release-requires-clause-ports : goal.release-requires-clause-ports
-release-requires-clause-ports c = λ n h. let lt = c.requires.ports n h in omega (arith, lt, c.loop-turn.invariant.counts)
+release-requires-clause-ports c = λ n h.
+    let few = ap length c.requires.own ∙ length-map c.args.spots.now (λ (s : Spot). s.port) in
+    let own = port_by c.args.spots.now c.args.spot_ports.now c.requires.own n in
+    let lt = c.requires.ports n (omega (arith, few, h)) in
+    omega (arith, own, lt, c.loop-turn.invariant.counts)
 
 pub release-requires-clause-ready : goal.release-requires-clause-ready
 release-requires-clause-ready c = c.loop-turn.invariant.are_ready
@@ -93,15 +98,15 @@ release-requires-clause-waits c = λ s small.
     let p = c.index-port.result.now in
     let is = c.index-port.ensures ∙ get_or_default c.loop-turn.ready.items c.loop-turn.turn p 0 h in
     let lt = t.are_ready.small c.loop-turn.turn h in
-    let count = length-map c.args.sources.now (λ v. v.items) in
-    let list = c.deref-in-loop-turn.ensures.value
-    ∙ sym (list_of c.args.sources.now (p + 1) c.index-sources-port.result (omega (arith, is, lt, t.counts, count, c.requires.sources.count)) c.index-sources-port.is)
-    ∙ c.requires.sources.each (p + 1) (omega (arith, is, lt, t.counts)) in
+    let own = port_by spots c.args.spot_ports.now c.requires.own in
+    let list = from_source spots (c.args.ports + 1) (p + 1) c.args.sources.now c.index-sources-port.result c.deref-in-loop-turn.result.now c.requires.sources
+    (omega (arith, is, lt, t.counts)) c.index-sources-port.is c.deref-in-loop-turn.ensures.value in
     let off = ap (λ m. get_or c.loop-turn.is_done.items m false) is
     ∙ fresh spots c.args.ports c.loop-turn.is_done.items c.loop-turn.waiting.items c.loop-turn.ready.items c.loop-turn.turn t h in
     let two = split spots c.loop-turn.is_done.items p s (omega (arith, is, lt, t.counts, t.marks)) off in
     let waits = t.waits s (omega (arith, small, t.counts)) in
-    let same = ap (count_at spots s) list in
+    let same : count_of (number_at c.args.spot_ports.now) s c.deref-in-loop-turn.result.now ≡ count_at spots s (those (is_from spots (p + 1)) (length spots)) =
+    (λ i. count_of (λ n. own n i) s c.deref-in-loop-turn.result.now) ∙ ap (count_at spots s) list in
     omega (arith, two, waits, same)
 
 pub loop-turn-preserved : goal.loop-turn-preserved
@@ -113,13 +118,13 @@ loop-turn-preserved c =
     let p = c.index-port.result.now in
     let is = c.index-port.ensures ∙ get_or_default c.loop-turn.ready.items c.loop-turn.turn p 0 h in
     let lt = t.are_ready.small c.loop-turn.turn h in
-    let count = length-map c.args.sources.now (λ v. v.items) in
-    let list = c.deref-in-loop-turn.ensures.value
-    ∙ sym (list_of c.args.sources.now (p + 1) c.index-sources-port.result (omega (arith, is, lt, t.counts, count, c.requires.sources.count)) c.index-sources-port.is)
-    ∙ c.requires.sources.each (p + 1) (omega (arith, is, lt, t.counts)) in
-    let P : List ℕ → Type 0 = λ xs. (s : ℕ) → s < length waiting → get_or c.release.new.waiting.items s 0 + count_at spots s xs ≡ get_or waiting s 0 in
+    let list = from_source spots (c.args.ports + 1) (p + 1) c.args.sources.now c.index-sources-port.result c.deref-in-loop-turn.result.now c.requires.sources
+    (omega (arith, is, lt, t.counts)) c.index-sources-port.is c.deref-in-loop-turn.ensures.value in
+    let own = port_by spots c.args.spot_ports.now c.requires.own in
+    let Q : (ℕ → ℕ) → List ℕ → Type 0 = λ port xs. (s : ℕ) → s < length waiting → get_or c.release.new.waiting.items s 0 + count_of port s xs ≡ get_or waiting s 0 in
+    let less = subst (λ port. Q port c.deref-in-loop-turn.result.now) (λ i. λ n. own n i) c.in_ok-release.ensures.less in
     after_turn spots c.args.ports c.loop-turn.is_done.items waiting c.loop-turn.ready.items c.loop-turn.turn p c.release.new.waiting.items c.release.new.ready.items
-    t h is c.in_ok-release.ensures.count (subst P list c.in_ok-release.ensures.less) c.in_ok-release.ensures.ready c.in_ok-release.ensures.more
+    t h is c.in_ok-release.ensures.count (subst (Q (λ n. (spot_at spots n).port)) list less) c.in_ok-release.ensures.ready c.in_ok-release.ensures.more
 
 pub returns-clause-order : goal.returns-clause-order
 returns-clause-order c =

@@ -4,8 +4,7 @@ use Rattle.std.proofs.lemmas.List.{length-map, length-replicate, length-set, tak
 use Rattle.std.proofs.lemmas.Result.{IfOk-weaker}
 use Rattle.tree_network.specs.Turns.{IsLateFrom, IsFirstLateFrom, IsLoopFrom, FindsPlace, RiseBySource}
 use Rattle.tree_network.specs.Orders.{StandsAt}
-use Rattle.tree_network.proofs.ListSets.{list_of}
-use Rattle.tree_network.proofs.Those.{port_pass}
+use Rattle.tree_network.proofs.Those.{port_pass, from_port}
 use Rattle.tree_network.specs.Turns.{AreNoted}
 use Rattle.tree_network.proofs.Noted.{none_noted, one_noted}
 use Rattle.tree_network.proofs.Walked.{Walked, no_port_yet, below_free, leaves_room, goes_on, comes_back, is_first, not_stuck}
@@ -48,9 +47,8 @@ waits_for-requires-clause-inside c =
     let spots = c.args.spots.now in
     let port = c.loop-place.port in
     let lt = below_free c.args.is_done.now port c.loop-place.invariant.walked.here in
-    let count = length-map c.args.at.now (λ v. v.items) in
-    let list = c.deref-in-loop-place-2.ensures.value ∙ sym (list_of c.args.at.now port c.index-at-port.result (omega (arith, lt, count, c.requires.at.count)) c.index-at-port.is)
-    ∙ c.requires.at.each port lt in
+    let list = from_port spots (length c.args.is_done.now) (length c.args.is_done.now + 1) port c.args.at.now c.index-at-port.result c.deref-in-loop-place-2.result.now
+    c.requires.at lt c.index-at-port.is c.deref-in-loop-place-2.ensures.value in
     let P : List ℕ → Type 0 = λ xs. All (λ n. n < length spots) xs in
     subst P (sym list) (port_pass (λ n. n < length spots) spots port (length c.args.is_done.now + 1) (λ n h e. h))
 
@@ -59,9 +57,8 @@ waits_for-requires-clause-rise c =
     let spots = c.args.spots.now in
     let port = c.loop-place.port in
     let lt = below_free c.args.is_done.now port c.loop-place.invariant.walked.here in
-    let count = length-map c.args.at.now (λ v. v.items) in
-    let list = c.deref-in-loop-place-2.ensures.value ∙ sym (list_of c.args.at.now port c.index-at-port.result (omega (arith, lt, count, c.requires.at.count)) c.index-at-port.is)
-    ∙ c.requires.at.each port lt in
+    let list = from_port spots (length c.args.is_done.now) (length c.args.is_done.now + 1) port c.args.at.now c.index-at-port.result c.deref-in-loop-place-2.result.now
+    c.requires.at lt c.index-at-port.is c.deref-in-loop-place-2.ensures.value in
     let P : List ℕ → Type 0 = λ xs. RiseBySource spots xs in
     subst P (sym list) (port_rises spots port (length c.args.is_done.now + 1))
 
@@ -71,9 +68,8 @@ unreachable-requires c =
     let done = c.args.is_done.now in
     let port = c.loop-place.port in
     let lt = below_free done port c.loop-place.invariant.walked.here in
-    let count = length-map c.args.at.now (λ v. v.items) in
-    let list = c.deref-in-loop-place-2.ensures.value ∙ sym (list_of c.args.at.now port c.index-at-port.result (omega (arith, lt, count, c.requires.at.count)) c.index-at-port.is)
-    ∙ c.requires.at.each port lt in
+    let list = from_port spots (length done) (length done + 1) port c.args.at.now c.index-at-port.result c.deref-in-loop-place-2.result.now
+    c.requires.at lt c.index-at-port.is c.deref-in-loop-place-2.ensures.value in
     let P : List ℕ → Type 0 = λ xs. (a : ℕ) → ¬ (IsLateFrom spots done xs a) in
     not_stuck spots done port (length done) c.requires.from (c.requires.stuck port c.loop-place.invariant.walked.here) (subst P list c.in-None.ensures)
 
@@ -94,9 +90,8 @@ loop-place-preserved c =
     let F : List ℕ → Type 0 = λ xs. FindsPlace xs port None in
     let new = subst F c.deref.ensures.value c.in_default.ensures in
     let lt = below_free done port c.loop-place.invariant.walked.here in
-    let count = length-map c.args.at.now (λ v. v.items) in
-    let list = c.deref-in-loop-place-2.ensures.value ∙ sym (list_of c.args.at.now port c.index-at-port.result (omega (arith, lt, count, c.requires.at.count)) c.index-at-port.is)
-    ∙ c.requires.at.each port lt in
+    let list = from_port spots (length done) (length done + 1) port c.args.at.now c.index-at-port.result c.deref-in-loop-place-2.result.now
+    c.requires.at lt c.index-at-port.is c.deref-in-loop-place-2.ensures.value in
     let L : List ℕ → Type 0 = λ xs. IsFirstLateFrom spots done xs before in
     let late = subst L list c.in-Some-waits_for.ensures in
     let first = is_first spots done port (length done) before c.requires.from c.requires.stuck c.requires.endless late in

@@ -4,6 +4,7 @@ use Rattle.std.proofs.lemmas.Option.{slice_get_read}
 use Rattle.tree_network.specs.Networks.{IsLink, no_port, node_at}
 use Rattle.tree_network.specs.declared.network.Link.{Link}
 use Rattle.tree_network.specs.Spots.{spots_in}
+use Rattle.tree_network.proofs.FewSpots.{few_nodes, few_below}
 use Rattle.tree_network.proofs.SpotLists.{below_zero, below_more}
 use Rattle.tree_network.proofs.spots.spots_in_order.Goals as goal
 
@@ -12,6 +13,23 @@ loop-number-init c = c.new-spots.ensures.items ∙ sym (below_zero c.args.networ
 
 pub add_link-requires-clause-small : goal.add_link-requires-clause-small
 add_link-requires-clause-small c = omega (arith, c.loop-number-test.true, c.len-number-end.ensures, c.requires.few_links)
+
+pub add_link-requires-clause-frame : goal.add_link-requires-clause-frame
+add_link-requires-clause-frame c =
+    let inside : c.loop-number.number < length c.args.network.now.links.items = omega (arith, c.loop-number-test.true, c.len-number-end.ensures) in
+    let P : Link → Type 0 = λ l. IsLink c.args.network.now l in
+    (subst P (sym c.index.ensures) (c.requires.links c.loop-number.number c.index.result.now inside)).frame
+
+pub add_link-requires-clause-few : goal.add_link-requires-clause-few
+add_link-requires-clause-few c =
+    let net = c.args.network.now in
+    let number = c.loop-number.number in
+    let inside : number < length net.links.items = omega (arith, c.loop-number-test.true, c.len-number-end.ensures) in
+    let P : Link → Type 0 = λ l. IsLink net l in
+    let nodes = few_nodes net c.index.result.now (subst P (sym c.index.ensures) (c.requires.links number c.index.result.now inside)) in
+    let before = few_below net number c.requires (omega (arith, inside)) in
+    let count = ap length c.loop-number.invariant in
+    omega (arith, inside, nodes, before, count, c.requires.few_links, c.requires.few_ports)
 
 pub add_link-requires-clause-hangs : goal.add_link-requires-clause-hangs
 add_link-requires-clause-hangs c =
