@@ -8,6 +8,7 @@ use fraction128::Ext;
 use rational::Extended;
 
 /// Whether two values are one.
+#[inline]
 pub fn same_ext(a: Ext, b: Ext) -> bool
     ensures { IsTrue result ↔ (a ≡ b) }
 {

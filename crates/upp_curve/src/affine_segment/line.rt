@@ -27,6 +27,8 @@ pub struct Piece {
 }
 
 /// The value of a line at t. Refused only where slope times t, or its sum with the value at 0, does not fit.
+// Most numbers are whole: written out where it is called, their value takes a few steps and no place in memory.
+#[inline(always)]
 pub fn value(line: &Line, t: Frac) -> Result<Frac, Wide>
     ensures value { IfOk result (λ v. v ≡ line_at line.now t) }
     ensures wide { IfErr result (IsWideValue line.now t) }
