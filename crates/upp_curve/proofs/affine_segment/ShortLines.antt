@@ -10,7 +10,7 @@ use Rattle.rational.specs.Ratio.{ratio}
 use Rattle.rational.proofs.Over.{both_is, add_frac}
 use Rattle.upp_curve.specs.declared.affine_segment.line.Line.{Line}
 use Rattle.upp_curve.specs.affine_segment.Values.{line_at}
-use Rattle.upp_curve.specs.affine_segment.Short.{IsShort, IsShortLine}
+use Rattle.upp_curve.specs.affine_segment.Short.{HasShortParts, LineHasShortParts}
 
 -- ---- sizes
 pub product_size : (a b : ℤ) (m n : ℕ) → unsigned_abs a ≤ m → unsigned_abs b ≤ n → unsigned_abs (a *ℤ b) ≤ m * n
@@ -33,7 +33,7 @@ pub record StepsFit (l : Line) (t : ℚ) : Type 0 where
   pub risen : unsigned_abs ((l.slope.num *ℤ t.num) *ℤ pos (den l.icept)) ≤ 2 ^ 100
   pub under : unsigned_abs (pos (den l.icept) *ℤ (pos (den l.slope) *ℤ pos (den t))) ≤ 2 ^ 60
 
-pub steps_fit : (l : Line) (t : ℚ) → IsShortLine l → IsShort t → StepsFit l t
+pub steps_fit : (l : Line) (t : ℚ) → LineHasShortParts l → HasShortParts t → StepsFit l t
 steps_fit l t h k =
     let it = h.0.top in
     let ib = h.0.bottom in

@@ -2,7 +2,7 @@
 
 ghost use Rattle.std.specs.Prelude.{◌≡◌, ◌<◌, ◌^◌, pos, ◌+ℤ◌, ◌*ℤ◌, unsigned_abs, ◌↔◌, IsTrue, IfSome};
 ghost use Rattle.upp_curve.specs.affine_segment.Values.{line_at};
-ghost use Rattle.upp_curve.specs.affine_segment.Short.{IsShort, IsShortLine};
+ghost use Rattle.upp_curve.specs.affine_segment.Short.{HasShortParts, LineHasShortParts};
 
 use crate::affine_segment::line::Line;
 use fraction128::Frac;
@@ -15,8 +15,8 @@ const FINE: u128 = 1 << 20;
 
 /// Whether both parts of a fraction are short.
 #[inline(always)]
-fn is_short(x: Frac) -> bool
-    ensures { IsTrue result ↔ IsShort x }
+fn has_short_parts(x: Frac) -> bool
+    ensures { IsTrue result ↔ HasShortParts x }
 {
     let top = x.numerator_size();
     let bottom = x.denominator();
@@ -25,10 +25,10 @@ fn is_short(x: Frac) -> bool
 
 /// Whether both numbers of a line are short.
 #[inline(always)]
-fn is_short_line(line: &Line) -> bool
-    ensures { IsTrue result ↔ IsShortLine line.now }
+fn line_has_short_parts(line: &Line) -> bool
+    ensures { IsTrue result ↔ LineHasShortParts line.now }
 {
-    is_short(line.icept) && is_short(line.slope)
+    has_short_parts(line.icept) && has_short_parts(line.slope)
 }
 
 /// The number, with a sign.
@@ -73,8 +73,8 @@ fn both_under(a: u128, b: u128) -> i128
 /// The value over the product of the three denominators, in lowest terms.
 #[inline(always)]
 fn value_over(line: &Line, t: Frac) -> Option<Frac>
-    requires line { IsShortLine line.now }
-    requires time { IsShort t }
+    requires line { LineHasShortParts line.now }
+    requires time { HasShortParts t }
     ensures { IfSome result (λ v. v ≡ line_at line.now t) }
 {
     let bottom = line.icept.denominator();
@@ -101,7 +101,7 @@ fn value_over(line: &Line, t: Frac) -> Option<Frac>
 pub(crate) fn short_value(line: &Line, t: Frac) -> Option<Frac>
     ensures { IfSome result (λ v. v ≡ line_at line.now t) }
 {
-    if is_short(t) && is_short_line(line) {
+    if has_short_parts(t) && line_has_short_parts(line) {
         return value_over(line, t);
     }
     None
