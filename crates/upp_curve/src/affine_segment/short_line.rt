@@ -1,6 +1,7 @@
 //! The value of a line over one denominator, of short numbers: one common divisor is looked for in place of four.
 
 ghost use Rattle.std.specs.Prelude.{◌≡◌, ◌<◌, ◌^◌, pos, ◌+ℤ◌, ◌*ℤ◌, unsigned_abs, ◌↔◌, IsTrue, IfSome};
+ghost use Rattle.rational.specs.Rational.{den};
 ghost use Rattle.upp_curve.specs.affine_segment.Values.{line_at};
 ghost use Rattle.upp_curve.specs.affine_segment.Short.{HasShortParts, LineHasShortParts};
 
@@ -70,6 +71,50 @@ fn both_under(a: u128, b: u128) -> i128
     times(left, right)
 }
 
+/// The value at 0, over all three denominators.
+#[inline(always)]
+fn start_over(line: &Line, t: Frac) -> i128
+    requires line { LineHasShortParts line.now }
+    requires time { HasShortParts t }
+    ensures { result ≡ line.now.icept.num *ℤ (pos (den line.now.slope) *ℤ pos (den t)) }
+{
+    let left = line.slope.denominator();
+    let right = t.denominator();
+    let over = both_under(left, right);
+    let level = line.icept.numerator();
+    times(level, over)
+}
+
+/// The rise, over all three denominators.
+#[inline(always)]
+fn rise_over(line: &Line, t: Frac) -> i128
+    requires line { LineHasShortParts line.now }
+    requires time { HasShortParts t }
+    ensures { result ≡ (line.now.slope.num *ℤ t.num) *ℤ pos (den line.now.icept) }
+{
+    let slope = line.slope.numerator();
+    let time = t.numerator();
+    let run = times(slope, time);
+    let bottom = line.icept.denominator();
+    let base = signed(bottom);
+    times(run, base)
+}
+
+/// The product of all three denominators.
+#[inline(always)]
+fn all_under(line: &Line, t: Frac) -> i128
+    requires line { LineHasShortParts line.now }
+    requires time { HasShortParts t }
+    ensures { result ≡ pos (den line.now.icept) *ℤ (pos (den line.now.slope) *ℤ pos (den t)) }
+{
+    let left = line.slope.denominator();
+    let right = t.denominator();
+    let over = both_under(left, right);
+    let bottom = line.icept.denominator();
+    let base = signed(bottom);
+    times(base, over)
+}
+
 /// The value over the product of the three denominators, in lowest terms.
 #[inline(always)]
 fn value_over(line: &Line, t: Frac) -> Option<Frac>
@@ -77,19 +122,10 @@ fn value_over(line: &Line, t: Frac) -> Option<Frac>
     requires time { HasShortParts t }
     ensures { IfSome result (λ v. v ≡ line_at line.now t) }
 {
-    let bottom = line.icept.denominator();
-    let base = signed(bottom);
-    let left = line.slope.denominator();
-    let right = t.denominator();
-    let over = both_under(left, right);
-    let slope = line.slope.numerator();
-    let time = t.numerator();
-    let run = times(slope, time);
-    let level = line.icept.numerator();
-    let start = times(level, over);
-    let risen = times(run, base);
-    let whole = plus(start, risen);
-    let under = times(base, over);
+    let start = start_over(line, t);
+    let rise = rise_over(line, t);
+    let whole = plus(start, rise);
+    let under = all_under(line, t);
     match Frac::new(whole, under) {
         Ok(v) => Some(v),
         Err(_) => None,

@@ -3,8 +3,8 @@ use Rattle.std.proofs.Common.{◌+ℤ◌, refl, SFits, to_z-of_z}
 use Rattle.std.proofs.lemmas.Int.{fits_signed_from_abs}
 use Rattle.upp_curve.proofs.affine_segment.short_line.plus.Goals as goal
 
-pub overflow_add-a : goal.overflow_add-a
-overflow_add-a c =
+pub overflow_add-result : goal.overflow_add-result
+overflow_add-result c =
     let fa = c.ranges.a in let fb = c.ranges.b in
     simp to_z-of_z (fits_signed_from_abs w128 (c.args.a +ℤ c.args.b) c.requires)
 

@@ -1,31 +1,27 @@
-use Rattle.std.proofs.Common.{arith, pos, ◌∙◌, ◌+ℤ◌, ◌*ℤ◌}
-use Rattle.upp_curve.proofs.affine_segment.ShortLines.{StepsFit, steps_fit, sum_size, value_ratio}
+use mir.Syntax.{w128}
+use Rattle.std.proofs.Common.{rules, arith, ◌<◌, ◌^◌, ◌∙◌, ap, ap₂, ℤ, ◌+ℤ◌, unsigned_abs, SFits, to_z-of_z}
+use Rattle.upp_curve.proofs.affine_segment.ShortLines.{steps_fit, sum_size, value_ratio}
 use Rattle.upp_curve.proofs.affine_segment.short_line.value_over.Goals as goal
-
-pub times-run-requires : goal.times-run-requires
-times-run-requires c =
-    let m = (steps_fit c.args.line.now c.args.t c.requires.line c.requires.time).run in
-    rw (c.numerator-slope.ensures.value, c.numerator-time.ensures.value) (omega (arith, m))
-
-pub times-start-requires : goal.times-start-requires
-times-start-requires c =
-    let m = (steps_fit c.args.line.now c.args.t c.requires.line c.requires.time).start in
-    rw (c.numerator-level.ensures.value, c.both_under-over.ensures, c.denominator-left.ensures.value, c.denominator-right.ensures.value) (omega (arith, m))
-
-pub times-risen-requires : goal.times-risen-requires
-times-risen-requires c =
-    let m = (steps_fit c.args.line.now c.args.t c.requires.line c.requires.time).risen in
-    rw (c.times-run.ensures, c.numerator-slope.ensures.value, c.numerator-time.ensures.value, c.signed-base.ensures, c.denominator-bottom.ensures.value) (omega (arith, m))
 
 pub plus-whole-requires : goal.plus-whole-requires
 plus-whole-requires c =
     let fit = steps_fit c.args.line.now c.args.t c.requires.line c.requires.time in
     let m = fit.start in
     let n = fit.risen in
-    let s = sum_size c.times-start.result c.times-risen.result in
-    omega (arith, m, n, s)
+    let fs : SFits w128 c.start_over-start.result = search rules in
+    let fr : SFits w128 c.rise_over-rise.result = search rules in
+    let s = sum_size c.start_over-start.result c.rise_over-rise.result in
+    let x = ap unsigned_abs c.start_over-start.ensures in
+    let y = ap unsigned_abs c.rise_over-rise.ensures in
+    let small : unsigned_abs (c.start_over-start.result +ℤ c.rise_over-rise.result) < 2 ^ 127 = omega (arith, m, n, s, x, y) in
+    simp to_z-of_z small
 
-pub times-under-requires : goal.times-under-requires
-times-under-requires c =
-    let m = (steps_fit c.args.line.now c.args.t c.requires.line c.requires.time).under in
-    rw (c.signed-base.ensures, c.denominator-bottom.ensures.value, c.both_under-over.ensures, c.denominator-left.ensures.value, c.denominator-right.ensures.value) (omega (arith, m))
+pub returns-in-Ok : goal.returns-in-Ok
+returns-in-Ok c =
+    let fs : SFits w128 c.start_over-start.result = search rules in
+    let fr : SFits w128 c.rise_over-rise.result = search rules in
+    let fw : SFits w128 c.plus-whole.result = search rules in
+    let fu : SFits w128 c.all_under-under.result = search rules in
+    (simp to_z-of_z at c.in-Ok.ensures.value)
+    ∙ value_ratio c.args.line.now c.args.t c.plus-whole.result c.all_under-under.result
+    ((simp to_z-of_z at c.plus-whole.ensures) ∙ ap₂ (λ (x y : ℤ). x +ℤ y) c.start_over-start.ensures c.rise_over-rise.ensures) c.all_under-under.ensures
