@@ -32,3 +32,4 @@ pub mod CoveredCounts
 pub mod FewCopies
 pub mod LeastNumbers
 pub mod OneLimit
+pub mod ShortCalls

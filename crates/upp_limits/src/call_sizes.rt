@@ -12,6 +12,7 @@ use crate::gathered::Gathered;
 use crate::op_kind::OpKind;
 use crate::operand_numbers::with_operands;
 use crate::own_window::{OwnNumbers, numbers_of};
+use crate::short_calls::is_short_call;
 use fraction128::Frac;
 use rational::Extended;
 use upp_curve::Curve;
@@ -133,14 +134,41 @@ fn exact_grids(op: &OpKind, f: &Curve, g: &Curve, end: Frac) -> Option<CallGrids
     }
 }
 
-/// The grids of a call over the end of its window. None exactly where its gauge is 2^120 or more. The gauge itself is
-/// made only where a bound of it, which is quicker to make, does not tell. No memory is taken and nothing is unrolled.
-pub fn narrow_grids(op: &OpKind, f: &Curve, g: &Curve, end: Frac) -> Option<CallGrids>
+/// The grids of a call whose numbers are all short: of 1, and the gauge is below the limit.
+#[inline]
+fn short_grids(op: &OpKind, f: &Curve, g: &Curve, end: Frac) -> Option<CallGrids>
+    ensures { IfSome result (AreNarrowGrids op.now f.now g.now end) }
+{
+    if is_short_call(op, f, g, end) {
+        return Some(CallGrids {
+            times: 1,
+            values: 1,
+        });
+    }
+    None
+}
+
+/// The grids where not all numbers of the call are short. None exactly where its gauge is 2^120 or more.
+#[inline(never)]
+fn long_grids(op: &OpKind, f: &Curve, g: &Curve, end: Frac) -> Option<CallGrids>
     ensures { MatchOption result (2 ^ 120 ≤ gauge_over op.now f.now g.now end)
         (AreNarrowGrids op.now f.now g.now end) }
 {
     match covered_grids(op, f, g, end) {
         Some(grids) => Some(grids),
         None => exact_grids(op, f, g, end),
+    }
+}
+
+/// The grids of a call over the end of its window. None exactly where its gauge is 2^120 or more. The gauge itself is
+/// made only where a look at each number by itself does not tell, nor a bound of it, which is quicker to make. No memory
+/// is taken and nothing is unrolled.
+pub fn narrow_grids(op: &OpKind, f: &Curve, g: &Curve, end: Frac) -> Option<CallGrids>
+    ensures { MatchOption result (2 ^ 120 ≤ gauge_over op.now f.now g.now end)
+        (AreNarrowGrids op.now f.now g.now end) }
+{
+    match short_grids(op, f, g, end) {
+        Some(grids) => Some(grids),
+        None => long_grids(op, f, g, end),
     }
 }

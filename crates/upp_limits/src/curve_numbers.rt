@@ -62,6 +62,7 @@ fn with_first_and_last(
 }
 
 /// So many copies of a piece more: the first, and the values of the last.
+#[inline(never)]
 fn with_copies(
     g: Gathered,
     piece: &Piece,
@@ -98,9 +99,9 @@ fn with_once(g: Gathered, piece: &Piece, next: &Option<Frac>, end: Frac) -> Opti
     }
 }
 
-// The same, also of a periodic tail: a call of its own, since the first copies alone never need it.
-#[inline(never)]
-fn with_repeated(
+/// What of a piece starts before `end` more: itself, or from the rank of a periodic tail on its copies.
+#[inline(always)]
+pub(crate) fn with_below(
     g: Gathered,
     piece: &Piece,
     next: &Option<Frac>,
@@ -125,28 +126,6 @@ fn with_repeated(
             }
             with_copies(g, piece, next, copies, *rise)
         }
-        _ => with_once(g, piece, next, end),
-    }
-}
-
-/// What of a piece starts before `end` more: itself, or from the rank of a periodic tail on its copies.
-#[inline(always)]
-pub(crate) fn with_below(
-    g: Gathered,
-    piece: &Piece,
-    next: &Option<Frac>,
-    tail: &Tail,
-    end: Frac,
-) -> Option<Gathered>
-    requires start { int (pos 0) ≤ℚ piece.now.x }
-    requires period { HasPeriod tail.now }
-    ensures value { let span : Span = record { piece = piece.now; next = next.now } in
-        IfSome result (λ r. (n : Numbers) → Gathers g n → Gathers r (joined n (closed_span tail.now end span))) }
-    ensures fits { let span : Span = record { piece = piece.now; next = next.now } in
-        Knows tail.now end span → IsSome result }
-{
-    match tail {
-        Tail::Periodic { .. } => with_repeated(g, piece, next, tail, end),
         _ => with_once(g, piece, next, end),
     }
 }
@@ -199,6 +178,8 @@ pub(crate) fn span_at(of: &Listing, i: usize) -> (Piece, Option<Frac>)
 }
 
 /// The pieces of a curve more, as far as they and those of their copies that `counted` makes start before `end`.
+// Written out for each of the two tails that it is called with, so that the sizes stay in registers.
+#[inline(always)]
 pub(crate) fn with_pieces(g: Gathered, of: &Listing, counted: &Tail, end: Frac) -> Option<Gathered>
     requires listed { IsListed of.now.pieces.now of.now.tail.now of.now.after }
     requires period { HasPeriod counted.now }
@@ -218,6 +199,7 @@ pub(crate) fn with_pieces(g: Gathered, of: &Listing, counted: &Tail, end: Frac) 
 }
 
 /// The rank, the period and the rise of a tail more.
+#[inline]
 pub(crate) fn with_tail(g: Gathered, tail: &Tail) -> Gathered
     ensures { (n : Numbers) → Gathers g n → Gathers result (joined n (tail_numbers tail.now)) }
 {

@@ -4,7 +4,7 @@ use Rattle.upp_limits.specs.Limits.{joined}
 use Rattle.upp_limits.specs.Gathered.{Gathers}
 use Rattle.rational.proofs.Compared.{not_less_out}
 use Rattle.upp_limits.proofs.SpanNumbers.{if_some_map, too_many_known, copies_value, copies_known}
-use Rattle.upp_limits.proofs.curve_numbers.with_repeated.Goals as goal
+use Rattle.upp_limits.proofs.curve_numbers.with_below.Goals as goal
 
 pub returns-then-copies-clause-fits : goal.returns-then-copies-clause-fits
 returns-then-copies-clause-fits c =
