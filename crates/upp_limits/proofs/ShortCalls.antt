@@ -287,6 +287,6 @@ pub narrow_short : (op : OpKind) (f g : SpecCurve) (end : ℚ) → IsShortCall o
 unfolding gauge_over
 narrow_short op f g end h =
     let own = kind_numbers op in
-    let all = holds_joined (Whole 1) (WholeWithin (2 ^ 75)) IsShort own (operand_numbers (operands_of op) end f g) (kind_within op h.kind) (operands_within (operands_of op) end f g h.end h.operands) in
-    let (gauge, times, values) = sizes_short end (numbers_over op f g end) h.end all in
+    let all = holds_joined (Whole 1) (WholeWithin (2 ^ 75)) IsShort own (operand_numbers (operands_of op) end f g) (kind_within op h.kind) (operands_within (operands_of op) end f g h.until h.operands) in
+    let (gauge, times, values) = sizes_short end (numbers_over op f g end) h.until all in
     record { gauge = gauge; times = times; values = values }

@@ -59,6 +59,6 @@ IsShortKind op = Unit {0}
 
 -- a call over the end of its window
 pub record IsShortCall (op : OpKind) (f g : SpecCurve) (end : ℚ) : Type 0 where
-  pub end : IsShort end
+  pub until : IsShort end
   pub kind : IsShortKind op
   pub operands : AreShort (operands_of op) f g
