@@ -17,5 +17,14 @@ narrow_length a b c x y z h =
     let (k, r, n, _) = leading_length 128 c z in
     let two = product_length a b i j (omega (arith, l)) (omega (arith, m)) in
     let all = product_length (a * b) c (i + j) k two (omega (arith, n)) in
-    let most : 2 ^ (i + j + k) ≤ 2 ^ 113 = pow-le-pow_right (omega arith) (omega (arith, p, q, r, h)) in
+    let few : i + j + k ≤ 113 = omega (arith, p, q, r, h) in
+    let most : 2 ^ (i + j + k) ≤ 2 ^ 113 = pow-le-pow_right (omega arith) few in
     omega (arith, all, most)
+
+-- three numbers of 20 digits, the last one twice
+pub coarse_product : (a b c : ℕ) → a < 2 ^ 20 → b < 2 ^ 20 → c < 2 ^ 20 → a * b * c * c < 2 ^ 128
+coarse_product a b c x y z =
+    let two = product_length a b 20 20 (omega (arith, x)) (omega (arith, y)) in
+    let three = product_length (a * b) c 40 20 two (omega (arith, z)) in
+    let four = product_length (a * b * c) c 60 20 three (omega (arith, z)) in
+    omega (arith, four)

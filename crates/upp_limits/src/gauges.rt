@@ -52,7 +52,14 @@ pub fn product(v: u128, s: u128, dv: u128, dt: u128, ds: u128) -> Option<u128>
 pub(crate) fn is_narrow(a: u128, b: u128, c: u128) -> bool
     ensures { IsTrue result → 64 * (a * b * c) < 2 ^ 120 }
 {
-    a.leading_zeros() + b.leading_zeros() + c.leading_zeros() >= 3 * 128 - 113
+    let first = a.leading_zeros();
+    let second = b.leading_zeros();
+    let third = c.leading_zeros();
+    // Together they have at most 113 digits.
+    if first + second + third < 3 * 128 - 113 {
+        return false;
+    }
+    true
 }
 
 /// The gauge of the numbers gathered, the window's end first. None where it is 2^128 or more.
