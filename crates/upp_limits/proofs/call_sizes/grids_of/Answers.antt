@@ -1,3 +1,4 @@
+use Rattle.std.proofs.Common.{arith}
 use Rattle.upp_limits.proofs.CoveredCalls.{grids_told}
 use Rattle.upp_limits.proofs.Lengths.{coarse_product}
 use Rattle.upp_limits.proofs.call_sizes.grids_of.Goals as goal
@@ -5,7 +6,8 @@ use Rattle.upp_limits.proofs.call_sizes.grids_of.Goals as goal
 pub overflow_mul-values-3 : goal.overflow_mul-values-3
 overflow_mul-values-3 c =
     let g = c.args.found.now in
-    coarse_product g.dv g.dt g.ds c.if-found-ge-COARSE.false c.if-found-ge-COARSE-2.false c.if-found-ge-COARSE-3.false
+    let less = coarse_product g.dv g.dt g.ds c.if-found-ge-COARSE.false c.if-found-ge-COARSE-2.false c.if-found-ge-COARSE-3.false in
+    omega (arith, less)
 
 pub returns-then-is_narrow : goal.returns-then-is_narrow
 returns-then-is_narrow c = λ n h.
