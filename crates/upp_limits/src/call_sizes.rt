@@ -132,7 +132,7 @@ fn covered_grids(op: &OpKind, f: &Curve, g: &Curve, end: Frac) -> Option<CallGri
     f.keeps();
     g.keeps();
     let own = with_kind(Gathered::nothing().with_time(end), op);
-    match with_first_operands(own, op.operands(), f, g, end) {
+    match with_first_operands(own, end, op.operands(), f, g) {
         Some(first) => match most_rises(op.operands(), f, g, end) {
             Some(rise) => match with_rise(first, rise) {
                 Some(found) => grids_of(&found, end),

@@ -26,10 +26,10 @@ fn with_first(g: Gathered, c: &Curve, end: Frac) -> Option<Gathered>
 /// The numbers of the first copies of a call's operands more. None also for a scaled operand.
 pub(crate) fn with_first_operands(
     g: Gathered,
+    end: Frac,
     operands: Operands,
     f: &Curve,
     other: &Curve,
-    end: Frac,
 ) -> Option<Gathered>
     ensures { IfSome result (λ r. (n : Numbers) → Gathers g n
         → Gathers r (joined n (first_operands operands end f.now other.now))) }
