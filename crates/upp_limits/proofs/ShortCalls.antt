@@ -1,10 +1,10 @@
 -- The sizes of a call whose numbers are all short: both grids are 1, and the gauge is below the limit.
-use Rattle.std.specs.Prelude.{◌≡◌, ℕ, ◌+◌, ◌*◌, ◌<◌, ◌≤◌, ◌^◌, pos, Bool, true, false, cond, List, [], ◌∷◌, ◌++◌, Option, Some, None, max}
+use Rattle.std.specs.Prelude.{◌≡◌, ℕ, ◌+◌, ◌*◌, ◌<◌, ◌≤◌, ◌^◌, pos, Bool, true, false, cond, List, [], ◌∷◌, ◌++◌, Option, Some, None}
 use Rattle.std.specs.List.{AllByRecursion}
 use Rattle.std.proofs.Common.{arith, sym, subst}
 use Rattle.std.proofs.Math.Nat.{max-le}
 use native.Mathlib.Nat.{le_of_dvd, mul-le-mul_right}
-use Rattle.rational.specs.Rational.{ℚ, den, ◌+ℚ◌, ◌*ℚ◌, ◌≤ℚ◌, ◌<ℚ◌, int, lt_q}
+use Rattle.rational.specs.Rational.{ℚ, ◌+ℚ◌, ◌*ℚ◌, ◌≤ℚ◌, ◌<ℚ◌, int, lt_q}
 use Rattle.rational.specs.Fractions.{frac_self}
 use Rattle.rational.specs.Grid.{Whole, Within}
 use Rattle.rational.specs.Gauge.{common_den, bound_of}
@@ -29,10 +29,10 @@ use Rattle.upp_limits.specs.declared.op_kind.OpKind.TheVariants.{Vertical, Itsel
 use Rattle.upp_limits.specs.declared.op_kind.Operands.{Operands}
 use Rattle.upp_limits.specs.declared.op_kind.Operands.TheVariants.{First, Both, FirstScaled}
 use Rattle.upp_limits.specs.Periods.{HasPeriod}
-use Rattle.upp_limits.specs.Spans.{Span, piece_read, line_read, end_of, spans}
-use Rattle.upp_limits.specs.Limits.{Numbers, Sizes, finite, limit_before, line_slope, twice, curve_numbers, sizes_of, gauge_of}
+use Rattle.upp_limits.specs.Spans.{line_read, end_of, spans}
+use Rattle.upp_limits.specs.Limits.{Numbers, finite, limit_before, line_slope, twice, curve_numbers, sizes_of, gauge_of}
 use Rattle.upp_limits.specs.Sized.{grid_of}
-use Rattle.upp_limits.specs.ClosedForm.{span_numbers, closed_spans, tail_numbers, first_numbers}
+use Rattle.upp_limits.specs.ClosedForm.{closed_spans, tail_numbers, first_numbers}
 use Rattle.upp_limits.specs.Gauges.{time_number, kind_numbers, operands_of, operand_numbers, numbers_over, gauge_over}
 use Rattle.upp_limits.specs.Covered.{IsMostRise, AreNarrowGrids}
 use Rattle.upp_limits.specs.Short.{IsShort, IsShortValue, IsShortLine, IsShortPiece, IsShortTail, IsShortCurve, AreShort, IsShortKind, IsShortCall}
