@@ -11,7 +11,7 @@ use Rattle.upp_curve.specs.affine_segment.Pieces.{Each}
 use Rattle.upp_curve.specs.Curve.{SpecCurve}
 use Rattle.upp_curve.specs.Curves.{IsCurve}
 use Rattle.upp_limits.specs.declared.op_kind.OpKind.{OpKind}
-use Rattle.upp_limits.specs.declared.op_kind.OpKind.TheVariants.{Scale, PosMinus, Shift, FifoLeft}
+use Rattle.upp_limits.specs.declared.op_kind.OpKind.TheVariants.{PosMinus, Shift, FifoLeft}
 use Rattle.upp_limits.specs.declared.op_kind.Operands.{Operands}
 use Rattle.upp_limits.specs.declared.op_kind.Operands.TheVariants.{First, Both, FirstScaled}
 use Rattle.upp_limits.specs.Gauges.{operands_of}
