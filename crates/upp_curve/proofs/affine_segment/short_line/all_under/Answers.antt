@@ -17,6 +17,9 @@ pub returns : goal.returns
 returns c =
     let fb : SFits w128 c.signed-base.result = search rules in
     let fo : SFits w128 c.both_under-over.result = search rules in
+    let fz : SFits w128 c.times.result = search rules in
+    let is : c.times.result ≡ pos (den c.args.line.now.icept) *ℤ (pos (den c.args.line.now.slope) *ℤ pos (den c.args.t)) =
     (simp to_z-of_z at c.times.ensures)
     ∙ ap₂ (λ (x y : ℤ). x *ℤ y) (c.signed-base.ensures ∙ ap pos c.denominator-bottom.ensures.value)
-    (c.both_under-over.ensures ∙ ap₂ (λ x y. pos x *ℤ pos y) c.denominator-left.ensures.value c.denominator-right.ensures.value)
+    (c.both_under-over.ensures ∙ ap₂ (λ x y. pos x *ℤ pos y) c.denominator-left.ensures.value c.denominator-right.ensures.value) in
+    simp to_z-of_z is

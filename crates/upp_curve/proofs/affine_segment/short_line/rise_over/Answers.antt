@@ -31,6 +31,9 @@ returns c =
     let ft : SFits w128 c.numerator-time.result = search rules in
     let fr : SFits w128 c.times-run.result = search rules in
     let fb : SFits w128 c.signed-base.result = search rules in
+    let fz : SFits w128 c.times.result = search rules in
+    let is : c.times.result ≡ (c.args.line.now.slope.num *ℤ c.args.t.num) *ℤ pos (den c.args.line.now.icept) =
     (simp to_z-of_z at c.times.ensures)
     ∙ ap₂ (λ (x y : ℤ). x *ℤ y) ((simp to_z-of_z at c.times-run.ensures) ∙ ap₂ (λ (x y : ℤ). x *ℤ y) c.numerator-slope.ensures.value c.numerator-time.ensures.value)
-    (c.signed-base.ensures ∙ ap pos c.denominator-bottom.ensures.value)
+    (c.signed-base.ensures ∙ ap pos c.denominator-bottom.ensures.value) in
+    simp to_z-of_z is

@@ -17,5 +17,8 @@ pub returns : goal.returns
 returns c =
     let fl : SFits w128 c.numerator-level.result = search rules in
     let fo : SFits w128 c.both_under-over.result = search rules in
+    let fz : SFits w128 c.times.result = search rules in
+    let is : c.times.result ≡ c.args.line.now.icept.num *ℤ (pos (den c.args.line.now.slope) *ℤ pos (den c.args.t)) =
     (simp to_z-of_z at c.times.ensures)
-    ∙ ap₂ (λ (x y : ℤ). x *ℤ y) c.numerator-level.ensures.value (c.both_under-over.ensures ∙ ap₂ (λ x y. pos x *ℤ pos y) c.denominator-left.ensures.value c.denominator-right.ensures.value)
+    ∙ ap₂ (λ (x y : ℤ). x *ℤ y) c.numerator-level.ensures.value (c.both_under-over.ensures ∙ ap₂ (λ x y. pos x *ℤ pos y) c.denominator-left.ensures.value c.denominator-right.ensures.value) in
+    simp to_z-of_z is
