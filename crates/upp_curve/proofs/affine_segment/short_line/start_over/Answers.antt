@@ -1,5 +1,5 @@
 use mir.Syntax.{w128}
-use Rattle.std.proofs.Common.{rules, arith, ◌≡◌, ◌<◌, ◌^◌, ◌∙◌, ap, ap₂, pos, ℤ, ◌+ℤ◌, ◌*ℤ◌, unsigned_abs, SFits, to_z-of_z}
+use Rattle.std.proofs.Common.{rules, arith, ◌≡◌, ◌<◌, ◌^◌, ◌∙◌, ap₂, pos, ℤ, ◌*ℤ◌, unsigned_abs, SFits, to_z-of_z}
 use Rattle.rational.specs.Rational.{den}
 use Rattle.upp_curve.proofs.affine_segment.ShortLines.{steps_fit}
 use Rattle.upp_curve.proofs.affine_segment.short_line.start_over.Goals as goal
