@@ -10,3 +10,4 @@ pub mod Through
 pub mod ElementReading
 pub mod Made
 pub mod LineValues
+pub mod ShortLines

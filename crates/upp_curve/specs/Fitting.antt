@@ -1,11 +1,9 @@
 -- Steps that fit: a piece moved in time and height, and what is read of pieces. Own choice.
-use Rattle.std.specs.Prelude.{List, [], ◌∷◌, Option, Some, None}
-use Rattle.rational.specs.Rational.{ℚ, ◌+ℚ◌, ◌*ℚ◌, ◌<ℚ◌, neg_ℚ}
+use Rattle.std.specs.Prelude.{Option, Some, None}
+use Rattle.rational.specs.Rational.{ℚ, ◌+ℚ◌, ◌*ℚ◌, neg_ℚ}
 use Rattle.rational.specs.Ratio.{IsSmall, SumFits}
 use Rattle.upp_curve.specs.declared.affine_segment.line.Line.{Line}
 use Rattle.upp_curve.specs.declared.affine_segment.line.Piece.{Piece}
-use Rattle.upp_curve.specs.affine_segment.Reading.{piece_in}
-use Rattle.upp_curve.specs.affine_segment.Fits.{LineFitsAt}
 use Rattle.upp_curve.specs.Readable.{SumFitsAt}
 
 -- the value at 0 of a line moved by `by` and `rise`: icept + rise - slope by

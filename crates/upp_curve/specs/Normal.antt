@@ -1,6 +1,6 @@
 -- The one form in which a curve is kept, so that equal values everywhere mean equal curves.
 -- (The form of Bouillard, Boyer and Le Corronc's pseudo-periodic functions is not unique; its choice here is our own.)
-use Rattle.std.specs.Prelude.{◌≡◌, ◌≢◌, ℕ, ◌≤◌, pos, List, [], ◌∷◌, Option, None, ◌⊎◌}
+use Rattle.std.specs.Prelude.{◌≡◌, ◌≢◌, ℕ, ◌≤◌, pos, List, [], ◌∷◌, Option, None}
 use Rattle.rational.specs.Rational.{ℚ, ◌+ℚ◌, ◌/ℚ◌, ◌≤ℚ◌, ◌<ℚ◌, int}
 use Rattle.rational.specs.Extended.{Ext}
 use Rattle.upp_curve.specs.declared.affine_segment.line.Line.{Line}

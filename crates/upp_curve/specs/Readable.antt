@@ -1,7 +1,7 @@
 -- What is read of a curve by steps that always fit: its lines at the start and at the end of each piece, rank + period,
 -- the value there, and rise / period. (Own choice: with it a curve's rate and whether it rises are always known.)
 use Rattle.std.specs.Prelude.{List, [], ◌∷◌, Option, Some, None}
-use Rattle.rational.specs.Rational.{ℚ, ◌+ℚ◌, ◌*ℚ◌, ◌/ℚ◌}
+use Rattle.rational.specs.Rational.{ℚ, ◌+ℚ◌, ◌/ℚ◌}
 use Rattle.rational.specs.Ratio.{IsSmall, SumFits}
 use Rattle.rational.specs.Extended.{Ext}
 use Rattle.rational.specs.declared.Extended.TheVariants.{Fin, Inf}

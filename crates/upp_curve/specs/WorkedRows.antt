@@ -1,6 +1,6 @@
 -- Values that were worked out by hand from the words of the definitions. Own choice of examples.
-use Rattle.std.specs.Prelude.{◌≡◌, ℕ, pos, [], ◌∷◌, length}
-use Rattle.rational.specs.Rational.{ℚ, ◌≤ℚ◌, int, frac}
+use Rattle.std.specs.Prelude.{◌≡◌, pos, [], ◌∷◌, length}
+use Rattle.rational.specs.Rational.{ℚ, ◌≤ℚ◌, frac}
 use Rattle.rational.specs.declared.Extended.TheVariants.{Fin}
 use Rattle.upp_curve.specs.declared.curve.Tail.TheVariants.{Affine}
 use Rattle.upp_curve.specs.Curve.{SpecCurve, value_at}

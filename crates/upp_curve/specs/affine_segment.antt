@@ -10,3 +10,4 @@ pub mod Corners
 pub mod WideConvolution
 pub mod ElementLaws
 pub mod MadeParts
+pub mod Short

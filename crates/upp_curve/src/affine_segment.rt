@@ -8,6 +8,7 @@ mod element;
 pub mod element_laws;
 mod line;
 mod reading;
+mod short_line;
 
 pub use convolution::element_conv;
 pub use cut::{Cut, element_min, is_before};

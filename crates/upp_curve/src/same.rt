@@ -8,6 +8,7 @@ use fraction128::Ext;
 use rational::Extended;
 
 /// Whether two values are one.
+#[inline]
 pub fn same_ext(a: Ext, b: Ext) -> bool
     ensures { IsTrue result ↔ (a ≡ b) }
 {
@@ -23,6 +24,7 @@ pub fn same_ext(a: Ext, b: Ext) -> bool
     }
 }
 
+#[inline]
 fn same_line(a: Line, b: Line) -> bool
     ensures { IsTrue result ↔ (a ≡ b) }
 {
@@ -30,6 +32,7 @@ fn same_line(a: Line, b: Line) -> bool
 }
 
 /// Whether two lines, or the want of them, are one.
+#[inline]
 pub fn same_lines(a: Option<Line>, b: Option<Line>) -> bool
     ensures { IsTrue result ↔ (a ≡ b) }
 {

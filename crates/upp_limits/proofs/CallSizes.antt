@@ -1,6 +1,6 @@
 -- The sizes of a call, made without unrolling its operands.
-use Rattle.std.specs.Prelude.{◌≡◌, ◌≤◌, ◌<◌, ◌^◌, Option, Some, None, IfSome, MatchOption}
-use Rattle.std.proofs.Common.{arith, subst, ◌∙◌}
+use Rattle.std.specs.Prelude.{◌≡◌, ◌≤◌, ◌<◌, ◌^◌, Option, Some, None, MatchOption}
+use Rattle.std.proofs.Common.{subst, ◌∙◌}
 use Rattle.rational.specs.Rational.{ℚ}
 use Rattle.upp_curve.specs.Curve.{SpecCurve}
 use Rattle.upp_limits.specs.declared.op_kind.OpKind.{OpKind}
@@ -11,7 +11,7 @@ use Rattle.upp_limits.specs.declared.gathered.Gathered.{Gathered}
 use Rattle.upp_limits.specs.declared.call_sizes.CallNumbers.{CallNumbers}
 use Rattle.upp_limits.specs.declared.call_sizes.CallGrids.{CallGrids}
 use Rattle.upp_limits.specs.CallNumbers.{AreCallNumbers}
-use Rattle.upp_limits.specs.Covered.{IsCoveredBy, AreGridsBelow, AreNarrowGrids}
+use Rattle.upp_limits.specs.Covered.{AreGridsBelow, AreNarrowGrids}
 use Rattle.upp_limits.specs.Gauges.{gauge_over, kind_numbers, operands_of, numbers_over}
 use Rattle.upp_limits.specs.ClosedOperands.{closed_operands}
 use Rattle.upp_limits.proofs.JoinedNumbers.{joined_assoc}
@@ -33,16 +33,7 @@ gathered_all op f g end k found e h =
     let P : Operands → Type 0 = λ k. Gathers found (joined (joined (time_alone end) own) (closed_operands k end f g)) in
     subst (Gathers found) (joined_assoc (time_alone end) own (closed_operands (operands_of op) end f g)) (subst P e h)
 
--- ---- the grids, where a bound of the gauge or the gauge itself is below 2 ^ 120
-pub narrow_by_bound : (op : OpKind) (f g : SpecCurve) (end : ℚ) (n : CallNumbers) (found : Option CallGrids) → IsCoveredBy (sizes_of end (numbers_over op f g end)) n
-    → MatchOption found (2 ^ 120 ≤ n.gauge) (AreGridsBelow n) → IfSome found (AreNarrowGrids op f g end)
-unfolding gauge_over
-narrow_by_bound op f g end n None h m = tt
-narrow_by_bound op f g end n (Some k) h m =
-    let most = h.gauge in
-    let below = m.gauge in
-    record { gauge = omega (arith, most, below); times = m.times ∙ h.times; values = m.values ∙ h.values }
-
+-- ---- the grids, where the gauge itself is below 2 ^ 120
 pub narrow_by_gauge : (op : OpKind) (f g : SpecCurve) (end : ℚ) (n : CallNumbers) (found : Option CallGrids) → AreCallNumbers (sizes_of end (numbers_over op f g end)) n
     → MatchOption found (2 ^ 120 ≤ n.gauge) (AreGridsBelow n) → MatchOption found (2 ^ 120 ≤ gauge_over op f g end) (AreNarrowGrids op f g end)
 unfolding gauge_over

@@ -143,7 +143,7 @@ holds_right T V S a b h = record {
 span_in : (T V S : ℚ → Type 0) (s : Span) → Holds T V S (span_numbers s) → SpanHolds T V S s
 span_in T V S s h = record { start = h.times.0; values = h.values; slopes = h.slopes }
 
-span_out : (T V S : ℚ → Type 0) (s : Span) → SpanHolds T V S s → Holds T V S (span_numbers s)
+pub span_out : (T V S : ℚ → Type 0) (s : Span) → SpanHolds T V S s → Holds T V S (span_numbers s)
 span_out T V S s h = record { times = (h.start, tt); values = h.values; slopes = h.slopes }
 
 ext_between : (V : ℚ → Type 0) → IsFilled V → (e : Ext) (c : ℚ) (n m : ℕ) → n ≤ m → V c → AllByRecursion V (finite e) → AllByRecursion V (finite (e +ₑ Fin (int (pos m) *ℚ c)))

@@ -110,7 +110,7 @@ pub record IsNoLess (z y : Sizes) : Type 0 where
   pub grid : grid_of y ≡ grid_of z
   pub gauge : gauge_of z ≤ gauge_of y
 
-more_gauge : (v w s dv dt ds : ℕ) → v ≤ w → 64 * (v * s * dv * dt * ds * ds) ≤ 64 * (w * s * dv * dt * ds * ds)
+pub more_gauge : (v w s dv dt ds : ℕ) → v ≤ w → 64 * (v * s * dv * dt * ds * ds) ≤ 64 * (w * s * dv * dt * ds * ds)
 more_gauge v w s dv dt ds h =
     let a : v * s ≤ w * s = mul-le-mul_right s h in
     let b : v * s * dv ≤ w * s * dv = mul-le-mul_right dv a in

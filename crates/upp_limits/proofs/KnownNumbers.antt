@@ -110,7 +110,7 @@ seen_rises z end s period rise m a n h k =
     }
 
 -- ---- the number of copies
-one_step : (n : ℕ) (d : ℚ) → int (pos 0) <ℚ d → 0 < n → Whole n d → int (pos 1) ≤ℚ d *ℚ int (pos n)
+pub one_step : (n : ℕ) (d : ℚ) → int (pos 0) <ℚ d → 0 < n → Whole n d → int (pos 1) ≤ℚ d *ℚ int (pos n)
 one_step n d some pos_n w =
     let p : int (pos 0) <ℚ d *ℚ int (pos n) = mul_pos some (nat_lt 0 n pos_n) in
     let q : int (pos 0) <ℚ int w.steps = subst (λ y. int (pos 0) <ℚ y) w.is p in

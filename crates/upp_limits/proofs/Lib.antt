@@ -32,3 +32,5 @@ pub mod CoveredCounts
 pub mod FewCopies
 pub mod LeastNumbers
 pub mod OneLimit
+pub mod Lengths
+pub mod ShortCalls

@@ -40,11 +40,11 @@ first_operands First end f g = first_numbers end f
 first_operands Both end f g = joined (first_numbers end f) (first_numbers end g)
 first_operands (FirstScaled q) end f g = first_numbers end f
 
--- the grids of a call, and a bound of its gauge
-pub record IsCoveredBy (z : Sizes) (n : CallNumbers) : Type 0 where
-  pub gauge : gauge_of z ≤ n.gauge
-  pub times : n.times ≡ z.dt
-  pub values : n.values ≡ grid_of z
+-- the grids of sizes whose gauge is below the limit
+pub record AreGridsOf (z : Sizes) (g : CallGrids) : Type 0 where
+  pub gauge : gauge_of z < 2 ^ 120
+  pub times : g.times ≡ z.dt
+  pub values : g.values ≡ grid_of z
 
 -- the grids among numbers whose gauge is below the limit
 pub record AreGridsBelow (n : CallNumbers) (g : CallGrids) : Type 0 where

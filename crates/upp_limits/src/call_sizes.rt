@@ -1,20 +1,28 @@
 //! The numbers that limit a call over a known end of its window.
 
 ghost use Rattle.std.specs.Prelude.{◌≡◌, ◌^◌, ◌≤◌, IfSome, MatchOption};
-ghost use Rattle.upp_limits.specs.Limits.{Numbers, joined, sizes_of};
+ghost use Rattle.upp_limits.specs.Limits.{Numbers, joined, time_alone, sizes_of};
 ghost use Rattle.upp_limits.specs.Gathered.{Gathers};
 ghost use Rattle.upp_limits.specs.Gauges.{gauge_over, kind_numbers, numbers_over};
 ghost use Rattle.upp_limits.specs.CallNumbers.{AreCallNumbers};
-ghost use Rattle.upp_limits.specs.Covered.{IsCoveredBy, AreGridsBelow, AreNarrowGrids};
+ghost use Rattle.upp_limits.specs.Covered.{AreGridsBelow, AreGridsOf, AreNarrowGrids};
 
-use crate::first_copies::{most_rises, numbers_above, with_first_operands};
+use crate::first_copies::{most_rises, with_first_operands, with_rise};
 use crate::gathered::Gathered;
+use crate::gauges::is_narrow;
 use crate::op_kind::OpKind;
 use crate::operand_numbers::with_operands;
 use crate::own_window::{OwnNumbers, numbers_of};
+use crate::short_calls::is_short_call;
 use fraction128::Frac;
 use rational::Extended;
 use upp_curve::Curve;
+
+/// A steepness and an end below this have a product below 2^120.
+const LONG: u128 = 1 << 60;
+
+/// Three common denominators below this have a product below 2^60.
+const COARSE: u128 = 1 << 20;
 
 /// The gauge of a call over a window's end, and the grids of its times and of its values.
 #[derive(Debug, Clone, Copy)]
@@ -92,32 +100,46 @@ pub fn call_numbers(op: &OpKind, f: &Curve, g: &Curve, end: Frac) -> Option<Call
     }
 }
 
-/// The grids of a call over the end of its window, and a bound of its gauge, by the first copies of the operands' pieces
-/// and by how far the others are from them at most. None where such a bound is not found.
-fn covered_numbers(op: &OpKind, f: &Curve, g: &Curve, end: Frac) -> Option<CallNumbers>
-    ensures { IfSome result (IsCoveredBy (sizes_of end (numbers_over op.now f.now g.now end))) }
+/// The grids of what was gathered, the window's end first, where the lengths of its sizes tell that the gauge is below
+/// 2^120. None for some that are below that too.
+fn grids_of(found: &Gathered, end: Frac) -> Option<CallGrids>
+    ensures { (n : Numbers) → Gathers found.now (joined (time_alone end) n)
+        → IfSome result (AreGridsOf (sizes_of end n)) }
+{
+    let top = end.numerator_size();
+    if top >= LONG || found.steepness >= LONG {
+        return None;
+    }
+    if found.dv >= COARSE || found.dt >= COARSE || found.ds >= COARSE {
+        return None;
+    }
+    let values = found.dv * found.dt * found.ds;
+    let largest = found.largest.max(found.steepness * top);
+    if is_narrow(largest, found.steepness, values * found.ds) {
+        return Some(CallGrids {
+            times: found.dt,
+            values,
+        });
+    }
+    None
+}
+
+/// The grids of a call over the end of its window by the first copies of the operands' pieces and by how far the others
+/// are from them at most. None where these do not tell that the gauge is below 2^120.
+fn covered_grids(op: &OpKind, f: &Curve, g: &Curve, end: Frac) -> Option<CallGrids>
+    ensures { IfSome result (AreNarrowGrids op.now f.now g.now end) }
 {
     f.keeps();
     g.keeps();
     let own = with_kind(Gathered::nothing().with_time(end), op);
-    match with_first_operands(own, op.operands(), f, g, end) {
-        Some(found) => match most_rises(op.operands(), f, g, end) {
-            Some(rise) => match numbers_above(found, rise, end) {
-                Some(numbers) => Some(without_end(&numbers)),
+    match with_first_operands(own, end, op.operands(), f, g) {
+        Some(first) => match most_rises(op.operands(), f, g, end) {
+            Some(rise) => match with_rise(first, rise) {
+                Some(found) => grids_of(&found, end),
                 None => None,
             },
             None => None,
         },
-        None => None,
-    }
-}
-
-/// The grids, where already the bound of the gauge is below 2^120.
-fn covered_grids(op: &OpKind, f: &Curve, g: &Curve, end: Frac) -> Option<CallGrids>
-    ensures { IfSome result (AreNarrowGrids op.now f.now g.now end) }
-{
-    match covered_numbers(op, f, g, end) {
-        Some(numbers) => grids_below(&numbers),
         None => None,
     }
 }
@@ -133,14 +155,41 @@ fn exact_grids(op: &OpKind, f: &Curve, g: &Curve, end: Frac) -> Option<CallGrids
     }
 }
 
-/// The grids of a call over the end of its window. None exactly where its gauge is 2^120 or more. The gauge itself is
-/// made only where a bound of it, which is quicker to make, does not tell. No memory is taken and nothing is unrolled.
-pub fn narrow_grids(op: &OpKind, f: &Curve, g: &Curve, end: Frac) -> Option<CallGrids>
+/// The grids of a call whose numbers are all short: of 1, and the gauge is below the limit.
+#[inline]
+fn short_grids(op: &OpKind, f: &Curve, g: &Curve, end: Frac) -> Option<CallGrids>
+    ensures { IfSome result (AreNarrowGrids op.now f.now g.now end) }
+{
+    if is_short_call(op, f, g, end) {
+        return Some(CallGrids {
+            times: 1,
+            values: 1,
+        });
+    }
+    None
+}
+
+/// The grids where not all numbers of the call are short. None exactly where its gauge is 2^120 or more.
+#[inline(never)]
+fn long_grids(op: &OpKind, f: &Curve, g: &Curve, end: Frac) -> Option<CallGrids>
     ensures { MatchOption result (2 ^ 120 ≤ gauge_over op.now f.now g.now end)
         (AreNarrowGrids op.now f.now g.now end) }
 {
     match covered_grids(op, f, g, end) {
         Some(grids) => Some(grids),
         None => exact_grids(op, f, g, end),
+    }
+}
+
+/// The grids of a call over the end of its window. None exactly where its gauge is 2^120 or more. The gauge itself is
+/// made only where a look at each number by itself does not tell, nor a bound of it, which is quicker to make. No memory
+/// is taken and nothing is unrolled.
+pub fn narrow_grids(op: &OpKind, f: &Curve, g: &Curve, end: Frac) -> Option<CallGrids>
+    ensures { MatchOption result (2 ^ 120 ≤ gauge_over op.now f.now g.now end)
+        (AreNarrowGrids op.now f.now g.now end) }
+{
+    match short_grids(op, f, g, end) {
+        Some(grids) => Some(grids),
+        None => long_grids(op, f, g, end),
     }
 }

@@ -29,6 +29,9 @@ pub struct Listing<'a> {
     pub after: Option<Frac>,
 }
 
+/// A piece as it is read, and where the next one starts.
+pub(crate) type Reading = (Piece, Option<Frac>);
+
 /// A whole number as a fraction.
 pub fn whole(n: u128) -> Option<Frac>
     ensures value { IfSome result (λ f. f ≡ int (pos n)) }
@@ -62,6 +65,7 @@ fn with_first_and_last(
 }
 
 /// So many copies of a piece more: the first, and the values of the last.
+#[inline(never)]
 fn with_copies(
     g: Gathered,
     piece: &Piece,
@@ -98,56 +102,28 @@ fn with_once(g: Gathered, piece: &Piece, next: &Option<Frac>, end: Frac) -> Opti
     }
 }
 
-// The same, also of a periodic tail: a call of its own, since the first copies alone never need it.
-#[inline(never)]
-fn with_repeated(
-    g: Gathered,
-    piece: &Piece,
-    next: &Option<Frac>,
-    tail: &Tail,
-    end: Frac,
-) -> Option<Gathered>
-    requires start { int (pos 0) ≤ℚ piece.now.x }
+/// What of a piece starts before `end` more: itself, or from the rank of a periodic tail on its copies.
+#[inline(always)]
+pub(crate) fn with_below(g: Gathered, read: &Reading, tail: &Tail, end: Frac) -> Option<Gathered>
+    requires start { int (pos 0) ≤ℚ read.now.0.x }
     requires period { HasPeriod tail.now }
-    ensures value { let span : Span = record { piece = piece.now; next = next.now } in
+    ensures value { let span : Span = record { piece = read.now.0; next = read.now.1 } in
         IfSome result (λ r. (n : Numbers) → Gathers g n → Gathers r (joined n (closed_span tail.now end span))) }
-    ensures fits { let span : Span = record { piece = piece.now; next = next.now } in
+    ensures fits { let span : Span = record { piece = read.now.0; next = read.now.1 } in
         Knows tail.now end span → IsSome result }
 {
     match tail {
         Tail::Periodic { rank, period, rise } => {
-            if is_less(piece.x, *rank) {
-                return with_once(g, piece, next, end);
+            if is_less(read.0.x, *rank) {
+                return with_once(g, &read.0, &read.1, end);
             }
-            let copies = count_before(piece.x, *period, end);
+            let copies = count_before(read.0.x, *period, end);
             if copies == u128::MAX {
                 return None;
             }
-            with_copies(g, piece, next, copies, *rise)
+            with_copies(g, &read.0, &read.1, copies, *rise)
         }
-        _ => with_once(g, piece, next, end),
-    }
-}
-
-/// What of a piece starts before `end` more: itself, or from the rank of a periodic tail on its copies.
-#[inline(always)]
-pub(crate) fn with_below(
-    g: Gathered,
-    piece: &Piece,
-    next: &Option<Frac>,
-    tail: &Tail,
-    end: Frac,
-) -> Option<Gathered>
-    requires start { int (pos 0) ≤ℚ piece.now.x }
-    requires period { HasPeriod tail.now }
-    ensures value { let span : Span = record { piece = piece.now; next = next.now } in
-        IfSome result (λ r. (n : Numbers) → Gathers g n → Gathers r (joined n (closed_span tail.now end span))) }
-    ensures fits { let span : Span = record { piece = piece.now; next = next.now } in
-        Knows tail.now end span → IsSome result }
-{
-    match tail {
-        Tail::Periodic { .. } => with_repeated(g, piece, next, tail, end),
-        _ => with_once(g, piece, next, end),
+        _ => with_once(g, &read.0, &read.1, end),
     }
 }
 
@@ -185,7 +161,7 @@ pub fn next_start(pieces: &[Piece], i: usize, after: &Option<Frac>) -> Option<Fr
 
 /// Piece number i as it is read, and where the next one starts.
 #[inline(always)]
-pub(crate) fn span_at(of: &Listing, i: usize) -> (Piece, Option<Frac>)
+pub(crate) fn span_at(of: &Listing, i: usize) -> Reading
     requires listed { IsListed of.now.pieces.now of.now.tail.now of.now.after }
     requires inside { i < length of.now.pieces.now }
     ensures start { int (pos 0) ≤ℚ result.0.x }
@@ -199,6 +175,8 @@ pub(crate) fn span_at(of: &Listing, i: usize) -> (Piece, Option<Frac>)
 }
 
 /// The pieces of a curve more, as far as they and those of their copies that `counted` makes start before `end`.
+// Written out for each of the two tails that it is called with, so that the sizes stay in registers.
+#[inline(always)]
 pub(crate) fn with_pieces(g: Gathered, of: &Listing, counted: &Tail, end: Frac) -> Option<Gathered>
     requires listed { IsListed of.now.pieces.now of.now.tail.now of.now.after }
     requires period { HasPeriod counted.now }
@@ -208,8 +186,8 @@ pub(crate) fn with_pieces(g: Gathered, of: &Listing, counted: &Tail, end: Frac) 
 {
     let mut found = g;
     for i in 0..of.pieces.len() {
-        let (piece, next) = span_at(of, i);
-        match with_below(found, &piece, &next, counted, end) {
+        let read = span_at(of, i);
+        match with_below(found, &read, counted, end) {
             Some(more) => found = more,
             None => return None,
         }
@@ -218,6 +196,7 @@ pub(crate) fn with_pieces(g: Gathered, of: &Listing, counted: &Tail, end: Frac) 
 }
 
 /// The rank, the period and the rise of a tail more.
+#[inline]
 pub(crate) fn with_tail(g: Gathered, tail: &Tail) -> Gathered
     ensures { (n : Numbers) → Gathers g n → Gathers result (joined n (tail_numbers tail.now)) }
 {

@@ -3,9 +3,8 @@
 ghost use Rattle.std.specs.Prelude.{ℕ, ◌≡◌, ◌+◌, ◌*◌, ◌≤◌, ◌<◌, pos, IfSome};
 ghost use Rattle.rational.specs.Rational.{ℚ, int, ◌≤ℚ◌, ◌<ℚ◌};
 ghost use Rattle.rational.specs.Gauge.{bound_of};
-ghost use Rattle.upp_limits.specs.Limits.{Numbers, joined, time_alone, value_alone, sizes_of};
+ghost use Rattle.upp_limits.specs.Limits.{Numbers, joined, time_alone, value_alone};
 ghost use Rattle.upp_limits.specs.Gathered.{Gathers};
-ghost use Rattle.upp_limits.specs.OwnWindow.{AreNumbers};
 ghost use Rattle.upp_limits.specs.ClosedForm.{first_numbers};
 ghost use Rattle.upp_limits.specs.Covered.{IsMostRise, AreMostRises, first_operands};
 
@@ -13,7 +12,6 @@ use crate::curve_numbers::{whole, with_first_copies};
 use crate::gathered::Gathered;
 use crate::op_kind::Operands;
 use crate::operand_numbers::listing_of;
-use crate::own_window::{OwnNumbers, numbers_of};
 use crate::start_counts::count_before;
 use fraction128::{Frac, is_less};
 use upp_curve::{Curve, Tail};
@@ -28,10 +26,10 @@ fn with_first(g: Gathered, c: &Curve, end: Frac) -> Option<Gathered>
 /// The numbers of the first copies of a call's operands more. None also for a scaled operand.
 pub(crate) fn with_first_operands(
     g: Gathered,
+    end: Frac,
     operands: Operands,
     f: &Curve,
     other: &Curve,
-    end: Frac,
 ) -> Option<Gathered>
     ensures { IfSome result (λ r. (n : Numbers) → Gathers g n
         → Gathers r (joined n (first_operands operands end f.now other.now))) }
@@ -92,22 +90,18 @@ pub(crate) fn most_rises(operands: Operands, f: &Curve, other: &Curve, end: Frac
     }
 }
 
-/// The numbers over a window's end of what was gathered, the end first, and of a whole value more that is at least the
-/// largest of it and `rise` together.
-pub(crate) fn numbers_above(found: Gathered, rise: u128, end: Frac) -> Option<OwnNumbers>
-    ensures { IfSome result (λ r. (n : Numbers) → Gathers found (joined (time_alone end) n)
+/// A whole value more that is at least the largest one and `rise` together.
+pub(crate) fn with_rise(found: Gathered, rise: u128) -> Option<Gathered>
+    ensures { IfSome result (λ r. (n : Numbers) (end : ℚ) → Gathers found (joined (time_alone end) n)
         → (m : ℕ) × (bound_of n.values + rise ≤ m)
-        × AreNumbers end (sizes_of end (joined n (value_alone (int (pos m))))) r) }
+        × Gathers r (joined (time_alone end) (joined n (value_alone (int (pos m)))))) }
 {
     if found.largest == u128::MAX {
         return None;
     }
     match found.largest.checked_add(rise) {
         Some(most) => match whole(most) {
-            Some(bound) => match numbers_of(found.with_value(bound), end) {
-                Some(numbers) => Some(numbers),
-                None => None,
-            },
+            Some(bound) => Some(found.with_value(bound)),
             None => None,
         },
         None => None,

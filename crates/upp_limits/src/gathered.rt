@@ -158,6 +158,7 @@ impl Gathered {
     }
 
     /// A piece more: its start, its values and its slope, where the steps to the values fit.
+    #[inline(always)]
     pub fn with_span(self, piece: &Piece, next: &Option<Frac>) -> Option<Gathered>
         ensures value { let span : Span = record { piece = piece.now; next = next.now } in
             IfSome result (λ r. (n : Numbers) → Gathers self n → Gathers r (joined n (span_numbers span))) }

@@ -1,6 +1,6 @@
 //! The gauge of a call.
 
-ghost use Rattle.std.specs.Prelude.{ℕ, ◌≡◌, ◌<◌, ◌≤◌, ◌*◌, ◌^◌, pos, nat_abs, IfSome, IfNone, MatchOption};
+ghost use Rattle.std.specs.Prelude.{ℕ, ◌≡◌, ◌<◌, ◌≤◌, ◌*◌, ◌^◌, pos, nat_abs, IsTrue, IfSome, IfNone, MatchOption};
 ghost use Rattle.rational.specs.Rational.{ℚ, int, ◌*ℚ◌, ◌≤ℚ◌};
 ghost use Rattle.rational.specs.Gauge.{Kept};
 ghost use Rattle.min_plus.specs.WholeUp.{whole_up};
@@ -45,6 +45,21 @@ pub fn product(v: u128, s: u128, dv: u128, dt: u128, ds: u128) -> Option<u128>
     } else {
         Some(whole)
     }
+}
+
+/// Whether 64 a b c is below 2^120, told by how long the three numbers are; not for each that is.
+#[inline]
+pub(crate) fn is_narrow(a: u128, b: u128, c: u128) -> bool
+    ensures { IsTrue result → 64 * (a * b * c) < 2 ^ 120 }
+{
+    let first = a.leading_zeros();
+    let second = b.leading_zeros();
+    let third = c.leading_zeros();
+    // Together they have at most 113 digits.
+    if first + second + third < 3 * 128 - 113 {
+        return false;
+    }
+    true
 }
 
 /// The gauge of the numbers gathered, the window's end first. None where it is 2^128 or more.

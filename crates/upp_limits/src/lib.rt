@@ -16,6 +16,7 @@ mod own_limits;
 mod own_window;
 mod scaled_numbers;
 mod seen;
+mod short_calls;
 pub mod start_counts;
 mod starts;
 

@@ -59,6 +59,7 @@ pub fn is_infinite_at(last: &Piece, rank: Frac) -> bool
 }
 
 /// The rank, or one later unless `keeps`. None exactly where that is one later and does not fit.
+#[inline]
 pub fn later_unless(keeps: bool, rank: Frac) -> Option<Frac>
     ensures value { IfSome result (λ t. t ≡ later_unless keeps rank) }
     ensures fits { SumFits rank (int (pos 1)) → IsSome result }

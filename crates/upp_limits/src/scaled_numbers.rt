@@ -15,7 +15,7 @@ ghost use Rattle.upp_limits.specs.ClosedForm.{closed_span, closed_spans, closed_
 ghost use Rattle.upp_limits.specs.Gauges.{scaled_line, scaled_piece, scaled_tail, scaled_curve};
 ghost use Rattle.upp_limits.specs.ClosedOperands.{ValueScales, LineScales, PieceScales, TailScales, scaled_span, KnowsTimes, KnowsScaled};
 
-use crate::curve_numbers::{Listing, span_at, with_below, with_tail};
+use crate::curve_numbers::{Listing, Reading, span_at, with_below, with_tail};
 use crate::gathered::Gathered;
 use fraction128::{Ext, Frac, is_less};
 use rational::Extended;
@@ -101,24 +101,23 @@ pub fn scaled_tail(tail: &Tail, factor: Frac) -> Option<Tail>
 fn with_scaled_below(
     g: Gathered,
     factor: Frac,
-    piece: &Piece,
-    next: &Option<Frac>,
+    read: &Reading,
     tail: &Tail,
     end: Frac,
 ) -> Option<Gathered>
-    requires start { int (pos 0) ≤ℚ piece.now.x }
+    requires start { int (pos 0) ≤ℚ read.now.0.x }
     requires period { HasPeriod tail.now }
-    ensures value { let span : Span = record { piece = piece.now; next = next.now } in
+    ensures value { let span : Span = record { piece = read.now.0; next = read.now.1 } in
         IfSome result (λ r. (n : Numbers) → Gathers g n
         → Gathers r (joined n (closed_span tail.now end (scaled_span factor span)))) }
-    ensures fits { let span : Span = record { piece = piece.now; next = next.now } in
+    ensures fits { let span : Span = record { piece = read.now.0; next = read.now.1 } in
         KnowsTimes factor tail.now end span → IsSome result }
 {
-    if !is_less(piece.x, end) {
+    if !is_less(read.0.x, end) {
         return Some(g);
     }
-    match scaled_piece(piece, factor) {
-        Some(more) => with_below(g, &more, next, tail, end),
+    match scaled_piece(&read.0, factor) {
+        Some(more) => with_below(g, &(more, read.1), tail, end),
         None => None,
     }
 }
@@ -134,8 +133,8 @@ fn with_scaled_pieces(g: Gathered, factor: Frac, of: &Listing, end: Frac) -> Opt
 {
     let mut found = g;
     for i in 0..of.pieces.len() {
-        let (piece, next) = span_at(of, i);
-        match with_scaled_below(found, factor, &piece, &next, of.tail, end) {
+        let read = span_at(of, i);
+        match with_scaled_below(found, factor, &read, of.tail, end) {
             Some(more) => found = more,
             None => return None,
         }

@@ -4,6 +4,7 @@ ghost use Rattle.std.specs.Prelude.{◌≡◌, ◌↔◌, IfOk, IfErr, IfSome};
 ghost use Rattle.upp_curve.specs.affine_segment.Values.{line_at};
 ghost use Rattle.upp_curve.specs.affine_segment.Steps.{IsWideValue, IsWideCross};
 
+use crate::affine_segment::short_line::short_value;
 use fraction128::{Ext, Frac, Wide};
 
 /// A line, by its value at 0 and its slope.
@@ -27,6 +28,8 @@ pub struct Piece {
 }
 
 /// The value of a line at t. Refused only where slope times t, or its sum with the value at 0, does not fit.
+// Most numbers are whole: written out where it is called, their value takes a few steps and no place in memory.
+#[inline(always)]
 pub fn value(line: &Line, t: Frac) -> Result<Frac, Wide>
     ensures value { IfOk result (λ v. v ≡ line_at line.now t) }
     ensures wide { IfErr result (IsWideValue line.now t) }
@@ -35,8 +38,32 @@ pub fn value(line: &Line, t: Frac) -> Result<Frac, Wide>
     if line.slope == Frac::zero() {
         return Ok(line.icept);
     }
+    if line.slope.denominator() == 1 && t.denominator() == 1 && line.icept.denominator() == 1 {
+        return value_by_steps(line, t);
+    }
+    value_apart(line, t)
+}
+
+// The value by its two steps.
+#[inline(always)]
+fn value_by_steps(line: &Line, t: Frac) -> Result<Frac, Wide>
+    ensures value { IfOk result (λ v. v ≡ line_at line.now t) }
+    ensures wide { IfErr result (IsWideValue line.now t) }
+{
     let risen = Frac::mul(line.slope, t)?;
     Frac::add(line.icept, risen)
+}
+
+// A call of its own, so that only the value of whole numbers is written out where it is called.
+#[inline(never)]
+fn value_apart(line: &Line, t: Frac) -> Result<Frac, Wide>
+    ensures value { IfOk result (λ v. v ≡ line_at line.now t) }
+    ensures wide { IfErr result (IsWideValue line.now t) }
+{
+    match short_value(line, t) {
+        Some(v) => Ok(v),
+        None => value_by_steps(line, t),
+    }
 }
 
 /// The time at which two lines meet; `None` exactly where their slopes are equal. Refused only where the difference of

@@ -8,6 +8,7 @@ ghost use Rattle.upp_curve.specs.affine_segment.Reading.{piece_in, piece_value, 
 ghost use Rattle.upp_curve.specs.affine_segment.Fits.{LineFits, LineFitsAt, ReadFits};
 
 use crate::affine_segment::line::{Line, Piece};
+use crate::affine_segment::short_line::short_value;
 use fraction128::{Ext, Frac, product, sum};
 use rational::Extended;
 use std::cmp::Ordering;
@@ -22,7 +23,22 @@ pub fn line_at(line: &Line, t: Frac) -> Frac
     if line.slope == Frac::zero() {
         return line.icept;
     }
-    sum(line.icept, product(line.slope, t))
+    if line.slope.denominator() == 1 && t.denominator() == 1 && line.icept.denominator() == 1 {
+        return sum(line.icept, product(line.slope, t));
+    }
+    line_apart(line, t)
+}
+
+// A call of its own, so that only the value of whole numbers is written out where it is called.
+#[inline(never)]
+fn line_apart(line: &Line, t: Frac) -> Frac
+    requires { LineFits t line.now }
+    ensures { result ≡ line_at line.now t }
+{
+    match short_value(line, t) {
+        Some(v) => v,
+        None => sum(line.icept, product(line.slope, t)),
+    }
 }
 
 /// The value at t of a line that may be missing: no line is infinity.

@@ -1,4 +1,4 @@
-use Rattle.std.proofs.Common.{◌≡◌, ap, subst, sym, pos, get_or}
+use Rattle.std.proofs.Common.{ap, subst, sym, pos, get_or}
 use Rattle.rational.specs.Rational.{◌≤ℚ◌, int}
 use Rattle.upp_limits.proofs.PieceLists.{starts_nonneg, every_at, next_span}
 use Rattle.upp_limits.proofs.curve_numbers.span_at.Goals as goal

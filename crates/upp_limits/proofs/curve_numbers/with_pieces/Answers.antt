@@ -9,14 +9,14 @@ use Rattle.upp_limits.proofs.curve_numbers.with_pieces.Goals as goal
 
 pub returns-in-None-clause-fits : goal.returns-in-None-clause-fits
 returns-in-None-clause-fits c = λ k.
-    let s : Span = record { piece = c.span_at-piece.result.0; next = c.span_at-piece.result.1 } in
-    let e = c.span_at-piece.ensures.span in
+    let s : Span = record { piece = c.span_at-read.result.0; next = c.span_at-read.result.1 } in
+    let e = c.span_at-read.ensures.span in
     c.in-None.ensures.fits (span_at (Knows c.args.counted.now c.args.end) c.args.of.now.tail.now c.args.of.now.pieces.now c.loop-i.i s (spans c.args.of.now.tail.now (drop (c.loop-i.i + 1) c.args.of.now.pieces.now)) k e)
 
 pub loop-i-preserved : goal.loop-i-preserved
 loop-i-preserved c = λ n h.
-    let s : Span = record { piece = c.span_at-piece.result.0; next = c.span_at-piece.result.1 } in
-    let e = c.span_at-piece.ensures.span in
+    let s : Span = record { piece = c.span_at-read.result.0; next = c.span_at-read.result.1 } in
+    let e = c.span_at-read.ensures.span in
     let (m, k, w) = c.loop-i.invariant n h in (
       joined m (closed_span c.args.counted.now c.args.end s),
       c.in-Some.ensures.value m k,
