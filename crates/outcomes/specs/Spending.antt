@@ -22,3 +22,7 @@ pub record Spends {A E S : Type 0} (count counter : S → ℕ) (Works : ℕ → 
   pub memory : r ≡ Err lacking → Ends (count new - count old)
   -- it is the same counter that counts
   pub same : counter new ≡ counter old
+
+-- the same of a call that is given the counter itself: there is but that one
+abbrev pub SpendsSteps : {A E : Type 0} → (ℕ → Type 0) → E → (ℕ → Type 0) → (old new : ℕ) → Result A E → Type 0
+SpendsSteps Works lacking Ends old new r = Spends (λ (n : ℕ). n) (λ (n : ℕ). 0) Works lacking Ends old new r

@@ -31,9 +31,3 @@ abbrev pub IsRefusal : (Cell → OpFault → Type 0) → AnalysisFault → Type 
 IsRefusal IsFirst (TooMany c) = IsFirst c operator.TooMany
 IsRefusal IsFirst (TooWide c) = IsFirst c operator.TooWide
 IsRefusal IsFirst NoMemory = Unit {0}
-
--- where memory is wanting, it is so at some place
-abbrev pub WantsMemory : Type 0 → AnalysisFault → Type 0
-WantsMemory P (TooMany c) = Unit {0}
-WantsMemory P (TooWide c) = Unit {0}
-WantsMemory P NoMemory = P

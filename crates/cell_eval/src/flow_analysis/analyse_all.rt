@@ -1,13 +1,15 @@
 //! The analysis of a network by the program's evaluator.
 
-ghost use Rattle.std.specs.Prelude.{◌≡◌, ◌+◌, ◌-◌, ◌≤◌, sum_by, IfOk, IfErr, OnOk};
+ghost use Rattle.std.specs.Prelude.{sum_by, IfOk, IfErr};
+ghost use Rattle.outcomes.specs.Stages.{IsEqual};
+ghost use Rattle.outcomes.specs.Spending.{SpendsSteps};
 ghost use Rattle.net_model.specs.Orders.{IsOrder};
 ghost use Rattle.net_cells.specs.Equations.{MeetsEquations};
 ghost use Rattle.net_cells.specs.FirstOver.{AnswersAll, FirstOver};
 ghost use Rattle.net_cells.specs.Order.{evaluation_order};
 ghost use Rattle.net_cells.specs.Work.{work};
 ghost use Rattle.net_cells.specs.MemoryEnds.{MemoryEnds};
-ghost use Rattle.cell_eval.specs.flow_analysis.Analyses.{HasNothingElse, IsRefusal, WantsMemory};
+ghost use Rattle.cell_eval.specs.flow_analysis.Analyses.{HasNothingElse, IsRefusal};
 
 use crate::Counted;
 use crate::flow_analysis::in_order::analysed_in_order;
@@ -34,11 +36,8 @@ pub fn analyse<L: Ledger>(
     ensures nothing { IfOk result (λ t. HasNothingElse (⟦<Analysis<Value> as Table<Value>>⟧.at t)
         (evaluation_order net.now order.now)) }
     ensures refused { IfErr result (IsRefusal (FirstOver net.now order.now)) }
-    ensures memory { IfErr result (WantsMemory
-        (MemoryEnds net.now (evaluation_order net.now order.now) (steps.new - steps.old))) }
-    ensures exact { OnOk result (steps.new ≡ steps.old + sum_by (work net.now) (evaluation_order net.now order.now)) }
-    ensures rises { steps.old ≤ steps.new }
-    ensures within { steps.new ≤ steps.old + sum_by (work net.now) (evaluation_order net.now order.now) }
+    ensures spends { SpendsSteps (IsEqual (sum_by (work net.now) (evaluation_order net.now order.now)))
+        AnalysisFault.NoMemory (MemoryEnds net.now (evaluation_order net.now order.now)) steps.old steps.new result }
 {
     let mut counted = Counted { alloc, steps };
     analysed_in_order(alloc, net, order, &mut counted)

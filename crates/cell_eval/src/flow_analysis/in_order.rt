@@ -1,13 +1,15 @@
 //! All cells, by an order of the servers.
 
-ghost use Rattle.std.specs.Prelude.{◌≡◌, ◌+◌, ◌-◌, ◌≤◌, sum_by, IfOk, IfErr, OnOk};
+ghost use Rattle.std.specs.Prelude.{sum_by, IfOk, IfErr};
+ghost use Rattle.outcomes.specs.Stages.{IsEqual};
+ghost use Rattle.outcomes.specs.Spending.{Spends};
 ghost use Rattle.net_model.specs.Orders.{IsOrder};
 ghost use Rattle.net_cells.specs.Equations.{MeetsEquations};
 ghost use Rattle.net_cells.specs.FirstOver.{AnswersAll, FirstOver};
 ghost use Rattle.net_cells.specs.Order.{evaluation_order};
 ghost use Rattle.net_cells.specs.Work.{work};
 ghost use Rattle.net_cells.specs.MemoryEnds.{MemoryEnds};
-ghost use Rattle.cell_eval.specs.flow_analysis.Analyses.{HasNothingElse, IsRefusal, WantsMemory};
+ghost use Rattle.cell_eval.specs.flow_analysis.Analyses.{HasNothingElse, IsRefusal};
 
 use crate::flow_analysis::each_cell::analysed;
 use net_cells::cell_table::{Analysis, AnalysisFault, CellValue, Evaluator, Table};
@@ -32,13 +34,8 @@ pub fn analysed_in_order<V: CellValue + Drop, E: Evaluator<V>>(
     ensures nothing { IfOk result (λ t. HasNothingElse (⟦<Analysis<V> as Table<V>>⟧.at t)
         (evaluation_order net.now order.now)) }
     ensures refused { IfErr result (IsRefusal (FirstOver net.now order.now)) }
-    ensures memory { IfErr result (WantsMemory
-        (MemoryEnds net.now (evaluation_order net.now order.now) (E.count eval.new - E.count eval.old))) }
-    ensures exact { OnOk result
-        (E.count eval.new ≡ E.count eval.old + sum_by (work net.now) (evaluation_order net.now order.now)) }
-    ensures rises { E.count eval.old ≤ E.count eval.new }
-    ensures within { E.count eval.new ≤ E.count eval.old + sum_by (work net.now) (evaluation_order net.now order.now) }
-    ensures same { E.counter eval.new ≡ E.counter eval.old }
+    ensures spends { Spends E.count E.counter (IsEqual (sum_by (work net.now) (evaluation_order net.now order.now)))
+        AnalysisFault.NoMemory (MemoryEnds net.now (evaluation_order net.now order.now)) eval.old eval.new result }
 {
     match cells(alloc, net, order) {
         Ok(all) => analysed(alloc, net, &all, eval),
