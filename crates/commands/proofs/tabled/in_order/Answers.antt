@@ -10,7 +10,7 @@ pub returns-in-Ok-clause-table : goal.returns-in-Ok-clause-table
 returns-in-Ok-clause-table g c = record {
   order = c.args.order.now;
   ordered = c.requires.order;
-  table = record { answers = c.in-Ok.ensures.answers; meets = c.in-Ok.ensures.meets };
+  table = record { answers = c.in-Ok.ensures.table.answers; meets = c.in-Ok.ensures.table.meets };
 }
 
 pub returns-in-Ok-clause-exact : goal.returns-in-Ok-clause-exact

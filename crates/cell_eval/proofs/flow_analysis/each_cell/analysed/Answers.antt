@@ -69,13 +69,19 @@ loop-cell-preserved g c =
       same = c.in-Ok.ensures.same ∙ c.loop-cell.invariant.same;
     }
 
-pub returns-clause-meets : goal.returns-clause-meets
-returns-clause-meets g c =
+pub returns-clause-table : goal.returns-clause-table
+returns-clause-table g c =
     let net = c.args.net.now in
+    let cells = c.args.cells.now in
     let at : CellTable = held g.V.CellValue.meaning c.loop-cell.table.rows.items in
-    answers_meet net c.requires.order at c.keeps.ensures c.requires.servers
-    (subst (λ (xs : List Cell). AnswersAll net at xs)
-    (take_all c.loop-cell.cell-index c.args.cells.now (omega arith) ∙ c.requires.are) c.loop-cell.invariant.answers)
+    let all : take c.loop-cell.cell-index cells ≡ cells = take_all c.loop-cell.cell-index cells (omega arith) in
+    let answers : AnswersAll net at cells = subst (λ (xs : List Cell). AnswersAll net at xs) all c.loop-cell.invariant.answers in
+    record {
+      meets = answers_meet net c.requires.order at c.keeps.ensures c.requires.servers
+          (subst (λ (xs : List Cell). AnswersAll net at xs) c.requires.are answers);
+      answers = answers;
+      nothing = subst (λ (xs : List Cell). HasNothingElse at xs) all c.loop-cell.invariant.nothing;
+    }
 
 -- ---- what is counted, and want of memory
 pub returns-in-Err-clause-spends : goal.returns-in-Err-clause-spends

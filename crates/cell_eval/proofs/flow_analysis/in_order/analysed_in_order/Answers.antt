@@ -6,16 +6,15 @@ use Rattle.net_cells.specs.declared.cell.Cell.{Cell}
 use Rattle.net_cells.specs.cell_table.Rows.{held}
 use Rattle.net_cells.specs.declared.cell_table.fault.AnalysisFault.TheVariants.{NoMemory}
 use Rattle.net_cells.specs.Work.{work}
-use Rattle.cell_eval.specs.flow_analysis.Analyses.{HasNothingElse}
+use Rattle.cell_eval.specs.flow_analysis.Analyses.{IsTableOf}
 use Rattle.net_cells.specs.MemoryEnds.{MemoryEnds, at_none}
 use Rattle.cell_eval.proofs.flow_analysis.in_order.analysed_in_order.Goals as goal
 
-pub returns-in-Ok-clause-nothing : goal.returns-in-Ok-clause-nothing
-returns-in-Ok-clause-nothing g c =
+pub returns-in-Ok-clause-table : goal.returns-in-Ok-clause-table
+returns-in-Ok-clause-table g c =
     subst
-    (λ (xs : List Cell). IfOk c.analysed.result
-    (λ t. HasNothingElse (held g.V.CellValue.meaning t.rows.items) xs))
-    (c.deref.ensures.value ∙ c.in-Ok.ensures) c.analysed.ensures.nothing
+    (λ (xs : List Cell). IfOk c.analysed.result (λ t. IsTableOf c.args.net.now xs (held g.V.CellValue.meaning t.rows.items)))
+    (c.deref.ensures.value ∙ c.in-Ok.ensures) c.analysed.ensures.table
 
 pub returns-in-Ok-clause-spends : goal.returns-in-Ok-clause-spends
 returns-in-Ok-clause-spends g c =
