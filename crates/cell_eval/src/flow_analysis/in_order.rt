@@ -42,10 +42,9 @@ pub fn analysed_in_order<V: CellValue + Drop, E: Evaluator<V>>(
     }
 }
 
-/// The values of all cells of a network, by the order of its servers; each is made once, after those that it is made
-/// of. Refused for the first cell with an operator over a limit, and then the fault names it and which limit that is,
-/// or where there is no memory, and then each operator that is counted is within its limits. Each operator on curves that
-/// is applied raises `steps` by 1: on success by the work of all cells, and by no more than that where it is refused.
+/// The same by the evaluator of the program: each operator on curves that is applied raises `steps` by 1, on success by the
+/// work of all cells, and by no more than that where it is refused. The fault names the first cell with an operator over a
+/// limit, and which limit that is.
 pub fn analyse<L: Ledger>(
     alloc: Global,
     net: &Network,
