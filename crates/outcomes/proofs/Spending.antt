@@ -48,7 +48,7 @@ module _ {A E S : Type 0} {count counter : S → ℕ} {lacking : E} {Ends : ℕ 
   -- a refusal of it
   pub spends_refused : (n : ℕ) (fault : E) → count old ≤ count new → count new ≤ count old + n
       → (fault ≡ lacking → Ends (count new - count old)) → counter new ≡ counter old
-      → Spends {A} count counter (IsEqual n) lacking Ends old new (Err fault)
+      → Spends {A = A} count counter (IsEqual n) lacking Ends old new (Err fault)
   spends_refused n fault rises within memory same = record {
     exact = tt;
     rises = rises;
@@ -70,7 +70,7 @@ module _ {A B E F S : Type 0} {count counter : S → ℕ} {Works Others : ℕ �
     same = h.same;
   }
 
-  pub spends_refusal : {fault : E} → Spends {A} count counter Works lacking Ends old new (Err fault) → (r : Result B F) (told : F)
+  pub spends_refusal : {fault : E} → Spends {A = A} count counter Works lacking Ends old new (Err fault) → (r : Result B F) (told : F)
       → r ≡ Err told → ((n : ℕ) → Others n → Works n) → (told ≡ wanting → fault ≡ lacking) → ((n : ℕ) → Ends n → Places n)
       → Spends count counter Others wanting Places old new r
   spends_refusal {fault} h r told is less to at =

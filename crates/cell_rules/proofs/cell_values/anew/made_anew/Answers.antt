@@ -73,7 +73,7 @@ returns-in-Err-clause-spends g c =
 
 -- a value that cannot be kept: the next cell's work is counted
 not_kept : (g : Over) (c : In-Ok g)
-    → Spends {Unit {0}} g.E.Evaluator.count g.E.Evaluator.counter (IsEqual (sum_by (work c.args.net.now) c.args.touched.now)) NoMemory
+    → Spends {A = Unit {0}} g.E.Evaluator.count g.E.Evaluator.counter (IsEqual (sum_by (work c.args.net.now) c.args.touched.now)) NoMemory
     (EndsAtTouched c.args.net.now c.args.touched.now (placed g.V.CellValue.meaning c.args.values.now.versions.newest))
     c.args.eval.now c.eval.new.self (Err NoMemory)
 not_kept g c =
