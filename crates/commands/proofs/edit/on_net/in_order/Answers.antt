@@ -94,3 +94,16 @@ pub returns-in-Err-NoMemory-clause-counts : goal.returns-in-Err-NoMemory-clause-
 returns-in-Err-NoMemory-clause-counts g c =
     by_cells_of_copy c.args.net.now _ c.args.edits.now c.args.order.now 5 _ _
     c.in_ok-copy.ensures c.requires.accepted c.requires.ordered c.new.ensures.spends.rises (c.new.ensures.spends.within _ refl) (no_memory 5 refl)
+
+-- ---- the counter
+pub returns-in-Ok-clause-same : goal.returns-in-Ok-clause-same
+returns-in-Ok-clause-same g c = c.reported.ensures.same ∙ c.new.ensures.spends.same
+
+pub returns-in-Err-TooMany-clause-same : goal.returns-in-Err-TooMany-clause-same
+returns-in-Err-TooMany-clause-same g c = c.new.ensures.spends.same
+
+pub returns-in-Err-TooWide-clause-same : goal.returns-in-Err-TooWide-clause-same
+returns-in-Err-TooWide-clause-same g c = c.new.ensures.spends.same
+
+pub returns-in-Err-NoMemory-clause-same : goal.returns-in-Err-NoMemory-clause-same
+returns-in-Err-NoMemory-clause-same g c = c.new.ensures.spends.same
