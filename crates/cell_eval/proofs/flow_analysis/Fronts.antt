@@ -59,14 +59,11 @@ refused net cells at front c back fault why e split all gives =
     (refused_at net cells at front c back fault split all gives)
 
 -- ---- want of memory
-lacks_at : (c : Cell) (fault : OpFault) → fault_at c fault ≡ NoMemory → fault ≡ operator.NoMemory
-lacks_at c operator.TooMany e = absurd (let bad : ⊥ = cc in bad)
-lacks_at c operator.TooWide e = absurd (let bad : ⊥ = cc in bad)
-lacks_at c operator.NoMemory e = refl
-
 pub lacks_too : (c : Cell) (fault : OpFault) (why : AnalysisFault) → why ≡ fault_at c fault → why ≡ NoMemory
     → fault ≡ operator.NoMemory
-lacks_too c fault why e lack = lacks_at c fault (sym e ∙ lack)
+lacks_too c operator.TooMany why e lack = absurd (let bad : ⊥ = cc in bad)
+lacks_too c operator.TooWide why e lack = absurd (let bad : ⊥ = cc in bad)
+lacks_too c operator.NoMemory why e lack = refl
 
 -- ---- want of memory at one of the cells, where so many operators are counted for it
 pub ends_here : (net : Net) (cells : List Cell) (at : CellTable) (i counted n : ℕ) → i < length cells → AnswersAll net at (take i cells)
