@@ -1,9 +1,7 @@
 //! The analysis of a network: the values of all its cells, each made once, after those that it is made of.
 
-mod analyse_all;
 mod each_cell;
 mod in_order;
 
-pub use analyse_all::analyse;
 pub use each_cell::analysed;
-pub use in_order::analysed_in_order;
+pub use in_order::{analyse, analysed_in_order};

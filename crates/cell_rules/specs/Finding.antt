@@ -46,6 +46,11 @@ pub record AreFlags (old net : Net) (front : List Cell) (flags : List Bool) : Ty
 abbrev pub IsBareAtFirst : List Bool → List Cell → Type 0
 IsBareAtFirst flags touched = touched ≡ [] → (i : ℕ) → slice_index_or flags i false ≡ false
 
+-- so of flags for all places
+pub record AreBareAtFirst (flags : List Bool) (touched : List Cell) : Type 0 where
+  pub room : length flags ≡ 36352
+  pub bare : IsBareAtFirst flags touched
+
 -- a cell of the new network is told to be changed or not
 abbrev pub TellsChanged : Net → Net → Cell → Bool → Type 0
 TellsChanged old net c true = ¬ (HasSameRule old net c)

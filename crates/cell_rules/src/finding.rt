@@ -11,7 +11,7 @@ ghost use Rattle.net_cells.specs.declared.cell.Cell.{Cell};
 ghost use Rattle.cell_rules.specs.cell_changes.Changes.{TouchedOf};
 ghost use Rattle.cell_rules.specs.cell_changes.Slots.{HasSlot};
 ghost use Rattle.cell_rules.specs.Sites.{IsSameBut};
-ghost use Rattle.cell_rules.specs.Finding.{IsBareAtFirst, IsNoted, IsTold, TellsChanged, gone_of, is_flagged};
+ghost use Rattle.cell_rules.specs.Finding.{AreBareAtFirst, IsBareAtFirst, IsNoted, IsTold, TellsChanged, gone_of, is_flagged};
 ghost use Rattle.cell_rules.specs.Marks.{KeepsMarks, MarksCandidates, StandSomewhere, Searches, SearchesMarked, ReachesOn};
 
 use crate::cell_changes::{SLOTS, slot};
@@ -131,8 +131,7 @@ fn search(
     flags: &mut Vec<bool>,
     touched: &mut Vec<Cell>,
 ) -> Result<(), AllocError>
-    requires room { length flags.old.items ≡ 36352 }
-    requires none { IsBareAtFirst flags.old.items touched.old.items }
+    requires bare { AreBareAtFirst flags.old.items touched.old.items }
     requires same { IsSameBut site old.now net.now }
     requires place { StandSomewhere net.now cells.now }
     ensures room { OnOk result (length flags.new.items ≡ 36352) }
@@ -185,8 +184,7 @@ fn search_server(
     flags: &mut Vec<bool>,
     touched: &mut Vec<Cell>,
 ) -> Result<(), AllocError>
-    requires room { length flags.old.items ≡ 36352 }
-    requires none { IsBareAtFirst flags.old.items touched.old.items }
+    requires bare { AreBareAtFirst flags.old.items touched.old.items }
     requires same { IsSameBut site old.now net.now }
     requires place { StandSomewhere net.now (server_cells net.now server) }
     requires paths { paths ≡ length (flat_map (path_cells net.now) path_kinds) }

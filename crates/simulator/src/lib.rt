@@ -1,6 +1,7 @@
 //! The simulator: the routes of packets, what is measured of a run, the run that a trace has, and that of a whole network.
 #![tactic(auto)]
 
+mod fault;
 pub mod net_simulator;
 pub mod packet_sim;
 pub mod run_measures;

@@ -13,10 +13,11 @@ use Rattle.net_cells.specs.MemoryEnds.{EndsAt, MemoryEnds, at_cell}
 use Rattle.net_cells.proofs.cell_table.Fronts.{cell_at, at_place}
 use Rattle.net_cells.proofs.Lists.{has_left, has_right, contains_has, has_contains}
 use Rattle.net_cells.specs.declared.cell_table.fault.AnalysisFault.{AnalysisFault}
+use Rattle.net_cells.specs.declared.cell_table.fault.AnalysisFault.TheVariants.{NoMemory}
 use Rattle.net_cells.specs.cell_table.Gives.{Gives}
 use Rattle.net_cells.specs.cell_table.Refusals.{fault_at}
 use Rattle.net_cells.proofs.cell_table.GivesAnswers.{gives_over}
-use Rattle.cell_eval.specs.flow_analysis.Analyses.{IsFirstOver, IsRefusal, WantsMemory}
+use Rattle.cell_eval.specs.flow_analysis.Analyses.{IsFirstOver, IsRefusal}
 
 -- ---- nothing at other cells
 pub still_nothing : (at more : CellTable) (front : List Cell) (c : Cell)
@@ -58,14 +59,11 @@ refused net cells at front c back fault why e split all gives =
     (refused_at net cells at front c back fault split all gives)
 
 -- ---- want of memory
-wants_at : (P : Type 0) (c : Cell) (fault : OpFault) → (fault ≡ operator.NoMemory → P) → WantsMemory P (fault_at c fault)
-wants_at P c operator.TooMany h = tt
-wants_at P c operator.TooWide h = tt
-wants_at P c operator.NoMemory h = h refl
-
-pub wants_memory : (P : Type 0) (c : Cell) (fault : OpFault) (why : AnalysisFault) → why ≡ fault_at c fault
-    → (fault ≡ operator.NoMemory → P) → WantsMemory P why
-wants_memory P c fault why e h = subst (λ (w : AnalysisFault). WantsMemory P w) (sym e) (wants_at P c fault h)
+pub lacks_too : (c : Cell) (fault : OpFault) (why : AnalysisFault) → why ≡ fault_at c fault → why ≡ NoMemory
+    → fault ≡ operator.NoMemory
+lacks_too c operator.TooMany why e lack = absurd (let bad : ⊥ = cc in bad)
+lacks_too c operator.TooWide why e lack = absurd (let bad : ⊥ = cc in bad)
+lacks_too c operator.NoMemory why e lack = refl
 
 -- ---- want of memory at one of the cells, where so many operators are counted for it
 pub ends_here : (net : Net) (cells : List Cell) (at : CellTable) (i counted n : ℕ) → i < length cells → AnswersAll net at (take i cells)

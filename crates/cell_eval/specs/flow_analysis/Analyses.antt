@@ -7,7 +7,8 @@ use Rattle.net_model.specs.Orders.{IsOrder}
 use Rattle.net_cells.specs.declared.cell.Cell.{Cell}
 use Rattle.net_cells.specs.Meanings.{CellTable}
 use Rattle.net_cells.specs.Order.{evaluation_order}
-use Rattle.net_cells.specs.FirstOver.{FirstOver}
+use Rattle.net_cells.specs.Equations.{MeetsEquations}
+use Rattle.net_cells.specs.FirstOver.{AnswersAll, FirstOver}
 use Rattle.net_cells.specs.declared.cell_table.fault.AnalysisFault.{AnalysisFault}
 use Rattle.net_cells.specs.declared.cell_table.fault.AnalysisFault.TheVariants.{TooMany, TooWide, NoMemory}
 
@@ -21,6 +22,12 @@ pub record AreAllCells (net : Net) (cells : List Cell) : Type 0 where
 abbrev pub HasNothingElse : CellTable → List Cell → Type 0
 HasNothingElse at cells = (c : Cell) → ¬ (Contains cells c) → at c ≡ None
 
+-- a table of these cells: they have the values that their formulas answer, the equations are met, and other cells have none
+pub record IsTableOf (net : Net) (cells : List Cell) (at : CellTable) : Type 0 where
+  pub meets : MeetsEquations net at
+  pub answers : AnswersAll net at cells
+  pub nothing : HasNothingElse at cells
+
 -- ---- refusals
 -- of these cells this one is the first over a limit
 abbrev pub IsFirstOver : Net → List Cell → Cell → OpFault → Type 0
@@ -31,9 +38,3 @@ abbrev pub IsRefusal : (Cell → OpFault → Type 0) → AnalysisFault → Type 
 IsRefusal IsFirst (TooMany c) = IsFirst c operator.TooMany
 IsRefusal IsFirst (TooWide c) = IsFirst c operator.TooWide
 IsRefusal IsFirst NoMemory = Unit {0}
-
--- where memory is wanting, it is so at some place
-abbrev pub WantsMemory : Type 0 → AnalysisFault → Type 0
-WantsMemory P (TooMany c) = Unit {0}
-WantsMemory P (TooWide c) = Unit {0}
-WantsMemory P NoMemory = P

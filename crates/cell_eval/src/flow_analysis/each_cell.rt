@@ -1,11 +1,11 @@
 //! All cells, one after the other.
 
-ghost use Rattle.std.specs.Prelude.{◌≡◌, ◌+◌, ◌-◌, ◌≤◌, sum_by, IfOk, IfErr, OnOk};
-ghost use Rattle.net_cells.specs.Equations.{MeetsEquations};
-ghost use Rattle.net_cells.specs.FirstOver.{AnswersAll};
+ghost use Rattle.std.specs.Prelude.{sum_by, IfOk, IfErr};
+ghost use Rattle.outcomes.specs.Stages.{IsEqual};
+ghost use Rattle.outcomes.specs.Spending.{Spends};
 ghost use Rattle.net_cells.specs.Work.{work};
 ghost use Rattle.net_cells.specs.MemoryEnds.{MemoryEnds};
-ghost use Rattle.cell_eval.specs.flow_analysis.Analyses.{AreAllCells, HasNothingElse, IsFirstOver, IsRefusal, WantsMemory};
+ghost use Rattle.cell_eval.specs.flow_analysis.Analyses.{AreAllCells, IsTableOf, IsFirstOver, IsRefusal};
 
 use net_cells::Cell;
 use net_cells::cell_table::{Analysis, AnalysisFault, CellValue, Evaluator, Table, refusal};
@@ -23,15 +23,10 @@ pub fn analysed<V: CellValue + Drop, E: Evaluator<V>>(
     eval: &mut E,
 ) -> Result<Analysis<V>, AnalysisFault>
     requires { AreAllCells net.now cells.now }
-    ensures meets { IfOk result (λ t. MeetsEquations net.now (⟦<Analysis<V> as Table<V>>⟧.at t)) }
-    ensures answers { IfOk result (λ t. AnswersAll net.now (⟦<Analysis<V> as Table<V>>⟧.at t) cells.now) }
-    ensures nothing { IfOk result (λ t. HasNothingElse (⟦<Analysis<V> as Table<V>>⟧.at t) cells.now) }
+    ensures table { IfOk result (λ t. IsTableOf net.now cells.now (⟦<Analysis<V> as Table<V>>⟧.at t)) }
     ensures refused { IfErr result (IsRefusal (IsFirstOver net.now cells.now)) }
-    ensures memory { IfErr result (WantsMemory (MemoryEnds net.now cells.now (E.count eval.new - E.count eval.old))) }
-    ensures exact { OnOk result (E.count eval.new ≡ E.count eval.old + sum_by (work net.now) cells.now) }
-    ensures rises { E.count eval.old ≤ E.count eval.new }
-    ensures within { E.count eval.new ≤ E.count eval.old + sum_by (work net.now) cells.now }
-    ensures same { E.counter eval.new ≡ E.counter eval.old }
+    ensures spends { Spends E.count E.counter (IsEqual (sum_by (work net.now) cells.now)) AnalysisFault.NoMemory
+        (MemoryEnds net.now cells.now) eval.old eval.new result }
 {
     net.keeps();
     let mut table = Analysis::new(alloc);

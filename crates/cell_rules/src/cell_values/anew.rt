@@ -1,6 +1,8 @@
 //! The touched cells, one after the other.
 
-ghost use Rattle.std.specs.Prelude.{◌≡◌, ◌+◌, ◌-◌, ◌≤◌, sum_by, IfErr, OnOk};
+ghost use Rattle.std.specs.Prelude.{◌≡◌, sum_by, IfErr, OnOk};
+ghost use Rattle.outcomes.specs.Stages.{IsEqual};
+ghost use Rattle.outcomes.specs.Spending.{Spends};
 ghost use Rattle.net_cells.specs.Equations.{MeetsEquations};
 ghost use Rattle.net_cells.specs.Work.{work};
 ghost use Rattle.cell_rules.specs.cell_values.Edits.{AllAnswered, IsEditOf, IsFirstTouched, SameButAt, RefusesFor, EndsAtTouched};
@@ -30,12 +32,8 @@ pub fn made_anew<V: CellValue + Drop, E: Evaluator<V>>(
         (⟦<Values<V> as Table<V>>⟧.at values.old) (⟦<Values<V> as Table<V>>⟧.at values.new) }
     ensures before { values.new.versions.kept ≡ values.old.versions.kept }
     ensures refused { IfErr result (RefusesFor (IsFirstTouched net.now touched.now)) }
-    ensures memory { result ≡ Err AnalysisFault.NoMemory → EndsAtTouched net.now touched.now
-        (⟦<Values<V> as Table<V>>⟧.at values.old) (E.count eval.new - E.count eval.old) }
-    ensures exact { OnOk result (E.count eval.new ≡ E.count eval.old + sum_by (work net.now) touched.now) }
-    ensures rises { E.count eval.old ≤ E.count eval.new }
-    ensures within { E.count eval.new ≤ E.count eval.old + sum_by (work net.now) touched.now }
-    ensures same { E.counter eval.new ≡ E.counter eval.old }
+    ensures spends { Spends E.count E.counter (IsEqual (sum_by (work net.now) touched.now)) AnalysisFault.NoMemory
+        (EndsAtTouched net.now touched.now (⟦<Values<V> as Table<V>>⟧.at values.old)) eval.old eval.new result }
 {
     net.keeps();
     for cell in touched {

@@ -1,6 +1,8 @@
 //! All that an edit changes of the values.
 
-ghost use Rattle.std.specs.Prelude.{◌≡◌, ◌+◌, ◌-◌, ◌^◌, ◌<◌, ◌≤◌, ◌++◌, ◌∷◌, [], sum_by, IfErr, OnOk, OnErr, length};
+ghost use Rattle.std.specs.Prelude.{◌≡◌, ◌-◌, ◌^◌, ◌<◌, ◌++◌, ◌∷◌, [], sum_by, IfErr, OnOk, OnErr, length};
+ghost use Rattle.outcomes.specs.Stages.{IsEqual};
+ghost use Rattle.outcomes.specs.Spending.{Spends};
 ghost use Rattle.net_cells.specs.Work.{work};
 ghost use Rattle.cell_rules.specs.cell_values.Edits.{IsEditOf, IsFirstTouched, AreGone, IsCleared, IsEditedTable, RefusesFor, EditEnds};
 
@@ -43,12 +45,8 @@ fn changed<V: CellValue + Drop, E: Evaluator<V>>(
         (⟦<Values<V> as Table<V>>⟧.at values.old) (⟦<Values<V> as Table<V>>⟧.at values.new)) }
     ensures before { values.new.versions.kept ≡ values.old.versions.kept }
     ensures refused { IfErr result (RefusesFor (IsFirstTouched net.now touched.now)) }
-    ensures memory { result ≡ Err AnalysisFault.NoMemory → EditEnds net.now touched.now
-        (⟦<Values<V> as Table<V>>⟧.at values.old) (E.count eval.new - E.count eval.old) }
-    ensures exact { OnOk result (E.count eval.new ≡ E.count eval.old + sum_by (work net.now) touched.now) }
-    ensures rises { E.count eval.old ≤ E.count eval.new }
-    ensures within { E.count eval.new ≤ E.count eval.old + sum_by (work net.now) touched.now }
-    ensures same { E.counter eval.new ≡ E.counter eval.old }
+    ensures spends { Spends E.count E.counter (IsEqual (sum_by (work net.now) touched.now)) AnalysisFault.NoMemory
+        (EditEnds net.now touched.now (⟦<Values<V> as Table<V>>⟧.at values.old)) eval.old eval.new result }
 {
     net.keeps();
     made_anew(alloc, values, net, touched, eval)?;
@@ -79,12 +77,8 @@ pub fn edited_values<V: CellValue + Drop, E: Evaluator<V>>(
         values.old.versions.kept ++ values.old.versions.newest ∷ []) }
     ensures kept { OnErr result (values.new.versions ≡ values.old.versions) }
     ensures refused { IfErr result (RefusesFor (IsFirstTouched net.now touched.now)) }
-    ensures memory { result ≡ Err AnalysisFault.NoMemory → EditEnds net.now touched.now
-        (⟦<Values<V> as Table<V>>⟧.at values.old) (E.count eval.new - E.count eval.old) }
-    ensures exact { OnOk result (E.count eval.new ≡ E.count eval.old + sum_by (work net.now) touched.now) }
-    ensures rises { E.count eval.old ≤ E.count eval.new }
-    ensures within { E.count eval.new ≤ E.count eval.old + sum_by (work net.now) touched.now }
-    ensures same { E.counter eval.new ≡ E.counter eval.old }
+    ensures spends { Spends E.count E.counter (IsEqual (sum_by (work net.now) touched.now)) AnalysisFault.NoMemory
+        (EditEnds net.now touched.now (⟦<Values<V> as Table<V>>⟧.at values.old)) eval.old eval.new result }
 {
     if let Err(_) = values.mark() {
         return Err(AnalysisFault::NoMemory);

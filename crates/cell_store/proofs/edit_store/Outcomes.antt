@@ -1,6 +1,6 @@
 -- What a store answers to an edit, from what the steps on the way answer.
-use Rattle.std.proofs.Common.{◌≡◌, ◌≢◌, ℕ, ◌+◌, ◌≤◌, List, [], ◌∷◌, ◌++◌, length, sum_by, sym, ap, ◌∙◌, subst, refl, inl, inr}
-use Rattle.std.specs.Prelude.{Ok, Err}
+use Rattle.std.proofs.Common.{◌≡◌, ◌≢◌, ℕ, List, [], ◌∷◌, ◌++◌, length, sum_by, sym, ap, ◌∙◌, subst, refl, inl, inr}
+use Rattle.std.specs.Prelude.{Result, Ok, Err, IfErr, OnErr}
 use Rattle.upp_limits.specs.declared.op_kind.OpFault.{OpFault}
 use Rattle.upp_limits.specs.declared.op_kind.OpFault.TheVariants as operator
 use Rattle.net_model.specs.declared.edit.Edit.{Edit}
@@ -22,7 +22,7 @@ use Rattle.net_edits.proofs.OverNone.{within_none}
 use Rattle.cell_rules.specs.cell_values.Edits.{IsFirstTouched, RefusesFor}
 use Rattle.cell_rules.proofs.cell_values.Fronts.{are_touched}
 use Rattle.cell_store.specs.edit_store.Stored.{Stored, AreTouched, IsAdvanced, IsBack}
-use Rattle.cell_store.specs.edit_store.Applied.{Gives, IsTaken, IsTakenBack, IsCellOver, IsRefused, IsEvaluated, IsHidden, IsUnplanned}
+use Rattle.cell_store.specs.edit_store.Applied.{Gives, IsTaken, IsTakenBack, IsCellOver, IsRefused, IsEvaluated, IsWorkOf, IsHidden, IsUnplanned}
 use Rattle.cell_store.specs.edit_store.Faults.{graph_fault, analysis_fault}
 use Rattle.cell_store.proofs.edit_store.Steps.{same_touched, gives_one}
 
@@ -80,17 +80,6 @@ module _ {V : Type 0} where
   unplanned_refused old edit NothingToUndo other r = absurd r
   unplanned_refused old edit NoMemory other r = other
 
-  -- ---- what is counted
-  pub counts : (old new : Stored V) (net : Net) (touched others : List Cell) (before after : ℕ) → IsAdvanced old net new
-      → AreTouched old.present net touched → AreTouched old.present new.present others
-      → after ≡ before + sum_by (work net) touched → after ≡ before + sum_by (work new.present) others
-  counts old new net touched others before after advanced are them exact =
-      let same : touched ≡ others =
-      same_touched old.present net touched others are
-      (subst (λ (n : Net). AreTouched old.present n others) advanced.present them) in
-      exact ∙ ap (λ (cs : List Cell). before + sum_by (work net) cs) same
-      ∙ ap (λ (n : Net). before + sum_by (work n) others) (sym advanced.present)
-
   -- ---- looked at
   pub reply_hidden : (old : Stored V) (edit : Edit) (why : EditFault) → ((c : Cell) → why ≢ TooMany c)
       → ((c : Cell) → why ≢ TooWide c) → IsReply (edited old.present edit) (Err why) → IsHidden old edit why
@@ -104,26 +93,31 @@ module _ {V : Type 0} where
   reply_hidden old edit NothingToUndo many wide r = absurd r
   reply_hidden old edit NoMemory many wide r = tt
 
--- ---- what is counted at most
-pub bounds : (present : Net) (edit : Edit) (net other : Net) (touched others : List Cell) (before after : ℕ)
-    → Gives present edit net → AreTouched present net touched → Gives present edit other
-    → AreTouched present other others → after ≤ before + sum_by (work net) touched
-    → after ≤ before + sum_by (work other) others
-bounds present edit net other touched others before after gives are gives_other them most =
-    let one : net ≡ other = gives_one present edit net other gives gives_other in
-    let same : touched ≡ others =
-    same_touched present net touched others are (subst (λ (n : Net). AreTouched present n others) (sym one) them) in
-    subst (λ (n : Net). after ≤ before + sum_by (work n) others) one
-    (subst (λ (cs : List Cell). after ≤ before + sum_by (work net) cs) same most)
-
-pub evaluated : (present : Net) (edit : Edit) (net : Net) (touched : List Cell) → Gives present edit net
+-- ---- what is counted
+evaluated : (present : Net) (edit : Edit) (net : Net) (touched : List Cell) → Gives present edit net
     → AreTouched present net touched → IsEvaluated present edit
 evaluated present edit net touched gives are =
     record { net = net; gives = gives; order = are.order; servers = are.servers }
 
--- an undo gives no network
+-- the work of an edit is that of the cells that it touches
+pub work_is : (present : Net) (edit : Edit) (net : Net) (touched : List Cell) (n : ℕ) → Gives present edit net
+    → AreTouched present net touched → IsWorkOf present edit n → sum_by (work net) touched ≡ n
+work_is present edit net touched n gives are (inl w) =
+    let one : net ≡ w.net = gives_one present edit net w.net gives w.gives in
+    let same : touched ≡ w.touched =
+    same_touched present net touched w.touched are (subst (λ (d : Net). AreTouched present d w.touched) (sym one) w.are) in
+    ap (λ (cells : List Cell). sum_by (work net) cells) same ∙ ap (λ (d : Net). sum_by (work d) w.touched) one ∙ sym w.is
+work_is present edit net touched n gives are (inr (none, zero)) =
+    absurd (none (evaluated present edit net touched gives are))
+
+-- an undo gives no network, so it has no work
 pub undo_gives_none : (present net : Net) → ¬ (Gives present Undo net)
 undo_gives_none present net g = let bad : edited present Undo ≡ Ok g.edited = g.is in cc
+
+pub undo_work : (present : Net) (edit : Edit) (n : ℕ) → edit ≡ Undo → IsWorkOf present edit n → n ≡ 0
+undo_work present edit n is (inl w) =
+    absurd (undo_gives_none present w.net (subst (λ (e : Edit). Gives present e w.net) is w.gives))
+undo_work present edit n is (inr (none, zero)) = zero
 
 -- ---- planned
 pub cycle_unplanned : (present : Net) (edit : Edit) (net : Net) (why : GraphFault) → Gives present edit net
@@ -146,3 +140,16 @@ reply_unplanned present edit NoMemory r = tt
 -- ---- want of memory
 pub given_none : (present net : Net) (edit : Edit) → Gives present edit net → IsOverNone (edited present edit)
 given_none present net edit gives = within_none (edited present edit) gives.edited gives.is gives.within
+
+pub lacks_too : (why : AnalysisFault) → analysis_fault why ≡ NoMemory → why ≡ analysis.NoMemory
+lacks_too (analysis.TooMany cell) e = absurd (let bad : ⊥ = cc in bad)
+lacks_too (analysis.TooWide cell) e = absurd (let bad : ⊥ = cc in bad)
+lacks_too analysis.NoMemory e = refl
+
+-- ---- a refusal that is handed on
+pub on_err : {X E : Type 0} (r : Result X E) (P : E → Type 0) (f e : E) → r ≡ Err f → f ≡ e → P e → IfErr r P
+on_err {X} {E} r P f e is same h = subst (λ (x : Result X E). IfErr x P) (sym is) (subst P (sym same) h)
+
+pub in_any : {X E : Type 0} (r : Result X E) (Q : Type 0) → Q → OnErr r Q
+in_any (Ok x) Q q = tt
+in_any (Err e) Q q = q

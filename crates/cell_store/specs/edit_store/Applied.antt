@@ -1,5 +1,5 @@
 -- What an edit of a store answers: one network more, one less, or why there is neither. Own choice.
-use Rattle.std.specs.Prelude.{◌≡◌, ◌≢◌, ◌⊎◌, ◌≤◌, ℕ, List, [], ◌∷◌, ◌++◌, length}
+use Rattle.std.specs.Prelude.{◌≡◌, ◌≢◌, ◌⊎◌, ◌≤◌, ℕ, List, [], ◌∷◌, ◌++◌, length, sum_by}
 use Rattle.upp_limits.specs.declared.op_kind.OpFault.{OpFault}
 use Rattle.upp_limits.specs.declared.op_kind.OpFault.TheVariants as operator
 use Rattle.upp_limits.specs.declared.own_limits.OverLimit.{OverLimit}
@@ -12,6 +12,7 @@ use Rattle.net_model.specs.Walks.{IsCycle}
 use Rattle.net_cells.specs.declared.cell.Cell.{Cell}
 use Rattle.net_cells.specs.FirstOver.{FirstOver}
 use Rattle.net_cells.specs.Meanings.{CellTable}
+use Rattle.net_cells.specs.Work.{work}
 use Rattle.net_edits.specs.declared.fault.EditFault.{EditFault}
 use Rattle.net_edits.specs.declared.fault.EditFault.TheVariants.{UnknownName, NameTaken, BadValue, LimitReached, Cycle, TooMany, TooWide, NothingToUndo, NoMemory}
 use Rattle.net_edits.specs.Edited.{edited}
@@ -114,6 +115,18 @@ pub record IsEvaluated (present : Net) (edit : Edit) : Type 0 where
   pub gives : Gives present edit net
   pub order : List ℕ
   pub servers : IsOrder net order
+
+-- the operators of the touched cells of the edited network
+pub record IsTouchedWork (present : Net) (edit : Edit) (count : ℕ) : Type 0 where
+  pub net : Net
+  pub gives : Gives present edit net
+  pub touched : List Cell
+  pub are : AreTouched present net touched
+  pub is : count ≡ sum_by (work net) touched
+
+-- those, or none where there is no edited network whose servers have an order
+abbrev pub IsWorkOf : Net → Edit → ℕ → Type 0
+IsWorkOf present edit count = IsTouchedWork present edit count ⊎ (¬ (IsEvaluated present edit) × (count ≡ 0))
 
 -- ---- an edit that is looked at
 -- the curve that the edit makes is over a limit, and there is no edited network

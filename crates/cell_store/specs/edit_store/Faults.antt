@@ -14,8 +14,3 @@ abbrev pub analysis_fault : AnalysisFault → EditFault
 analysis_fault (analysis.TooMany cell) = TooMany cell
 analysis_fault (analysis.TooWide cell) = TooWide cell
 analysis_fault analysis.NoMemory = NoMemory
-
--- where memory is wanting, it is so at some place
-abbrev pub EditWants : Type 0 → EditFault → Type 0
-EditWants P NoMemory = P
-EditWants P _ = Unit {0}

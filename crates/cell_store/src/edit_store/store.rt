@@ -50,12 +50,12 @@ impl<V: CellValue + Drop> Table<V> for Store<V> {
 }
 
 impl<V: CellValue + Drop> Store<V> {
-    ghost use Rattle.std.specs.Prelude.{◌≡◌, ◌≢◌, ◌+◌, ◌-◌, ◌^◌, ◌<◌, ◌≤◌, ℕ, List, [], sum_by, length, IfOk, IfErr};
+    ghost use Rattle.std.specs.Prelude.{◌≡◌, ◌≢◌, ◌-◌, ◌^◌, ◌<◌, [], sum_by, length, IfOk, IfErr};
     ghost use Rattle.std.specs.Prelude.{OnOk, OnErr, MatchOption};
+    ghost use Rattle.outcomes.specs.Stages.{IsEqual};
+    ghost use Rattle.outcomes.specs.Spending.{Spends};
     ghost use Rattle.net_model.specs.declared.edit.Edit.TheVariants.{Undo};
-    ghost use Rattle.net_model.specs.Networks.{Net};
     ghost use Rattle.net_model.specs.Orders.{IsOrder};
-    ghost use Rattle.net_cells.specs.declared.cell.Cell.{Cell};
     ghost use Rattle.net_cells.specs.Equations.{MeetsEquations};
     ghost use Rattle.net_cells.specs.Order.{evaluation_order};
     ghost use Rattle.net_cells.specs.Work.{work};
@@ -64,9 +64,7 @@ impl<V: CellValue + Drop> Store<V> {
     ghost use Rattle.cell_rules.specs.cell_values.Edits.{IsFirst, IsFirstTouched, RefusesFor, EditEnds};
     ghost use Rattle.cell_store.specs.edit_store.Stored.{AreTouched, AreLost, IsStored, IsAdvanced, IsBack};
     ghost use Rattle.cell_rules.specs.edit_sites.Replaced.{put_back};
-    ghost use Rattle.cell_store.specs.edit_store.Applied.{Gives, IsApplied, IsTaken, IsRefused, IsEvaluated, IsShown, IsHidden};
-    ghost use Rattle.cell_store.specs.edit_store.Applied.{EndsInEdit};
-    ghost use Rattle.cell_store.specs.edit_store.Faults.{EditWants};
+    ghost use Rattle.cell_store.specs.edit_store.Applied.{IsApplied, IsTaken, IsRefused, IsWorkOf, IsShown, IsHidden, EndsInEdit};
 
     /// A store of one network, by the order of its servers: each cell's value is made once. Refused for the first cell
     /// with an operator over a limit, or where there is no memory, and then each operator that is counted is within its
@@ -82,13 +80,8 @@ impl<V: CellValue + Drop> Store<V> {
         ensures present { IfOk result (λ s. s.present ≡ net) }
         ensures meets { IfOk result (λ s. MeetsEquations net (⟦<Store<V> as Table<V>>⟧.at s)) }
         ensures refused { IfErr result (RefusesFor (IsFirst net)) }
-        ensures memory { result ≡ Err AnalysisFault.NoMemory →
-            MemoryEnds net (evaluation_order net order.now) (E.count eval.new - E.count eval.old) }
-        ensures exact { OnOk result
-            (E.count eval.new ≡ E.count eval.old + sum_by (work net) (evaluation_order net order.now)) }
-        ensures rises { E.count eval.old ≤ E.count eval.new }
-        ensures within { E.count eval.new ≤ E.count eval.old + sum_by (work net) (evaluation_order net order.now) }
-        ensures same { E.counter eval.new ≡ E.counter eval.old }
+        ensures spends { Spends E.count E.counter (IsEqual (sum_by (work net) (evaluation_order net order.now)))
+            AnalysisFault.NoMemory (MemoryEnds net (evaluation_order net order.now)) eval.old eval.new result }
     {
         let Ok(mut values) = Values::new(alloc) else {
             return Err(AnalysisFault::NoMemory);
@@ -149,12 +142,8 @@ impl<V: CellValue + Drop> Store<V> {
         ensures advanced { OnOk result (IsAdvanced self.old net self.new) }
         ensures kept { OnErr result (self.new ≡ self.old) }
         ensures refused { IfErr result (RefusesFor (IsFirstTouched net touched.now)) }
-        ensures memory { result ≡ Err AnalysisFault.NoMemory → EditEnds net touched.now
-            (⟦<Store<V> as Table<V>>⟧.at self.old) (E.count eval.new - E.count eval.old) }
-        ensures exact { OnOk result (E.count eval.new ≡ E.count eval.old + sum_by (work net) touched.now) }
-        ensures rises { E.count eval.old ≤ E.count eval.new }
-        ensures within { E.count eval.new ≤ E.count eval.old + sum_by (work net) touched.now }
-        ensures same { E.counter eval.new ≡ E.counter eval.old }
+        ensures spends { Spends E.count E.counter (IsEqual (sum_by (work net) touched.now)) AnalysisFault.NoMemory
+            (EditEnds net touched.now (⟦<Store<V> as Table<V>>⟧.at self.old)) eval.old eval.new result }
     {
         self.present.keeps();
         if let Err(_) = self.replaced.reserve(1) {
@@ -185,16 +174,8 @@ impl<V: CellValue + Drop> Store<V> {
         ensures taken { IfOk result (λ cells. IsTaken self.old edit.now cells self.new) }
         ensures kept { OnErr result (self.new ≡ self.old) }
         ensures refused { IfErr result (IsRefused self.old edit.now) }
-        ensures memory { IfErr result (EditWants (EndsInEdit self.old.present edit.now
-            (⟦<Store<V> as Table<V>>⟧.at self.old) (E.count eval.new - E.count eval.old))) }
-        ensures exact { OnOk result ((touched : List Cell) → AreTouched self.old.present self.new.present touched
-            → E.count eval.new ≡ E.count eval.old + sum_by (work self.new.present) touched) }
-        ensures rises { E.count eval.old ≤ E.count eval.new }
-        ensures within { (net : Net) (touched : List Cell) → Gives self.old.present edit.now net
-            → AreTouched self.old.present net touched
-            → E.count eval.new ≤ E.count eval.old + sum_by (work net) touched }
-        ensures idle { ¬ (IsEvaluated self.old.present edit.now) → E.count eval.new ≡ E.count eval.old }
-        ensures same { E.counter eval.new ≡ E.counter eval.old }
+        ensures spends { Spends E.count E.counter (IsWorkOf self.old.present edit.now) EditFault.NoMemory
+            (EndsInEdit self.old.present edit.now (⟦<Store<V> as Table<V>>⟧.at self.old)) eval.old eval.new result }
     {
         let Planned {
             net,
@@ -220,17 +201,8 @@ impl<V: CellValue + Drop> Store<V> {
         ensures meets { OnOk result (MeetsEquations self.new.present (⟦<Store<V> as Table<V>>⟧.at self.new)) }
         ensures kept { OnErr result (self.new ≡ self.old) }
         ensures refused { IfErr result (IsRefused self.old edit.now) }
-        ensures memory { IfErr result (EditWants (EndsInEdit self.old.present edit.now
-            (⟦<Store<V> as Table<V>>⟧.at self.old) (E.count eval.new - E.count eval.old))) }
-        ensures exact { OnOk result (edit.now ≢ Undo → (touched : List Cell)
-            → AreTouched self.old.present self.new.present touched
-            → E.count eval.new ≡ E.count eval.old + sum_by (work self.new.present) touched) }
-        ensures rises { E.count eval.old ≤ E.count eval.new }
-        ensures within { (net : Net) (touched : List Cell) → Gives self.old.present edit.now net
-            → AreTouched self.old.present net touched
-            → E.count eval.new ≤ E.count eval.old + sum_by (work net) touched }
-        ensures idle { ¬ (IsEvaluated self.old.present edit.now) → E.count eval.new ≡ E.count eval.old }
-        ensures same { E.counter eval.new ≡ E.counter eval.old }
+        ensures spends { Spends E.count E.counter (IsWorkOf self.old.present edit.now) EditFault.NoMemory
+            (EndsInEdit self.old.present edit.now (⟦<Store<V> as Table<V>>⟧.at self.old)) eval.old eval.new result }
     {
         match edit {
             Edit::Undo => {

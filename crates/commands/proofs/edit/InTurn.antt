@@ -5,7 +5,8 @@ use Rattle.net_model.specs.declared.edit.Edit.{Edit}
 use Rattle.commands.specs.edit_report.Said.{EditSaid}
 use Rattle.commands.specs.edit.NetHistories.{NetHistory}
 use Rattle.commands.specs.edit.Answered.{IsAnswered, Taken, Undone, Refused, AreAnswered}
-use Rattle.commands.specs.edit.EditCounts.{IsWorkOf, IsTakenWork, WorkOfEdits}
+use Rattle.cell_store.specs.edit_store.Applied.{IsWorkOf}
+use Rattle.commands.specs.edit.EditCounts.{IsTakenWork, WorkOfEdits}
 use Rattle.commands.proofs.edit.NextOne.{next_is_one}
 
 -- ---- answers

@@ -1,14 +1,11 @@
 -- How many steps a list of edits takes: an operator on curves takes one.
-use Rattle.std.specs.Prelude.{◌≡◌, ◌≢◌, ◌⊎◌, ◌+◌, ◌≤◌, ℕ, List, [], ◌∷◌, map, sum_by}
+use Rattle.std.specs.Prelude.{◌≡◌, ◌≢◌, ◌⊎◌, ◌+◌, ◌≤◌, ℕ, List, [], ◌∷◌, map}
 use Rattle.net_model.specs.declared.edit.Edit.{Edit}
 use Rattle.net_model.specs.Networks.{Net}
 use Rattle.net_model.specs.Orders.{IsOrder}
 use Rattle.net_model.specs.Walks.{IsCycle}
-use Rattle.net_cells.specs.declared.cell.Cell.{Cell}
-use Rattle.net_cells.specs.Work.{work}
 use Rattle.input_texts.specs.table_text.EditRows.{edit_view}
-use Rattle.cell_store.specs.edit_store.Stored.{AreTouched}
-use Rattle.cell_store.specs.edit_store.Applied.{Gives, IsEvaluated}
+use Rattle.cell_store.specs.edit_store.Applied.{IsWorkOf}
 use Rattle.commands.specs.edit_report.Said.{EditSaid}
 use Rattle.command_replies.specs.CellWork.{work_of_cells}
 use Rattle.commands.specs.edit.NetHistories.{NetHistory, begun}
@@ -16,18 +13,6 @@ use Rattle.commands.specs.edit.Answered.{IsTaken, IsAnswered}
 use Rattle.commands.specs.edit.OnEdits.{AsksFor}
 
 -- ---- one edit
--- the operators of the touched cells of the edited network
-pub record IsTouchedWork (present : Net) (edit : Edit) (count : ℕ) : Type 0 where
-  pub net : Net
-  pub gives : Gives present edit net
-  pub touched : List Cell
-  pub are : AreTouched present net touched
-  pub is : count ≡ sum_by (work net) touched
-
--- those, or none where there is no edited network whose servers have an order
-abbrev pub IsWorkOf : Net → Edit → ℕ → Type 0
-IsWorkOf present edit count = IsTouchedWork present edit count ⊎ (¬ (IsEvaluated present edit) × (count ≡ 0))
-
 -- the edit is taken, whatever is said of it
 abbrev pub Takes : NetHistory → Edit → NetHistory → Type 0
 Takes old edit new = (said : EditSaid) × IsTaken old edit said new

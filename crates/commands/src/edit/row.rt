@@ -2,13 +2,13 @@
 
 ghost use Rattle.std.specs.Prelude.{◌≡◌, ◌≢◌, ◌+◌, ◌-◌, ◌^◌, ◌<◌, ◌≤◌, ℕ, length, Err, IfOk, IfErr};
 ghost use Rattle.net_model.specs.declared.edit.Edit.TheVariants.{Undo};
-ghost use Rattle.cell_store.specs.edit_store.Applied.{IsShown, IsRefused};
+ghost use Rattle.cell_store.specs.edit_store.Applied.{IsShown, IsRefused, IsWorkOf};
 ghost use Rattle.commands.specs.edit_report.Said.{said_view};
 ghost use Rattle.commands.specs.edit.NetHistories.{history_of};
 ghost use Rattle.commands.specs.edit.Causes.{BreaksNoRule};
 ghost use Rattle.commands.specs.edit.Answered.{IsAnswered};
 ghost use Rattle.commands.specs.edit.Said.{IsOfEdited, IsSaidOf, IsSaid};
-ghost use Rattle.commands.specs.edit.EditCounts.{IsWorkOf, IsTakenWork};
+ghost use Rattle.commands.specs.edit.EditCounts.{IsTakenWork};
 
 use crate::edit_report::{Said, said_of};
 use cell_store::edit_store::Store;

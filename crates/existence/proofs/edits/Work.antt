@@ -13,7 +13,7 @@ use Rattle.net_edits.specs.declared.fault.EditFault.{EditFault}
 use Rattle.net_edits.specs.declared.fault.EditFault.TheVariants.{UnknownName, NameTaken, BadValue, LimitReached, Cycle, TooMany, TooWide, NothingToUndo, NoMemory}
 use Rattle.net_edits.specs.Refusals.{unknown_name, name_taken, bad_value, no_number_left}
 use Rattle.net_edits.specs.Edited.{edited}
-use Rattle.cell_store.specs.edit_store.Applied.{IsEvaluated}
+use Rattle.cell_store.specs.edit_store.Applied.{IsEvaluated, IsWorkOf}
 use Rattle.cell_store.proofs.edit_store.Steps.{gives_one}
 use Rattle.commands.specs.edit_report.Said.{EditSaid}
 use Rattle.input_texts.specs.table_text.Rows.{rows_of}
@@ -22,7 +22,7 @@ use Rattle.input_texts.proofs.table_text.OneEditList.{edits_one}
 use Rattle.commands.specs.edit.NetHistories.{NetHistory, begun}
 use Rattle.commands.specs.edit.Causes.{GoesRound, IsOverBy, IsCause}
 use Rattle.commands.specs.edit.Answered.{IsAnswered, Taken, Undone, Refused, AreAnswered}
-use Rattle.commands.specs.edit.EditCounts.{IsWorkOf, IsTakenWork}
+use Rattle.commands.specs.edit.EditCounts.{IsTakenWork}
 use Rattle.commands.proofs.edit.Exclusive.{gives_not_over, gives_not_refused, undo_gives_none, nothing_pushed}
 use Rattle.commands.proofs.edit.SameEdits.{answered_alike}
 use Rattle.command_replies.proofs.FirstFaults.{says}

@@ -277,6 +277,17 @@ long S stations links arrivals n xs d p h kind e is =
           (now.fits.grid.times s p (in_trace_of S h.before links arrivals n xs now p entered_one) passes);
     }
 
+-- the rate that is read at its server is that server's
+rate_is : (S : Setup) (stations : List Station) (links : Chains) (arrivals : List Arrival) (n : ℕ) (xs : List Step) (d : Due) (p : ℕ)
+    → IsTurning S stations links arrivals n xs d (Some (turns.Send p)) → d.kind ≡ kinds.Start → (rate : ℚ)
+    → ((x : Station) → slice_get stations d.server ≡ Some x → rate ≡ x.rate) → rate ≡ rate_of S d.server
+rate_is S stations links arrivals n xs d p h kind rate rates =
+    let s = d.server in
+    let k = sending S stations links arrivals n xs d p h kind in
+    let t = h.turned in
+    let at = ap (λ (ys : List Station). slice_get ys s) t.moved.is ∙ set_same h.before s t.new (slice_get_within h.before s t.old t.moved.was) in
+    rates t.new at ∙ t.rate ∙ k.keeps.rate
+
 pub record MayDivide (bits : ℕ) (rate : ℚ) : Type 0 where
   pub some : rate ≢ int (pos 0)
   pub fits : IsSmall (int (pos bits) /ℚ rate)
@@ -287,11 +298,8 @@ pub send_fits : (S : Setup) (stations : List Station) (links : Chains) (arrivals
 send_fits S stations links arrivals n xs d p h kind e is rate rates =
     let s = d.server in
     let now = h.due.now in
-    let k = sending S stations links arrivals n xs d p h kind in
     let l = long S stations links arrivals n xs d p h kind e is in
-    let t = h.turned in
-    let at = ap (λ (ys : List Station). slice_get ys s) t.moved.is ∙ set_same h.before s t.new (slice_get_within h.before s t.old t.moved.was) in
-    let same : rate ≡ rate_of S s = rates t.new at ∙ t.rate ∙ k.keeps.rate in
+    let same : rate ≡ rate_of S s = rate_is S stations links arrivals n xs d p h kind rate rates in
     record {
       some = subst (λ u. u ≢ int (pos 0)) (sym same) (not_zero (rate_of S s) (now.setup.rates s));
       fits = subst (λ u. IsSmall (int (pos e.bits) /ℚ u)) (sym same) (time_fits now.grid now.most (whole e.bits /ℚ rate_of S s) now.fits.grid.room l.time);
@@ -319,8 +327,7 @@ sent S stations links arrivals n xs d p h kind e is rate rates left left_is =
     let k = sending S stations links arrivals n xs d p h kind in
     let l = long S stations links arrivals n xs d p h kind e is in
     let t = h.turned in
-    let at = ap (λ (ys : List Station). slice_get ys s) t.moved.is ∙ set_same h.before s t.new (slice_get_within h.before s t.old t.moved.was) in
-    let same : rate ≡ rate_of S s = rates t.new at ∙ t.rate ∙ k.keeps.rate in
+    let same : rate ≡ rate_of S s = rate_is S stations links arrivals n xs d p h kind rate rates in
     let whole_left : left ≡ whole e.bits /ℚ rate_of S s = left_is ∙ ap (λ u. int (pos e.bits) /ℚ u) same in
     record {
       ready = record {

@@ -9,7 +9,7 @@ ghost use Rattle.sim_bounds.specs.Gauge.{simulation_gauge};
 ghost use Rattle.simulator.specs.run_measures.Peaks.{rows_of, ArePeaks};
 ghost use Rattle.simulator.specs.run_measures.Worst.{AreWorst};
 
-use crate::net_simulator::SimFault;
+use crate::fault::SimFault;
 use crate::packet_sim::run::run_of;
 use crate::run_measures::{peaks, worst_delays};
 use fraction128::Frac;

@@ -10,8 +10,8 @@ use Rattle.cell_rules.proofs.finding.search.Goals as goal
 
 pub loop-place-init : goal.loop-place-init
 loop-place-init c = record {
-  room = c.requires.room;
-  bare = c.requires.none;
+  room = c.requires.bare.room;
+  bare = c.requires.bare.bare;
   searched = λ front stand start.
       subst (λ (xs : List Cell). IsSearched c.args.old.now c.args.net.now xs c.args.flags.now.items c.args.touched.now.items)
       (sym (append-nil front)) start;

@@ -29,6 +29,10 @@ search_server-requires-clause-place c =
       stand_server c.args.net.now order i 0 c.requires.order (omega arith),
     )
 
+pub search_server-requires-clause-bare : goal.search_server-requires-clause-bare
+search_server-requires-clause-bare c =
+    let inv = c.loop-place.invariant in record { room = inv.searched.flags_are.room; bare = inv.searched.bare }
+
 pub loop-place-preserved : goal.loop-place-preserved
 loop-place-preserved c =
     let old = c.args.old.now in
@@ -56,6 +60,10 @@ search-requires-clause-place c =
       subst (λ (xs : List Cell). StandBehind net (flat_map (server_cells net) order) xs) (sym same)
           (stand_paths net order c.requires.order),
     )
+
+pub search-requires-clause-bare : goal.search-requires-clause-bare
+search-requires-clause-bare c =
+    let inv = c.loop-place.invariant in record { room = inv.searched.flags_are.room; bare = inv.searched.bare }
 
 -- all are searched
 at_end : (old net : Net) (order : List ℕ) (i : ℕ) (cells : List Cell) (flags more : List Bool) (touched longer : List Cell)

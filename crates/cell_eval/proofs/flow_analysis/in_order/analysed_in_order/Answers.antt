@@ -1,23 +1,27 @@
-use Rattle.std.proofs.Common.{List, IfOk, IfErr, ◌-◌, ◌∙◌, subst, arith}
+use Rattle.std.proofs.Common.{List, IfOk, sum_by, ◌∙◌, refl, subst}
+use Rattle.outcomes.specs.Stages.{IsEqual}
+use Rattle.outcomes.specs.Spending.{Spends}
+use Rattle.outcomes.proofs.Spending.{spends_stopped}
 use Rattle.net_cells.specs.declared.cell.Cell.{Cell}
 use Rattle.net_cells.specs.cell_table.Rows.{held}
-use Rattle.cell_eval.specs.flow_analysis.Analyses.{HasNothingElse, WantsMemory}
+use Rattle.net_cells.specs.declared.cell_table.fault.AnalysisFault.TheVariants.{NoMemory}
+use Rattle.net_cells.specs.Work.{work}
+use Rattle.cell_eval.specs.flow_analysis.Analyses.{IsTableOf}
 use Rattle.net_cells.specs.MemoryEnds.{MemoryEnds, at_none}
 use Rattle.cell_eval.proofs.flow_analysis.in_order.analysed_in_order.Goals as goal
 
-pub returns-in-Ok-clause-nothing : goal.returns-in-Ok-clause-nothing
-returns-in-Ok-clause-nothing g c =
+pub returns-in-Ok-clause-table : goal.returns-in-Ok-clause-table
+returns-in-Ok-clause-table g c =
     subst
-    (λ (xs : List Cell). IfOk c.analysed.result
-    (λ t. HasNothingElse (held g.V.CellValue.meaning t.rows.items) xs))
-    (c.deref.ensures.value ∙ c.in-Ok.ensures) c.analysed.ensures.nothing
+    (λ (xs : List Cell). IfOk c.analysed.result (λ t. IsTableOf c.args.net.now xs (held g.V.CellValue.meaning t.rows.items)))
+    (c.deref.ensures.value ∙ c.in-Ok.ensures) c.analysed.ensures.table
 
-pub returns-in-Ok-clause-memory : goal.returns-in-Ok-clause-memory
-returns-in-Ok-clause-memory g c =
+pub returns-in-Ok-clause-spends : goal.returns-in-Ok-clause-spends
+returns-in-Ok-clause-spends g c =
     subst
-    (λ (xs : List Cell). IfErr c.analysed.result
-    (WantsMemory (MemoryEnds c.args.net.now xs (g.E.Evaluator.count c.analysed.new.eval - g.E.Evaluator.count c.args.eval.now))))
-    (c.deref.ensures.value ∙ c.in-Ok.ensures) c.analysed.ensures.memory
+    (λ (xs : List Cell). Spends g.E.Evaluator.count g.E.Evaluator.counter (IsEqual (sum_by (work c.args.net.now) xs)) NoMemory
+    (MemoryEnds c.args.net.now xs) c.args.eval.now c.analysed.new.eval c.analysed.result)
+    (c.deref.ensures.value ∙ c.in-Ok.ensures) c.analysed.ensures.spends
 
-pub returns-in-Err-clause-memory : goal.returns-in-Err-clause-memory
-returns-in-Err-clause-memory g c = at_none (omega arith)
+pub returns-in-Err-clause-spends : goal.returns-in-Err-clause-spends
+returns-in-Err-clause-spends g c = spends_stopped _ NoMemory refl (λ lack n none. at_none none)

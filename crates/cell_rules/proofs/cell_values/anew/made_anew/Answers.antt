@@ -1,6 +1,11 @@
-use Rattle.std.proofs.Common.{◌≡◌, ◌<◌, ◌-◌, length, Some, Err, ◌∙◌, ap, arith}
-use Rattle.std.proofs.lemmas.List.{drop_all}
+use Rattle.std.proofs.Common.{◌≡◌, ◌<◌, ◌+◌, ◌-◌, List, length, sum_by, Some, Err, ◌∙◌, ap, arith}
+use Rattle.std.proofs.lemmas.List.{drop_all, take_all}
 use Rattle.std.proofs.lemmas.List.Sums.{sum_by_more, sum_by_more_le}
+use Rattle.outcomes.specs.Stages.{IsEqual}
+use Rattle.outcomes.specs.Spending.{Spends}
+use Rattle.outcomes.proofs.Spending.{spends_all, spends_refused}
+use Rattle.net_cells.specs.declared.cell.Cell.{Cell}
+use Rattle.net_cells.specs.declared.cell_table.fault.AnalysisFault.TheVariants.{NoMemory}
 use Rattle.net_cells.specs.Meanings.{CellTable}
 use Rattle.net_cells.specs.CellFormulas.{formula}
 use Rattle.net_cells.specs.Work.{work}
@@ -43,24 +48,9 @@ returns-in-Err-clause-refused g c =
     c.loop-cell.cell-index c.in-Err.fault c.refusal.result c.refusal.ensures within edit.servers
     (next_of edit within c.loop-cell.invariant.others (c.loop-cell.invariant.reached edit)) c.in-Err.ensures.answer
 
-pub returns-in-Err-clause-within : goal.returns-in-Err-clause-within
-returns-in-Err-clause-within g c =
-    let more = sum_by_more_le (work c.args.net.now) c.args.touched.now c.loop-cell.cell-index no_cell (omega arith) in
-    omega (arith, more, c.in-Err.ensures.within, c.loop-cell.invariant.cost)
-
-pub returns-in_default-clause-within : goal.returns-in_default-clause-within
-returns-in_default-clause-within g c =
-    let more = sum_by_more_le (work c.args.net.now) c.args.touched.now c.loop-cell.cell-index no_cell (omega arith) in
-    omega (arith, more, c.in-Ok.ensures.within, c.loop-cell.invariant.cost)
-
-pub returns-in-Err-put-clause-within : goal.returns-in-Err-put-clause-within
-returns-in-Err-put-clause-within g c =
-    let more = sum_by_more_le (work c.args.net.now) c.args.touched.now c.loop-cell.cell-index no_cell (omega arith) in
-    omega (arith, more, c.in-Ok.ensures.within, c.loop-cell.invariant.cost)
-
--- ---- want of memory
-pub returns-in-Err-clause-memory : goal.returns-in-Err-clause-memory
-returns-in-Err-clause-memory g c =
+-- ---- what is counted, and want of memory
+pub returns-in-Err-clause-spends : goal.returns-in-Err-clause-spends
+returns-in-Err-clause-spends g c =
     let net = c.args.net.now in
     let touched = c.args.touched.now in
     let i = c.loop-cell.cell-index in
@@ -70,35 +60,55 @@ returns-in-Err-clause-memory g c =
     let next = next_of c.requires within c.loop-cell.invariant.others (c.loop-cell.invariant.reached c.requires) in
     let cost = c.loop-cell.invariant.cost in
     let rises = c.in-Err.ensures.rises in
+    let most = c.in-Err.ensures.within in
+    let more = sum_by_more_le (work net) touched i no_cell within in
     let mid = g.E.Evaluator.count c.loop-cell.eval in
     let new = g.E.Evaluator.count c.eval.new.self in
     let counted = new - g.E.Evaluator.count c.args.eval.now in
-    λ told. wants_memory (EndsAtTouched net touched before counted) (cell_at touched i) c.in-Err.fault c.refusal.result c.refusal.ensures
+    spends_refused (sum_by (work net) touched) c.refusal.result (omega (arith, cost, rises)) (omega (arith, cost, most, more))
+    (wants_memory (EndsAtTouched net touched before counted) (cell_at touched i) c.in-Err.fault c.refusal.result c.refusal.ensures
     (λ lack. ends_at c.requires.old net c.requires.order before at touched i (new - mid) counted within c.loop-cell.invariant.others next
-    (making (c.in-Err.ensures.memory (ap Err lack))) (omega (arith, cost, rises))) (cc told)
+    (making (c.in-Err.ensures.memory (ap Err lack))) (omega (arith, cost, rises))))
+    (c.in-Err.ensures.same ∙ c.loop-cell.invariant.same)
 
 -- a value that cannot be kept: the next cell's work is counted
 not_kept : (g : Over) (c : In-Ok g)
-    → EndsAtTouched c.args.net.now c.args.touched.now (placed g.V.CellValue.meaning c.args.values.now.versions.newest)
-    (g.E.Evaluator.count c.eval.new.self - g.E.Evaluator.count c.args.eval.now)
+    → Spends {A = Unit {0}} g.E.Evaluator.count g.E.Evaluator.counter (IsEqual (sum_by (work c.args.net.now) c.args.touched.now)) NoMemory
+    (EndsAtTouched c.args.net.now c.args.touched.now (placed g.V.CellValue.meaning c.args.values.now.versions.newest))
+    c.args.eval.now c.eval.new.self (Err NoMemory)
 not_kept g c =
     let net = c.args.net.now in
-    let next = cell_at c.args.touched.now c.loop-cell.cell-index in
+    let touched = c.args.touched.now in
+    let i = c.loop-cell.cell-index in
+    let next = cell_at touched i in
     let at : CellTable = placed g.V.CellValue.meaning c.loop-cell.values.versions.newest in
     let value = g.V.CellValue.meaning c.in-Ok.value in
     let cost = c.loop-cell.invariant.cost in
     let exact = c.in-Ok.ensures.exact in
-    let within : c.loop-cell.cell-index < length c.args.touched.now = omega arith in
-    ends_at c.requires.old net c.requires.order (placed g.V.CellValue.meaning c.args.values.now.versions.newest) at c.args.touched.now
-    c.loop-cell.cell-index (work net next) (g.E.Evaluator.count c.eval.new.self - g.E.Evaluator.count c.args.eval.now) within
+    let within : i < length touched = omega arith in
+    let more = sum_by_more_le (work net) touched i no_cell within in
+    spends_refused (sum_by (work net) touched) NoMemory (omega (arith, cost, exact)) (omega (arith, cost, exact, more))
+    (λ lack. ends_at c.requires.old net c.requires.order (placed g.V.CellValue.meaning c.args.values.now.versions.newest) at touched i
+    (work net next) (g.E.Evaluator.count c.eval.new.self - g.E.Evaluator.count c.args.eval.now) within
     c.loop-cell.invariant.others (next_of c.requires within c.loop-cell.invariant.others (c.loop-cell.invariant.reached c.requires))
-    (keeping value (gives_ok at (formula net next) value c.in-Ok.ensures.answer) (work_is net next)) (omega (arith, cost, exact))
+    (keeping value (gives_ok at (formula net next) value c.in-Ok.ensures.answer) (work_is net next)) (omega (arith, cost, exact)))
+    (c.in-Ok.ensures.same ∙ c.loop-cell.invariant.same)
 
-pub returns-in_default-clause-memory : goal.returns-in_default-clause-memory
-returns-in_default-clause-memory g c = λ told. not_kept g (goal.at.returns-in_default-clause-memory g c).In-Ok
+pub returns-in_default-clause-spends : goal.returns-in_default-clause-spends
+returns-in_default-clause-spends g c = not_kept g (goal.at.returns-in_default-clause-spends g c).In-Ok
 
-pub returns-in-Err-put-clause-memory : goal.returns-in-Err-put-clause-memory
-returns-in-Err-put-clause-memory g c = λ told. not_kept g (goal.at.returns-in-Err-put-clause-memory g c).In-Ok
+pub returns-in-Err-put-clause-spends : goal.returns-in-Err-put-clause-spends
+returns-in-Err-put-clause-spends g c = not_kept g (goal.at.returns-in-Err-put-clause-spends g c).In-Ok
+
+pub returns-clause-spends : goal.returns-clause-spends
+returns-clause-spends g c =
+    let net = c.args.net.now in
+    let touched = c.args.touched.now in
+    let old = g.E.Evaluator.count c.args.eval.now in
+    let all : g.E.Evaluator.count c.loop-cell.eval ≡ old + sum_by (work net) touched =
+    c.loop-cell.invariant.cost
+    ∙ ap (λ (cells : List Cell). old + sum_by (work net) cells) (take_all c.loop-cell.cell-index touched (omega arith)) in
+    spends_all (sum_by (work net) touched) all c.loop-cell.invariant.same
 
 -- ---- the cells that are made
 pub loop-cell-preserved : goal.loop-cell-preserved

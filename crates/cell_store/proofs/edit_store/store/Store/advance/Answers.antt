@@ -1,7 +1,8 @@
-use Rattle.std.proofs.Common.{◌≡◌, ℕ, ◌<◌, ◌^◌, length, ◌++◌, ◌-◌, ◌∷◌, [], List, Ok, Err, refl, ap, ◌∙◌, subst, sym, arith}
-use Rattle.std.specs.Prelude.{Result, IfErr, OnErr}
+use Rattle.std.proofs.Common.{◌≡◌, ℕ, ◌<◌, ◌^◌, length, ◌++◌, ◌-◌, ◌∷◌, [], List, refl, ap, ◌∙◌, subst, sym}
 use Rattle.std.proofs.lemmas.Result.{IfOk-from_err, err_from_is_err_and}
+use Rattle.outcomes.proofs.Spending.{spends_answer, spends_refusal, spends_stopped}
 use Rattle.net_model.specs.Networks.{Net}
+use Rattle.net_cells.specs.declared.cell_table.fault.AnalysisFault.TheVariants.{NoMemory}
 use Rattle.cell_rules.specs.cell_values.Placed.{placed}
 use Rattle.net_cells.specs.Order.{evaluation_order}
 use Rattle.cell_rules.specs.cell_changes.Changes.{TouchedOf}
@@ -11,6 +12,7 @@ use Rattle.cell_rules.specs.declared.edit_sites.replaced.Replaced.{Replaced}
 use Rattle.cell_store.specs.edit_store.Stored.{Stored, AreTouched, AreLost}
 use Rattle.cell_rules.specs.edit_sites.Replaced.{put_back, networks_before}
 use Rattle.cell_store.proofs.edit_store.Steps.{holds_edited}
+use Rattle.cell_store.proofs.edit_store.Outcomes.{on_err, in_any}
 use Rattle.cell_store.proofs.edit_store.PutBack.{kept_more, advanced}
 use Rattle.cell_store.proofs.edit_store.store.Store.advance.Goals as goal
 
@@ -18,9 +20,6 @@ use Rattle.cell_store.proofs.edit_store.store.Store.advance.Goals as goal
 room_left : {V : Type 0} (own before : List Net) (kept : List V) → own ≡ before → length own ≡ length kept → length before < 2 ^ 32 - 1
     → length kept < 2 ^ 32 - 1
 room_left own before kept same many room = subst (λ (n : ℕ). n < 2 ^ 32 - 1) (sym (ap length same) ∙ many) room
-
-none_yet : (n : ℕ) → n - n ≡ 0
-none_yet n = omega arith
 
 pub edited_values-requires-clause-room : goal.edited_values-requires-clause-room
 edited_values-requires-clause-room g c =
@@ -51,20 +50,10 @@ seen_again : {V : Type 0} (new old : List Replaced) (present : Net) (now was : H
 seen_again new old present now was s items values is =
     ap (λ (rs : List Replaced). seen rs present now) items ∙ ap (λ h. seen old present h) values ∙ is
 
-in_any : {X E : Type 0} (r : Result X E) (Q : Type 0) → Q → OnErr r Q
-in_any (Ok x) Q q = tt
-in_any (Err e) Q q = q
-
-on_err : {X E : Type 0} (r : Result X E) (P : E → Type 0) (f e : E) → r ≡ Err f → f ≡ e → P e → IfErr r P
-on_err {X} {E} r P f e is same h = subst (λ (x : Result X E). IfErr x P) (sym is) (subst P (sym same) h)
-
 pub returns-in-Err-clause-kept : goal.returns-in-Err-clause-kept
 returns-in-Err-clause-kept g c =
     seen_again c.reserve.new.self.items c.self.inside.replaced.items c.self.inside.present c.self.inside.values.versions
     c.self.inside.values.versions c.args.self.now c.reserve.ensures.items refl c.self.view_is
-
-pub returns-in-Err-clause-memory : goal.returns-in-Err-clause-memory
-returns-in-Err-clause-memory g c = λ told. at_none (none_yet _)
 
 pub returns-in_err-edited_values-clause-kept : goal.returns-in_err-edited_values-clause-kept
 returns-in_err-edited_values-clause-kept g c =
@@ -80,9 +69,6 @@ returns-in_err-edited_values-clause-refused g c =
 
 pub returns-in_err-edited_values-clause-advanced : goal.returns-in_err-edited_values-clause-advanced
 returns-in_err-edited_values-clause-advanced g c = IfOk-from_err c.from_residual.result _ c.from_residual.ensures.0
-
-pub returns-in_err-edited_values-clause-exact : goal.returns-in_err-edited_values-clause-exact
-returns-in_err-edited_values-clause-exact g c = IfOk-from_err c.from_residual.result _ c.from_residual.ensures.0
 
 pub invariant_of-self-2 : goal.invariant_of-self-2
 invariant_of-self-2 g c =
@@ -112,10 +98,16 @@ returns-clause-advanced g c =
     advanced g.V.CellValue.meaning c.args.self.now fields.replaced.items c.push.new.self.items c.args.replaced fields.present c.args.net
     fields.values.versions c.edited_values.new.values.versions c.self.view_is more back c.in_ok-edited_values.ensures.before
 
-pub returns-in_err-edited_values-clause-memory : goal.returns-in_err-edited_values-clause-memory
-returns-in_err-edited_values-clause-memory g c = λ told.
+-- ---- what is counted, and want of memory
+pub returns-in-Err-clause-spends : goal.returns-in-Err-clause-spends
+returns-in-Err-clause-spends g c = spends_stopped _ NoMemory refl (λ lack n none. at_none none)
+
+pub returns-in_err-edited_values-clause-spends : goal.returns-in_err-edited_values-clause-spends
+returns-in_err-edited_values-clause-spends g c =
     let p = err_from_is_err_and c.from_residual.result c.from_residual.ensures.1 in
-    subst
-    (λ version. EditEnds c.args.net c.args.touched.now (placed g.V.CellValue.meaning version)
-    (g.E.Evaluator.count c.edited_values.new.eval - g.E.Evaluator.count c.args.eval.now))
-    (ap (λ s. s.values.newest) c.self.view_is) (c.in_err-edited_values.ensures.memory (ap Err (sym p.2) ∙ sym p.1 ∙ told))
+    spends_refusal c.in_err-edited_values.ensures.spends c.from_residual.result p.0 p.1 (λ n is. is) (λ told. sym p.2 ∙ told)
+    (λ n. subst (λ version. EditEnds c.args.net c.args.touched.now (placed g.V.CellValue.meaning version) n)
+    (ap (λ s. s.values.newest) c.self.view_is))
+
+pub returns-clause-spends : goal.returns-clause-spends
+returns-clause-spends g c = spends_answer c.in_ok-edited_values.ensures.spends (λ n is. is)

@@ -1,7 +1,7 @@
 //! Why a simulation gives no run.
 
 ghost use Rattle.std.specs.Prelude.{◌≡◌};
-ghost use Rattle.simulator.specs.declared.net_simulator.fault.SimFault.TheVariants.{NoMemory};
+ghost use Rattle.simulator.specs.declared.fault.SimFault.TheVariants.{NoMemory};
 
 use std::alloc::AllocError;
 
