@@ -13,19 +13,20 @@ use Rattle.rational.proofs.Whole.{one_more_times}
 use Rattle.rational.proofs.ExtendedOrder.{le_ext_trans, le_lt_ext, le_or_lt_ext, finite_below}
 use Rattle.upp_curve.specs.declared.affine_segment.line.Piece.{Piece}
 use Rattle.upp_curve.specs.declared.affine_segment.element.Element.{Element}
-use Rattle.upp_curve.specs.affine_segment.Elements.{Covers, level}
+use Rattle.upp_curve.specs.affine_segment.Elements.{level}
 use Rattle.upp_curve.specs.affine_segment.Reading.{read}
 use Rattle.min_plus.specs.Functions.{zero_q}
 use Rattle.element_envelope.specs.PieceElements.{elements_of, Among}
 use Rattle.element_envelope.specs.Envelopes.{ListSplit, list_sum, IsEnvelope}
 use Rattle.element_envelope.specs.EnvelopeWindows.{EnvelopeRoom, IsEnvelopeWindow}
 use Rattle.element_envelope.specs.ConvolutionWindows.{OperandWindows, IsConvolutionWindow}
-use Rattle.element_envelope.proofs.Cover.{cover, element_times}
+use Rattle.element_envelope.proofs.Cover.{cover}
 use Rattle.element_envelope.proofs.EnvelopeHalves.{part_room}
 use Rattle.element_envelope.proofs.Envelopes.{from_start}
 use Rattle.element_envelope.proofs.OperandElements.{elements_stand}
 use Rattle.element_envelope.proofs.WindowConvolution.{endless}
 use Rattle.element_envelope.proofs.Windows.{windows_convolve}
+use Rattle.subadd_closure.proofs.ThinnedElements.{element_late, element_reads}
 use Rattle.subadd_closure.specs.Thinned.{StartFrom, IsCovered, IsOver, IsThinned}
 
 -- ---- numbers
@@ -93,17 +94,6 @@ module _ (end : ℚ) (f g cs : List Piece) (ws zs : List Element) (least : ℚ) 
   abbrev ys : List Element
   ys = elements_of g Inf
 
-  right_reads : (t : ℚ) (e : Element) → Among e ys → Covers e t → read g t ≡ Fin (level e t)
-  right_reads t e a c =
-      (cover g Inf windows.right.starts (endless g)).reads t
-      record { element = e; among = a; covers = c }
-
-  left_late : (t : ℚ) (e : Element) → Among e xs → Covers e t → zero_q ≤ℚ t
-  left_late t e a c = (element_times f Inf t e windows.left.starts (endless f) a c).0
-
-  right_late : (t : ℚ) (e : Element) → Among e ys → Covers e t → zero_q ≤ℚ t
-  right_late t e a c = (element_times g Inf t e windows.right.starts (endless g) a c).0
-
   module _ (t : ℚ) (early : t <ℚ end) (v : Ext) (all : IsEnvelope zs ys t v) where
     -- where v is nowhere above the sums at a split of the first side, it is not above the first side's own sum
     by_few : (i : ListSplit xs ys t) → IsOver (read cs) end i.left
@@ -114,8 +104,8 @@ module _ (end : ℚ) (f g cs : List Piece) (ws zs : List Element) (least : ℚ) 
         let s = i.split.first in
         let l = level i.left s in
         let r = level i.right i.split.second in
-        let sn : zero_q ≤ℚ s = left_late s i.left i.left_in i.split.first_in in
-        let un : zero_q ≤ℚ i.split.second = right_late i.split.second i.right i.right_in i.split.second_in in
+        let sn : zero_q ≤ℚ s = element_late f s i.left windows.left.starts i.left_in i.split.first_in in
+        let un : zero_q ≤ℚ i.split.second = element_late g i.split.second i.right windows.right.starts i.right_in i.split.second_in in
         let se : s <ℚ end = first_early s i.split.second t end un i.split.whole early in
         let under : read cs s ≤ₑ Fin l = over.over s i.split.first_in se in
         elim (le_or_lt_ext v (Fin (l +ℚ r))) [
@@ -137,22 +127,22 @@ module _ (end : ℚ) (f g cs : List Piece) (ws zs : List Element) (least : ℚ) 
         let a = k.split.first in
         let w = k.split.second in
         let (among, late) = few k.right k.right_in in
-        let an : zero_q ≤ℚ a = left_late a k.left k.left_in k.split.first_in in
-        let wn : zero_q ≤ℚ w = right_late w k.right among k.split.second_in in
-        let un : zero_q ≤ℚ u = right_late u i.right i.right_in i.split.second_in in
+        let an : zero_q ≤ℚ a = element_late f a k.left windows.left.starts k.left_in k.split.first_in in
+        let wn : zero_q ≤ℚ w = element_late g w k.right windows.right.starts among k.split.second_in in
+        let un : zero_q ≤ℚ u = element_late g u i.right windows.right.starts i.right_in i.split.second_in in
         let past : least ≤ℚ w = le_trans late (from_start k.right w k.split.second_in) in
         let whole : a +ℚ (w +ℚ u) ≡ t = same_whole a w s u t k.split.whole i.split.whole in
         let soon : w +ℚ u <ℚ end = rest_early a (w +ℚ u) t end an whole early in
         let low : zero_q ≤ℚ w +ℚ u = with2 w u (λ c. omega (arith, c.le, c.lt, c.same)) in
         let sum : read g (w +ℚ u) ≤ₑ Fin (level k.right w +ℚ level i.right u) =
-        subst (λ z. read g (w +ℚ u) ≤ₑ z +ₑ Fin (level i.right u)) (right_reads w k.right among k.split.second_in)
-        (subst (λ z. read g (w +ℚ u) ≤ₑ read g w +ₑ z) (right_reads u i.right i.right_in i.split.second_in)
+        subst (λ z. read g (w +ℚ u) ≤ₑ z +ₑ Fin (level i.right u)) (element_reads g w k.right windows.right.starts among k.split.second_in)
+        (subst (λ z. read g (w +ℚ u) ≤ₑ read g w +ₑ z) (element_reads g u i.right windows.right.starts i.right_in i.split.second_in)
         (adds w u wn un soon)) in
         let (q, is) = finite_below (read g (w +ℚ u)) (level k.right w +ℚ level i.right u) sum in
         let e = (cover g Inf windows.right.starts (endless g)).found (w +ℚ u) q low tt is in
         let here : Among e.element ys = e.among in
         let less : level e.element (w +ℚ u) ≤ℚ level k.right w +ℚ level i.right u =
-        subst (λ z. z ≤ₑ Fin (level k.right w +ℚ level i.right u)) (right_reads (w +ℚ u) e.element here e.covers) sum in
+        subst (λ z. z ≤ₑ Fin (level k.right w +ℚ level i.right u)) (element_reads g (w +ℚ u) e.element windows.right.starts here e.covers) sum in
         let j : ListSplit xs ys t = record {
           left = k.left;
           right = e.element;
@@ -174,7 +164,7 @@ module _ (end : ℚ) (f g cs : List Piece) (ws zs : List Element) (least : ℚ) 
 
     bounded : (n : ℕ) (i : ListSplit xs ys t) → i.split.first <ℚ int (pos n) *ℚ least → v ≤ₑ list_sum xs ys t i
     bounded zero i far =
-        absurd (none_early i.split.first least (left_late i.split.first i.left i.left_in i.split.first_in) far)
+        absurd (none_early i.split.first least (element_late f i.split.first i.left windows.left.starts i.left_in i.split.first_in) far)
     bounded (suc n) i far = elim (thin.others i.left i.left_in) [
       | inl kept ↦
           all.below

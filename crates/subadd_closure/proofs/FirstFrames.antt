@@ -1,5 +1,5 @@
 -- The frame of a convolution, from the one with no period.
-use Rattle.std.specs.Prelude.{◌≡◌}
+use Rattle.std.specs.Prelude.{◌≡◌, IfSome, None, Option, Some}
 use Rattle.rational.specs.Rational.{ℚ, ◌-ℚ◌}
 use Rattle.upp_limits.specs.declared.op_kind.OpKind.TheVariants.{Convolve}
 use Rattle.upp_curve.specs.Curve.{SpecCurve}
@@ -14,12 +14,18 @@ use Rattle.curve_conv.specs.LateBounds.{IsSlowerBounds}
 use Rattle.curve_conv.specs.ConvolveCall.{IsConvolveFrame}
 use Rattle.curve_conv.proofs.ConvolveCalls.{high_frame, high_within}
 
-pub later_frame : (f g : SpecCurve) (first r : Frame) (from : ℚ) (b : Bounds) → IsFrame Convolve f g 0 0 first
-    → from ≡ first.end -ℚ first.period → IsSlowerBounds f g from first.period b → IsFrame Convolve f g b.high 0 r
-    → IsConvolveFrame f g r × IsWithin Convolve f g
-later_frame f g first r from b h e B H =
+-- with so many periods as are enough
+pub between_frame : (f g : SpecCurve) (w : CallWindow) (from : ℚ) (b : Bounds) (o : Option Frame) → IsCurve f × IsCurve g → IsFirstWindow Convolve f g w
+    → from ≡ w.end -ℚ w.period → IsSlowerBounds f g from w.period b → IfSome o (IsFrame Convolve f g b.high 0)
+    → IfSome o (λ r. IsConvolveFrame f g r × IsWithin Convolve f g)
+between_frame f g w from b None K W e B h = tt
+between_frame f g w from b (Some r) K W e B h = (high_frame f g w from b r K W e B h, high_within f g w from b r K W e B h)
+
+pub later_frames : (f g : SpecCurve) (first : Frame) (o : Option Frame) (from : ℚ) (b : Bounds) → IsFrame Convolve f g 0 0 first
+    → from ≡ first.end -ℚ first.period → IsSlowerBounds f g from first.period b → IfSome o (IsFrame Convolve f g b.high 0)
+    → IfSome o (λ r. IsConvolveFrame f g r × IsWithin Convolve f g)
+later_frames f g first o from b h e B H =
     let w : CallWindow = record { start = first.start; period = first.period; end = first.end } in
-    let K : IsCurve f × IsCurve g = (h.first, h.second) in
     let W : IsFirstWindow Convolve f g w =
     record { window = record { start = h.start; period = h.period; end = h.end }; gauge = h.gauge } in
-    (high_frame f g w from b r K W e B H, high_within f g w from b r K W e B H)
+    between_frame f g w from b o (h.first, h.second) W e B H

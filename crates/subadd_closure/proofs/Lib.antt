@@ -59,3 +59,6 @@ pub mod SumPieces
 pub mod SumCurves
 pub mod ZeroCalls
 pub mod ZeroStars
+pub mod LastElements
+pub mod OrderedCurves
+pub mod OrderedWindows

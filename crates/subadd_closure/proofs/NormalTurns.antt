@@ -41,12 +41,9 @@ module _ (a b : ℚ) (l : Line) (m : ℕ) (low : zero_q ≤ℚ a) (proper : a <�
   some_end : zero_q <ℚ b
   some_end = le_lt_trans low proper
 
-  end_low : zero_q ≤ℚ b
-  end_low = le_of_lt some_end
-
   late_last : (k : ℕ) → k ≡ m → IsLate a (Fin b) (suc k)
   late_last zero e = first_late a (Fin b)
-  late_last (suc j) e = λ t h u. more a (Fin b) t (suc j) end_low (le_trans (apart (suc j) (omega arith) (omega arith)) h) u
+  late_last (suc j) e = λ t h u. more a (Fin b) t (suc j) (le_of_lt some_end) (le_trans (apart (suc j) (omega arith) (omega arith)) h) u
 
   -- a value that both the curve and a known closure have
   same_closure : (t : ℚ) (v w : Ext) → IsSegmentClosure a (Fin b) l t v → IsSegmentClosure a (Fin b) l t w → v ≡ w
@@ -132,7 +129,7 @@ module _ (a b : ℚ) (l : Line) (m : ℕ) (low : zero_q ≤ℚ a) (proper : a <�
       let end = one_more_times (suc m) b in
       let next = one_more_times (suc m) a in
       let reach = joined (suc m) (omega arith) in
-      let nonneg : zero_q ≤ℚ R = mul_nonneg (nat_nonneg (suc m)) end_low in
+      let nonneg : zero_q ≤ℚ R = mul_nonneg (nat_nonneg (suc m)) (le_of_lt some_end) in
       let base : zero_q ≤ℚ y = mul_nonneg (nat_nonneg (suc m)) low in
       let values = rising_values a b l m low proper apart joined (le_of_lt up) in
       let line_from : (t : ℚ) → R ≤ℚ t → t <ℚ R +ℚ b → f t ≡ Fin (line_at (line_times N l) t) =

@@ -5,17 +5,18 @@ use Rattle.rational.specs.Rational.{ℚ, ◌+ℚ◌, ◌-ℚ◌, ◌≤ℚ◌, �
 use Rattle.rational.specs.Grid.{Whole}
 use Rattle.rational.specs.Extended.{Ext, ◌≤ₑ◌, ◌+ₑ◌}
 use Rattle.rational.proofs.Linear.{with3}
-use Rattle.rational.proofs.Laws.{le_refl, le_of_lt}
+use Rattle.rational.proofs.Laws.{le_of_lt}
 use Rattle.upp_curve.specs.declared.affine_segment.line.Piece.{Piece}
 use Rattle.upp_curve.specs.affine_segment.Reading.{read}
 use Rattle.upp_curve.specs.Curve.{SpecCurve}
 use Rattle.min_plus.specs.Functions.{zero_q}
 use Rattle.upp_limits.specs.Limits.{Sizes}
-use Rattle.upp_curve.specs.affine_segment.Pieces.{Each, StartsAtZero}
+use Rattle.upp_curve.specs.affine_segment.Pieces.{StartsAtZero}
 use Rattle.upp_curve.proofs.affine_segment.PieceOrder.{each_map}
 use Rattle.curve_call.proofs.TailGrids.{TailOf}
 use Rattle.curve_call.specs.declared.frame.Frame.{Frame}
 use Rattle.curve_call.specs.Answering.{IsAnswerWindow}
+use Rattle.curve_call.proofs.Answering.{answer_with_tail}
 use Rattle.plain_operators.proofs.pointwise.LatticeCalls.{from_whole}
 use Rattle.element_envelope.specs.SumWindows.{SumValueAt, SumPiece, SumWindow}
 use Rattle.element_envelope.specs.Arches.{Arches}
@@ -71,22 +72,7 @@ started_answer f g r ps from rise v C V =
     let ends = back r.end r.period from C.from_is in
     let tail : TailOf z r.end from r.period rise =
     record { nonneg = nonneg; some = L.above; ends = ends; time = whole; whole = L.period_whole; value = room.whole } in
-    record {
-      sizes = z;
-      end = r.end;
-      limited = L.limited;
-      times_is = F.times;
-      values_is = F.values;
-      starts = U.starts;
-      before = subst (λ y. Each (λ p. p.x <ℚ y) (first_at v ps)) (sym ends)
-          (each_map (SumPiece z r.end) (λ p. p.x <ℚ r.end) (λ p P. P.start.before) (first_at v ps) U.each);
-      room = pieces_room z r.end (first_at v ps) L.limited U;
-      from_whole = whole;
-      nonneg = nonneg;
-      period_whole = L.period_whole;
-      above = L.above;
-      early = subst (λ y. from +ℚ r.period ≤ℚ y) ends (le_refl (from +ℚ r.period));
-      rise_whole = room.whole;
-      rise_within = room.within;
-      grids = sums_on_grids z r.end from r.period rise (first_at v ps) L.limited U B tail;
-    }
+    answer_with_tail z r.end from r.period rise r.times r.values (first_at v ps) L.limited F.times F.values U.starts
+    (each_map (SumPiece z r.end) (λ p. p.x <ℚ r.end) (λ p P. P.start.before) (first_at v ps) U.each)
+    (pieces_room z r.end (first_at v ps) L.limited U) tail room.within
+    (sums_on_grids z r.end from r.period rise (first_at v ps) L.limited U B tail)

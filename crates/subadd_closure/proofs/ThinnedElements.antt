@@ -4,7 +4,7 @@ use Rattle.std.proofs.Common.{arith, sym, refl, ap, ◌∙◌, subst, inl, inr, 
 use Rattle.std.proofs.lemmas.List.{take_more, take_all}
 use Rattle.rational.specs.Rational.{ℚ, ◌+ℚ◌, ◌*ℚ◌, ◌-ℚ◌, ◌≤ℚ◌, ◌<ℚ◌}
 use Rattle.rational.specs.Extended.{Ext, ◌≤ₑ◌, ◌<ₑ◌, ◌+ₑ◌}
-use Rattle.rational.specs.declared.Extended.TheVariants.{Fin}
+use Rattle.rational.specs.declared.Extended.TheVariants.{Fin, Inf}
 use Rattle.rational.proofs.Linear.{with2, with3, with4, with6}
 use Rattle.rational.proofs.Laws.{le_or_lt, le_trans, le_of_lt, le_lt_trans, antisym, le_of_not_lt, mul_le_mul, mul_le_mul_right, sub_mul}
 use Rattle.rational.proofs.ExtendedOrder.{le_ext_trans, same_le_ext}
@@ -25,8 +25,10 @@ use Rattle.upp_curve.specs.Curves.{IsCurve}
 use Rattle.upp_curve.specs.Unrolled.{unroll, upto}
 use Rattle.upp_curve.proofs.Unique.{upto_none, upto_some, upto_end}
 use Rattle.upp_normal.proofs.Below.{read_upto, read_from_cut, unroll_reads}
-use Rattle.element_envelope.specs.PieceElements.{Among}
+use Rattle.element_envelope.specs.PieceElements.{Among, elements_of}
+use Rattle.element_envelope.proofs.Cover.{cover, element_times}
 use Rattle.element_envelope.proofs.Members.{among_right}
+use Rattle.element_envelope.proofs.WindowConvolution.{endless}
 use Rattle.subadd_closure.specs.Thinned.{LiesUnder, IsBefore, StartsLate, StartFrom, IsOver, AreKept, IsThinned}
 
 -- ---- numbers
@@ -332,3 +334,10 @@ window_adds g end ps curve are sub s u n m early =
     le_ext_trans (read ps (s +ℚ u)) (value_at g (s +ℚ u)) (read ps s +ₑ read ps u) (same_le_ext (reads (s +ℚ u) low early))
     (le_ext_trans (value_at g (s +ℚ u)) (value_at g s +ₑ value_at g u) (read ps s +ₑ read ps u) (sub s u n m)
     (same_le_ext (ap (λ z. z +ₑ value_at g u) (sym (reads s n se)) ∙ ap (λ z. read ps s +ₑ z) (sym (reads u m ue)))))
+
+-- ---- an element of pieces from 0 on, at one of its times: what is read there, and that it is not before 0
+pub element_reads : (ps : List Piece) (t : ℚ) (e : Element) → StartsAtZero ps → Among e (elements_of ps Inf) → Covers e t → read ps t ≡ Fin (level e t)
+element_reads ps t e starts a c = (cover ps Inf starts (endless ps)).reads t record { element = e; among = a; covers = c }
+
+pub element_late : (ps : List Piece) (t : ℚ) (e : Element) → StartsAtZero ps → Among e (elements_of ps Inf) → Covers e t → zero_q ≤ℚ t
+element_late ps t e starts a c = (element_times ps Inf t e starts (endless ps) a c).0

@@ -1,7 +1,7 @@
 -- Where the first of two operands is subadditive, and the second at most 0 at 0, the elements of the second that are
 -- nowhere below the first do not count in their convolution.
-use Rattle.std.specs.Prelude.{◌≡◌, List, Result, Ok, Err, IfOk, Vec}
-use Rattle.std.proofs.Common.{arith, sym, ◌∙◌, subst, inl, inr, Global}
+use Rattle.std.specs.Prelude.{◌≡◌, List}
+use Rattle.std.proofs.Common.{arith, sym, ◌∙◌, subst, inl, inr}
 use Rattle.rational.specs.Rational.{ℚ, ◌+ℚ◌, ◌≤ℚ◌, ◌<ℚ◌}
 use Rattle.rational.specs.Extended.{Ext, ◌≤ₑ◌, ◌+ₑ◌}
 use Rattle.rational.specs.declared.Extended.TheVariants.{Fin, Inf}
@@ -19,12 +19,13 @@ use Rattle.element_envelope.specs.PieceElements.{elements_of, Among}
 use Rattle.element_envelope.specs.Envelopes.{ListSplit, list_sum, IsEnvelope}
 use Rattle.element_envelope.specs.EnvelopeWindows.{EnvelopeRoom, IsEnvelopeWindow}
 use Rattle.element_envelope.specs.ConvolutionWindows.{OperandWindows, IsConvolutionWindow}
-use Rattle.element_envelope.proofs.Cover.{cover, element_times}
+use Rattle.element_envelope.proofs.Cover.{cover}
 use Rattle.element_envelope.proofs.Members.{Matched, matched_out}
 use Rattle.rational.proofs.ExtendedOrder.{finite_below}
 use Rattle.element_envelope.proofs.OperandElements.{elements_stand}
 use Rattle.element_envelope.proofs.WindowConvolution.{endless}
 use Rattle.element_envelope.proofs.Windows.{windows_convolve}
+use Rattle.subadd_closure.proofs.ThinnedElements.{element_late, element_reads}
 use Rattle.subadd_closure.specs.Thinned.{IsOver, IsThinned}
 
 no_more : (a b : ℚ) → b ≤ℚ zero_q → a +ℚ b ≤ℚ a
@@ -44,23 +45,6 @@ module _ (F : ℚ → Ext) (end : ℚ) (f g : List Piece) (zs : List Element) (w
   abbrev ys : List Element
   ys = elements_of g Inf
 
-  -- the value of an element of f, or of g, at one of its times
-  left_reads : (t : ℚ) (e : Element) → Among e xs → Covers e t → read f t ≡ Fin (level e t)
-  left_reads t e a c =
-      (cover f Inf windows.left.starts (endless f)).reads t
-      record { element = e; among = a; covers = c }
-
-  right_reads : (t : ℚ) (e : Element) → Among e ys → Covers e t → read g t ≡ Fin (level e t)
-  right_reads t e a c =
-      (cover g Inf windows.right.starts (endless g)).reads t
-      record { element = e; among = a; covers = c }
-
-  left_late : (t : ℚ) (e : Element) → Among e xs → Covers e t → zero_q ≤ℚ t
-  left_late t e a c = (element_times f Inf t e windows.left.starts (endless f) a c).0
-
-  right_late : (t : ℚ) (e : Element) → Among e ys → Covers e t → zero_q ≤ℚ t
-  right_late t e a c = (element_times g Inf t e windows.right.starts (endless g) a c).0
-
   -- the element of g at 0 is left in
   pub record StartElement : Type 0 where
     pub element : Element
@@ -74,7 +58,7 @@ module _ (F : ℚ → Ext) (end : ℚ) (f g : List Piece) (zs : List Element) (w
       let e = (cover g Inf windows.right.starts (endless g)).found zero_q v (le_refl zero_q) tt is in
       let among : Among e.element ys = e.among in
       let most : level e.element zero_q ≤ℚ zero_q =
-      subst (λ z. z ≤ₑ Fin zero_q) (right_reads zero_q e.element among e.covers) low in
+      subst (λ z. z ≤ₑ Fin zero_q) (element_reads g zero_q e.element windows.right.starts among e.covers) low in
       elim (thin.others e.element among) [
         | inl a ↦ record { element = e.element; among = a; covers = e.covers; most = most }
         | inr o ↦ absurd (not_over F end e.element e.covers o)
@@ -88,8 +72,8 @@ module _ (F : ℚ → Ext) (end : ℚ) (f g : List Piece) (zs : List Element) (w
         let s = i.split.first in
         let u = i.split.second in
         let whole : s +ℚ u ≡ t = i.split.whole in
-        let sn : zero_q ≤ℚ s = left_late s i.left i.left_in i.split.first_in in
-        let un : zero_q ≤ℚ u = right_late u i.right i.right_in i.split.second_in in
+        let sn : zero_q ≤ℚ s = element_late f s i.left windows.left.starts i.left_in i.split.first_in in
+        let un : zero_q ≤ℚ u = element_late g u i.right windows.right.starts i.right_in i.split.second_in in
         let ends : s +ℚ u <ℚ end = subst (λ z. z <ℚ end) (sym whole) early in
         let se : s <ℚ end = with3 s u end (λ c. omega (arith, c.le, c.lt, c.same)) in
         let ue : u <ℚ end = with3 s u end (λ c. omega (arith, c.le, c.lt, c.same)) in
@@ -98,7 +82,7 @@ module _ (F : ℚ → Ext) (end : ℚ) (f g : List Piece) (zs : List Element) (w
         le_ext_trans (F t) (F s +ₑ F u) (Fin (level i.left s +ℚ level i.right u))
         (subst (λ z. F z ≤ₑ F s +ₑ F u) whole (sub s u sn un))
         (add_le_ext (F s) (Fin (level i.left s)) (F u) (Fin (level i.right u))
-        (same_le_ext (sym (reads s sn se) ∙ left_reads s i.left i.left_in i.split.first_in))
+        (same_le_ext (sym (reads s sn se) ∙ element_reads f s i.left windows.left.starts i.left_in i.split.first_in))
         (o.over u i.split.second_in ue)) in
         let (w, at) = finite_below (F t) (level i.left s +ℚ level i.right u) sum in
         let e = (cover f Inf windows.left.starts (endless f)).found t w tn tt (reads t tn early ∙ at) in
@@ -117,7 +101,7 @@ module _ (F : ℚ → Ext) (end : ℚ) (f g : List Piece) (zs : List Element) (w
             whole = add_zero t;
           };
         } in
-        let here : F t ≡ Fin (level e.element t) = sym (reads t tn early) ∙ left_reads t e.element among e.covers in
+        let here : F t ≡ Fin (level e.element t) = sym (reads t tn early) ∙ element_reads f t e.element windows.left.starts among e.covers in
         let less : level e.element t +ℚ level b.element zero_q ≤ℚ level e.element t =
         no_more (level e.element t) (level b.element zero_q) b.most in (
           j,
@@ -180,13 +164,3 @@ module _ (F : ℚ → Ext) (end : ℚ) (f g : List Piece) (zs : List Element) (w
     stands = λ r. E.stands (room_in r);
     arches = λ r. E.arches (room_in r);
   }
-
--- of elements that are those of the windows
-pub ok_thinned : {E : Type 0} (r : Result (Vec Piece Global) E) (F : ℚ → Ext) (end : ℚ) (f g : List Piece)
-    (xs zs : List Element) → xs ≡ elements_of f Inf → OperandWindows end f g
-    → ((t : ℚ) → zero_q ≤ℚ t → t <ℚ end → read f t ≡ F t) → IsSubadditive F → read g zero_q ≤ₑ Fin zero_q
-    → IsThinned F end (elements_of g Inf) zs
-    → IfOk r (λ v. IsEnvelopeWindow end xs zs v.items) → IfOk r (λ v. IsConvolutionWindow f g end v.items)
-ok_thinned (Ok v) F end f g us zs e o reads sub low thin k =
-    thinned_convolves F end f g zs o reads sub low thin v.items (subst (λ z. IsEnvelopeWindow end z zs v.items) e k)
-ok_thinned (Err x) F end f g us zs e o reads sub low thin k = k

@@ -1,4 +1,5 @@
--- How many calls on curves the fold of a closure makes. Own choice.
+-- How many calls on curves the fold of a closure counts: those on a star too that is not made, since it leaves the zero curve
+-- as it is. Own choice.
 use Rattle.std.specs.Prelude.{ℕ, ◌+◌, ◌-◌, Option, Some, None, List, length}
 use Rattle.std.specs.List.{sum_by}
 use Rattle.upp_curve.specs.Curve.{SpecCurve}

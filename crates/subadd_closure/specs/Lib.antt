@@ -22,3 +22,4 @@ pub mod HeavyLaws
 pub mod Lattices
 pub mod ElementClosures
 pub mod IdleParts
+pub mod Ordered

@@ -8,7 +8,8 @@ use Rattle.upp_limits.specs.declared.op_kind.OpFault.TheVariants.{NoMemory}
 use Rattle.min_plus.specs.Convolution.{IsConvolution}
 use Rattle.upp_curve.specs.Curve.{SpecCurve, value_at}
 use Rattle.upp_curve.specs.Curves.{IsCurve}
-use Rattle.min_plus.specs.Functions.{zero_q}
+use Rattle.min_plus.specs.Functions.{IsNonnegative, zero_q}
+use Rattle.subadd_closure.specs.Thinned.{AreThinnable}
 
 -- past 0 the convolution of f and g is finite
 abbrev pub ConvolvesFinitely : (ℚ → Ext) → (ℚ → Ext) → Type 0
@@ -25,3 +26,10 @@ abbrev pub ConvolvesPastZero : SpecCurve → SpecCurve → ℚ → SpecCurve →
 ConvolvesPastZero f g v h =
     (value_at h zero_q ≡ Fin v)
     × ((t : ℚ) → zero_q <ℚ t → IsConvolution (value_at f) (value_at g) t (value_at h t))
+
+-- ---- two curves whose convolution is taken so: nowhere below 0, finite past 0, and with elements that may be left out
+pub record AreConvolvedLast (f g : SpecCurve) : Type 0 where
+  pub first : IsNonnegative (value_at f)
+  pub second : IsNonnegative (value_at g)
+  pub finite : ConvolvesFinitely (value_at f) (value_at g)
+  pub thin : AreThinnable f g

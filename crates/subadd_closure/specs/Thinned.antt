@@ -2,10 +2,10 @@
 -- the first without those that are nowhere below what it makes with few of the second. (Where f is subadditive and g is at
 -- most 0 at 0, f(s) + g(u) with f(u) at most g(u) is nowhere below f(s + u) + g(0). Where g is subadditive, f(s) + g(u) with
 -- f(s - w) + g(w) at most f(s) is nowhere below f(s - w) + g(w + u): own choice.)
-use Rattle.std.specs.Prelude.{◌⊎◌, Bool, true, false, List, [], ◌∷◌}
+use Rattle.std.specs.Prelude.{◌≡◌, ◌⊎◌, Bool, true, false, List, [], ◌∷◌}
 use Rattle.rational.specs.Rational.{ℚ, ◌≤ℚ◌, ◌<ℚ◌}
 use Rattle.rational.specs.Extended.{Ext, ◌≤ₑ◌}
-use Rattle.rational.specs.declared.Extended.TheVariants.{Fin}
+use Rattle.rational.specs.declared.Extended.TheVariants.{Fin, Inf}
 use Rattle.upp_curve.specs.declared.affine_segment.line.Line.{Line}
 use Rattle.upp_curve.specs.declared.affine_segment.line.Piece.{Piece}
 use Rattle.upp_curve.specs.declared.affine_segment.element.Element.{Element}
@@ -16,7 +16,11 @@ use Rattle.upp_curve.specs.affine_segment.Values.{line_at}
 use Rattle.min_plus.specs.Convolution.{IsSubadditive}
 use Rattle.min_plus.specs.Functions.{zero_q}
 use Rattle.upp_curve.specs.Curve.{SpecCurve, value_at}
-use Rattle.element_envelope.specs.PieceElements.{Among}
+use Rattle.upp_curve.specs.Curves.{IsCurve}
+use Rattle.upp_curve.specs.Unrolled.{unroll}
+use Rattle.element_envelope.specs.ConvolutionWindows.{OperandWindows}
+use Rattle.element_envelope.specs.PieceElements.{Among, elements_of}
+use Rattle.subadd_closure.specs.declared.again.Operands.{Operands}
 use Rattle.element_envelope.specs.EnvelopeWindows.{IsEnvelopeWindow}
 
 -- ---- what is left out
@@ -74,3 +78,13 @@ pub record AreThinnable (f g : SpecCurve) : Type 0 where
 abbrev pub MayThin : Bool → SpecCurve → SpecCurve → Type 0
 MayThin true f g = AreThinnable f g
 MayThin false f g = Unit {0}
+
+-- ---- two operands of which that is known
+pub record IsReady (w : Operands) : Type 0 where
+  pub curves : IsCurve w.f.now × IsCurve w.g.now
+  pub windows : OperandWindows w.end w.left.now w.right.now
+  pub first : w.left.now ≡ unroll w.f.now w.end
+  pub second : w.right.now ≡ unroll w.g.now w.end
+  pub thin : AreThinnable w.f.now w.g.now
+  pub elements : (w.xs.now ≡ elements_of w.left.now Inf) × (w.ys.now ≡ elements_of w.right.now Inf)
+  pub late : IsThinned (read w.left.now) w.end w.ys.now w.late.now

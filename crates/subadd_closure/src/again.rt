@@ -11,7 +11,7 @@ ghost use Rattle.element_envelope.specs.ConvolutionWindows.{OperandWindows, IsCo
 ghost use Rattle.element_envelope.specs.PieceElements.{elements_of};
 ghost use Rattle.curve_conv.specs.ConvolveCall.{IsConvolveFrame};
 ghost use Rattle.plain_operators.specs.pointwise.Lattice.{RisesBy};
-ghost use Rattle.subadd_closure.specs.Thinned.{AreThinnable, IsThinned, MayThin};
+ghost use Rattle.subadd_closure.specs.Thinned.{IsReady, MayThin};
 
 use crate::covered::covered;
 use crate::thinned::thinned;
@@ -26,95 +26,57 @@ use upp_curve::Curve;
 use upp_curve::affine_segment::{Element, Piece};
 use upp_normal::unrolled;
 
-// The pieces of the convolution, of which `left` and `right` are the operands' pieces, `xs` and `ys` their elements, and
-// `late` those of `ys` that are not nowhere below the first operand: where they are at most half, as the lesser of the
-// first operand and of what they make with those of `xs` that may make something below it.
-fn late_window(
-    alloc: Global,
-    f: &Curve,
-    g: &Curve,
-    left: &[Piece],
-    right: &[Piece],
-    xs: &[Element],
-    ys: &[Element],
-    late: &[Element],
-    end: Frac,
-) -> Result<Vec<Piece>, AllocError>
-    requires curves { IsCurve f.now × IsCurve g.now }
-    requires windows { OperandWindows end left.now right.now }
-    requires first { left.now ≡ unroll f.now end }
-    requires second { right.now ≡ unroll g.now end }
-    requires thin { AreThinnable f.now g.now }
-    requires elements { (xs.now ≡ elements_of left.now Extended.Inf) × (ys.now ≡ elements_of right.now Extended.Inf) }
-    requires late { IsThinned (read left.now) end ys.now late.now }
-    ensures { IfOk result (λ ps. IsConvolutionWindow left.now right.now end ps.items) }
+/// Two operands of a convolution: their pieces, their elements, and those of the second that are not left out.
+#[derive(Clone, Copy)]
+pub(crate) struct Operands<'a> {
+    /// The first.
+    pub(crate) f: &'a Curve,
+    /// The second.
+    pub(crate) g: &'a Curve,
+    /// The pieces of the first that start below the end.
+    pub(crate) left: &'a [Piece],
+    /// Those of the second.
+    pub(crate) right: &'a [Piece],
+    /// The elements of the first.
+    pub(crate) xs: &'a [Element],
+    /// Those of the second.
+    pub(crate) ys: &'a [Element],
+    /// Those of the second that are not nowhere below the first.
+    pub(crate) late: &'a [Element],
+    /// Where the window ends.
+    pub(crate) end: Frac,
+}
+
+// The pieces of the convolution: where at most half of the second operand's elements are left, as the lesser of the first
+// operand and of what they make with those of the first that may make something below it.
+fn late_window(alloc: Global, w: &Operands) -> Result<Vec<Piece>, AllocError>
+    requires { IsReady w.now }
+    ensures { IfOk result (λ ps. IsConvolutionWindow w.now.left.now w.now.right.now w.now.end ps.items) }
 {
-    if late.len() > ys.len() / 2 {
-        return window_convolution(alloc, left, right, end);
+    if w.late.len() > w.ys.len() / 2 {
+        return window_convolution(alloc, w.left, w.right, w.end);
     }
-    let kept = useful(alloc, left, xs, late, end)?;
-    lower_envelope(alloc, left, &kept, late, end)
+    let kept = useful(alloc, w.left, w.xs, w.late, w.end)?;
+    lower_envelope(alloc, w.left, &kept, w.late, w.end)
 }
 
 // The same by the elements of the first operand that are not nowhere below what it makes with few of the second, where
 // there are fewer pairs of them.
-fn covered_window(
-    alloc: Global,
-    f: &Curve,
-    g: &Curve,
-    left: &[Piece],
-    right: &[Piece],
-    xs: &[Element],
-    ys: &[Element],
-    late: &[Element],
-    end: Frac,
-) -> Result<Vec<Piece>, AllocError>
-    requires curves { IsCurve f.now × IsCurve g.now }
-    requires windows { OperandWindows end left.now right.now }
-    requires first { left.now ≡ unroll f.now end }
-    requires second { right.now ≡ unroll g.now end }
-    requires thin { AreThinnable f.now g.now }
-    requires elements { (xs.now ≡ elements_of left.now Extended.Inf) × (ys.now ≡ elements_of right.now Extended.Inf) }
-    requires late { IsThinned (read left.now) end ys.now late.now }
-    ensures { IfOk result (λ ps. IsConvolutionWindow left.now right.now end ps.items) }
+fn covered_window(alloc: Global, w: &Operands) -> Result<Vec<Piece>, AllocError>
+    requires { IsReady w.now }
+    ensures { IfOk result (λ ps. IsConvolutionWindow w.now.left.now w.now.right.now w.now.end ps.items) }
 {
-    let early = covered(alloc, xs, ys, end)?;
-    if early.len().saturating_mul(ys.len()) < xs.len().saturating_mul(late.len()) {
-        return envelope(alloc, &early, ys, end);
+    let early = covered(alloc, w.xs, w.ys, w.end)?;
+    if early.len().saturating_mul(w.ys.len()) < w.xs.len().saturating_mul(w.late.len()) {
+        return envelope(alloc, &early, w.ys, w.end);
     }
-    late_window(alloc, f, g, left, right, xs, ys, late, end)
+    late_window(alloc, w)
 }
 
-// The pieces of the convolution, of which `left` and `right` are the operands' pieces: with the elements of the second
-// left out that are nowhere below the first, or those of the first that are nowhere below what it makes with few of the
-// second, where that leaves fewer pairs.
-fn thinned_window(
-    alloc: Global,
-    f: &Curve,
-    g: &Curve,
-    left: &[Piece],
-    right: &[Piece],
-    end: Frac,
-) -> Result<Vec<Piece>, AllocError>
-    requires curves { IsCurve f.now × IsCurve g.now }
-    requires windows { OperandWindows end left.now right.now }
-    requires first { left.now ≡ unroll f.now end }
-    requires second { right.now ≡ unroll g.now end }
-    requires thin { AreThinnable f.now g.now }
-    ensures { IfOk result (λ ps. IsConvolutionWindow left.now right.now end ps.items) }
-{
-    let ys = cut(alloc, right, Extended::Inf)?;
-    let late = thinned(alloc, left, &ys, end)?;
-    let xs = cut(alloc, left, Extended::Inf)?;
-    // What is made with few elements costs as much as few pairs of each.
-    if late.len() > 8 {
-        return covered_window(alloc, f, g, left, right, &xs, &ys, &late, end);
-    }
-    late_window(alloc, f, g, left, right, &xs, &ys, &late, end)
-}
-
-// The pieces of the convolution, of which `left` and `right` are the operands' pieces; `thin` as of `window_of`.
-fn window_between(
+/// The pieces of the convolution, of which `left` and `right` are the operands' pieces. Where `thin` is set, the elements of
+/// the second are left out that are nowhere below the first, or those of the first that are nowhere below what it makes with
+/// few of the second, where that leaves fewer pairs. Refused only for want of memory.
+pub(crate) fn window_between(
     alloc: Global,
     f: &Curve,
     g: &Curve,
@@ -130,10 +92,27 @@ fn window_between(
     requires thin { MayThin thin f.now g.now }
     ensures { IfOk result (λ ps. IsConvolutionWindow left.now right.now end ps.items) }
 {
-    if thin {
-        return thinned_window(alloc, f, g, left, right, end);
+    if !thin {
+        return window_convolution(alloc, left, right, end);
     }
-    window_convolution(alloc, left, right, end)
+    let ys = cut(alloc, right, Extended::Inf)?;
+    let late = thinned(alloc, left, &ys, end)?;
+    let xs = cut(alloc, left, Extended::Inf)?;
+    let w = Operands {
+        f,
+        g,
+        left,
+        right,
+        xs: xs.as_slice(),
+        ys: ys.as_slice(),
+        late: late.as_slice(),
+        end,
+    };
+    // What is made with few elements costs as much as few pairs of each.
+    if late.len() > 8 {
+        return covered_window(alloc, &w);
+    }
+    late_window(alloc, &w)
 }
 
 /// The pieces of the convolution that start below the end of the window. Where `thin` is set, what of the second operand

@@ -62,6 +62,7 @@ fn with_star<L: Ledger>(
     ensures all { IfOk result (λ _. steps.new ≡ steps.old + (part_work (part_of f.now.tail e.now) + 1)) }
 {
     if leaves_as_is(f, gauge, &sofar, e) {
+        // The minimum of the star and the convolution with it count as if they were made: the work is that of the fold.
         steps.tick();
         steps.tick();
         return Ok(sofar);
@@ -134,7 +135,7 @@ fn closed<L: Ledger>(
     let last = es.len() - 1;
     let sofar = folded(alloc, f, gauge, es, last, steps)?;
     let star = element_star(alloc, f, gauge, &es[last], steps)?;
-    started_from(alloc, &sofar, &star, start_of(f), true, steps)
+    started_from(alloc, &sofar, &star, start_of(f), steps)
 }
 
 /// The subadditive closure of a curve that is finite and nowhere below 0: at t the infimum of the sums of f over one or

@@ -8,14 +8,14 @@ ghost use Rattle.upp_limits.specs.declared.op_kind.OpKind.TheVariants.{Convolve}
 ghost use Rattle.curve_conv.specs.ConvolveCall.{IsConvolveFrame};
 ghost use Rattle.curve_call.specs.Calls.{Applies};
 ghost use Rattle.outcomes.specs.Calls.{Then};
-ghost use Rattle.subadd_closure.specs.StartsAt.{ConvolvesFinitely, ConvolvesPastZero, StartsAt};
+ghost use Rattle.subadd_closure.specs.StartsAt.{AreConvolvedLast, ConvolvesFinitely, ConvolvesPastZero, StartsAt};
 ghost use Rattle.subadd_closure.specs.Thinned.{MayThin};
 
 use crate::again::{slower_rise, window_of};
 use crate::parts::{repeats_start, with_first};
 use crate::star_convolution::{convolve_stars, star_frame};
 use crate::starting::with_start;
-use curve_call::{Frame, answer, intact};
+use curve_call::{Frame, framed_answer, intact};
 use fraction128::{Frac, difference};
 use outcomes::Steps;
 use rational::Extended;
@@ -58,26 +58,10 @@ fn started_within(
     let from = difference(frame.end, frame.period);
     if repeats_start(&pieces, frame.period, rise, start) {
         let started = with_first(pieces, Extended::Fin(start));
-        return answer(
-            alloc,
-            started,
-            from,
-            frame.period,
-            rise,
-            frame.times,
-            frame.values,
-        );
+        return framed_answer(alloc, started, from, rise, frame);
     }
     let open = with_first(pieces, Extended::Inf);
-    let late = answer(
-        alloc,
-        open,
-        from,
-        frame.period,
-        rise,
-        frame.times,
-        frame.values,
-    )?;
+    let late = framed_answer(alloc, open, from, rise, frame)?;
     late.keeps();
     with_start(alloc, &late, start)
 }
@@ -85,29 +69,25 @@ fn started_within(
 /// The convolution of two curves that are nowhere below 0, finite past 0, with the value `start` at 0 in place of its
 /// own. One step is counted. Refused with TooWide or TooMany exactly where the convolution is over that limit: no limit
 /// is asked of the value at 0. Else only for want of memory. Where the convolution's own value at 0 is not `start`, its
-/// pieces are made twice. `thin` as of `window_of`.
+/// pieces are made twice, and each time what may be left out is.
 pub(crate) fn started_from<L: Ledger>(
     alloc: Global,
     sofar: &Curve,
     star: &Curve,
     start: Frac,
-    thin: bool,
     steps: &mut Steps<L>,
 ) -> Result<Curve, OpFault>
-    requires first { IsNonnegative (value_at sofar.now) }
-    requires second { IsNonnegative (value_at star.now) }
+    requires operands { AreConvolvedLast sofar.now star.now }
     requires start { zero_q ≤ℚ start }
-    requires finite { ConvolvesFinitely (value_at sofar.now) (value_at star.now) }
-    requires thin { MayThin thin sofar.now star.now }
     ensures count { steps.new ≡ steps.old + 1 }
     ensures answer { Then (Applies Convolve sofar.now star.now) (StartsAt start) result }
 {
-    let whole = intact(convolve_stars(alloc, sofar, star, thin, steps))?;
+    let whole = intact(convolve_stars(alloc, sofar, star, true, steps))?;
     if begins_at(&whole, start) {
         return Ok(whole);
     }
-    let frame = star_frame(alloc, sofar, star)?;
-    let started = match started_within(alloc, sofar, star, &frame, start, thin) {
+    let frame = star_frame(alloc, sofar, star, true)?;
+    let started = match started_within(alloc, sofar, star, &frame, start, true) {
         Ok(c) => Ok(c),
         Err(_) => Err(OpFault::NoMemory),
     };

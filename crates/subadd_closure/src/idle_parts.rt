@@ -27,7 +27,7 @@ use upp_curve::affine_segment::{Element, Line, Piece};
 use upp_curve::{Curve, Tail};
 
 // Whether a number is 0.
-fn is_none(x: Frac) -> bool
+fn is_nought(x: Frac) -> bool
     ensures { IsTrue result → x ≡ zero_q }
 {
     x == Frac::zero()
@@ -37,8 +37,8 @@ fn is_none(x: Frac) -> bool
 fn is_zero_line(line: &Line) -> bool
     ensures { IsTrue result → (line.now.icept ≡ zero_q) × (line.now.slope ≡ zero_q) }
 {
-    if is_none(line.icept) {
-        return is_none(line.slope);
+    if is_nought(line.icept) {
+        return is_nought(line.slope);
     }
     false
 }
@@ -53,10 +53,10 @@ fn is_zero_piece(p: &Piece) -> bool
     let Extended::Fin(v) = p.at else {
         return false;
     };
-    if !is_none(p.x) {
+    if !is_nought(p.x) {
         return false;
     }
-    if !is_none(v) {
+    if !is_nought(v) {
         return false;
     }
     is_zero_line(&line)
@@ -72,7 +72,7 @@ fn is_zero(c: &Curve) -> bool
     }
     match c.tail() {
         Tail::Affine { rank } => {
-            if is_none(*rank) {
+            if is_nought(*rank) {
                 return is_zero_piece(&pieces[0]);
             }
             false
@@ -148,18 +148,16 @@ fn is_idle_segment(f: &Curve, own: u128, a: Frac, b: Ext, line: &Line) -> bool
     is_up(line, end)
 }
 
-// Whether an element of f with no copies leaves the zero curve as it is, where `sofar` is that curve.
+// Whether an element of f with no copies leaves `sofar`, the zero curve, as it is.
 fn is_idle(f: &Curve, own: u128, sofar: &Curve, e: &Element) -> bool
     requires part { IsElementOf f.now e.now }
     requires finite { IsFinite (value_at f.now) }
     requires nonneg { IsNonnegative (value_at f.now) }
     requires gauge { (own ≡ own_gauge f.now) × (own_gauge f.now < 2 ^ 120) }
     requires alone { turn_of (part_of f.now.tail e.now).copies ≡ None }
+    requires zero { sofar.now ≡ level_curve zero_q }
     ensures { IsTrue result → LeavesAsIs f.now sofar.now (part_of f.now.tail e.now) }
 {
-    if !is_zero(sofar) {
-        return false;
-    }
     match e {
         Element::Point { x: _, v: _ } => false,
         Element::Open { from, to, line } => is_idle_segment(f, own, *from, *to, line),
@@ -176,6 +174,9 @@ pub(crate) fn leaves_as_is(f: &Curve, gauge: Option<u128>, sofar: &Curve, e: &El
     ensures leaves { IsTrue result → LeavesAsIs f.now sofar.now (part_of f.now.tail e.now) }
     ensures work { IsTrue result → part_work (part_of f.now.tail e.now) ≡ 1 }
 {
+    if !is_zero(sofar) {
+        return false;
+    }
     let Some(own) = gauge else {
         return false;
     };

@@ -11,6 +11,7 @@ mod idle_parts;
 mod lattices;
 pub mod laws;
 mod multiples;
+mod ordered;
 mod overlaps;
 mod part;
 mod part_stars;

@@ -42,7 +42,7 @@ pub(crate) fn value_on(line: &Line, x: Frac) -> Option<Frac>
 }
 
 /// a - b.
-fn less(a: Frac, b: Frac) -> Option<Frac>
+pub(crate) fn less(a: Frac, b: Frac) -> Option<Frac>
     ensures value { IfSome result (λ y. y ≡ a -ℚ b) }
     ensures fits { SumFits a (neg_ℚ b) → IsSome result }
 {

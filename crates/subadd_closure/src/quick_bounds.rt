@@ -1,11 +1,12 @@
 //! Between which numbers of periods the least one of a convolution in the fold of a closure is. Its curves are 0 at 0, or
 //! infinite up to when they repeat, and may be infinite again and again.
 
-ghost use Rattle.std.specs.Prelude.{◌≡◌, ◌+◌, pos, None, IfSome, IsTrue};
+ghost use Rattle.std.specs.Prelude.{◌≡◌, ◌⊎◌, ◌+◌, pos, None, IfSome, IsTrue};
 ghost use Rattle.rational.specs.Rational.{ℚ, int, ◌+ℚ◌, ◌-ℚ◌, ◌*ℚ◌, ◌≤ℚ◌, ◌<ℚ◌};
 ghost use Rattle.upp_curve.specs.Steady.{rise_over};
 ghost use Rattle.rational.specs.declared.Extended.TheVariants.{Fin, Inf};
 ghost use Rattle.upp_curve.specs.Curve.{value_at};
+ghost use Rattle.min_plus.specs.Convolution.{IsSubadditive};
 ghost use Rattle.min_plus.specs.Functions.{zero_q};
 ghost use Rattle.upp_limits.specs.Limits.{Sizes};
 ghost use Rattle.upp_normal.specs.Ahead.{HasWindow, IsTimeIn};
@@ -14,7 +15,9 @@ ghost use Rattle.curve_call.specs.Levels.{level_curve};
 ghost use Rattle.curve_conv.specs.Late.{IsLateCall, IsPartsCall};
 ghost use Rattle.curve_conv.specs.LateBounds.{IsLateBounds, IsSlowerBounds};
 ghost use Rattle.subadd_closure.specs.QuickBounds.{BeginsLate, IsFloor, IsLevel};
+ghost use Rattle.subadd_closure.specs.Thinned.{MayThin};
 
+use crate::ordered::order_bounds;
 use curve_call::{Bounds, Gap, Side, begin, is_slower, period_or, rise_over, side_gap, zero_level};
 use curve_conv::{checked_sum, is_slower_curve, periods_over, value_there};
 use fraction128::{Frac, difference, is_less};
@@ -163,13 +166,7 @@ fn lead(slow: &Curve, fast: &Curve, from: Frac, period: Frac, end: Frac) -> Frac
 
 // ---- the bounds
 // From both, of two curves of which the first is the slower; none where it falls in the long run.
-fn bounds_by_level(
-    slow: &Curve,
-    fast: &Curve,
-    from: Frac,
-    period: Frac,
-    end: Frac,
-) -> Option<Bounds>
+fn by_level(slow: &Curve, fast: &Curve, from: Frac, period: Frac, end: Frac) -> Option<Bounds>
     requires { IsLateCall slow.now fast.now from period end }
     ensures { IfSome result (IsLateBounds slow.now fast.now from period) }
 {
@@ -195,28 +192,87 @@ fn bounds_of(slow: &Curve, fast: &Curve, from: Frac, period: Frac, end: Frac) ->
     if begins_late(slow) {
         return Some(Bounds { low: 0, high: 0 });
     }
-    bounds_by_level(slow, fast, from, period, end)
+    by_level(slow, fast, from, period, end)
+}
+
+// Of two bounds the one that is not above the other; either may be missing.
+fn less_of(first: Option<Bounds>, second: Option<Bounds>) -> Option<Bounds>
+    ensures { (result ≡ first) ⊎ (result ≡ second) }
+{
+    let Some(a) = first else {
+        return second;
+    };
+    let Some(b) = second else {
+        return first;
+    };
+    if a.high <= b.high {
+        return first;
+    }
+    second
+}
+
+// Whether bounds are there, and say that no period is needed.
+fn are_none(bounds: &Option<Bounds>) -> bool {
+    match bounds {
+        Some(b) => b.high == 0,
+        None => false,
+    }
+}
+
+// Of two curves of which the first is the slower, and subadditive.
+fn thin_bounds(slow: &Curve, fast: &Curve, from: Frac, period: Frac, end: Frac) -> Option<Bounds>
+    requires call { IsLateCall slow.now fast.now from period end }
+    requires subadditive { IsSubadditive (value_at slow.now) }
+    ensures { IfSome result (IsLateBounds slow.now fast.now from period) }
+{
+    let level = bounds_of(slow, fast, from, period, end);
+    if are_none(&level) {
+        return level;
+    }
+    let order = order_bounds(slow, fast, from, period, end);
+    less_of(level, order)
+}
+
+// The same; `thin` where the first is known to be subadditive.
+fn ordered_bounds(
+    slow: &Curve,
+    fast: &Curve,
+    from: Frac,
+    period: Frac,
+    end: Frac,
+    thin: bool,
+) -> Option<Bounds>
+    requires call { IsLateCall slow.now fast.now from period end }
+    requires thin { IsTrue thin → IsSubadditive (value_at slow.now) }
+    ensures { IfSome result (IsLateBounds slow.now fast.now from period) }
+{
+    if thin {
+        return thin_bounds(slow, fast, from, period, end);
+    }
+    bounds_of(slow, fast, from, period, end)
 }
 
 /// Bounds of the least number of periods after which the convolution is the part in which the slower curve repeats, as
 /// `late_bounds` of `curve_conv`; none where they are not found from few numbers. The slower one may be infinite again
 /// and again where the faster one is a number all through its period, or where it is infinite up to when it repeats. No
-/// memory is taken, and nothing is unrolled.
+/// memory is taken, and nothing is unrolled. Where `thin` is set, both curves are subadditive, and that is looked at too.
 pub(crate) fn quick_bounds(
     f: &Curve,
     g: &Curve,
     from: Frac,
     period: Frac,
     end: Frac,
+    thin: bool,
 ) -> Option<Bounds>
-    requires { IsPartsCall f.now g.now from period end }
+    requires parts { IsPartsCall f.now g.now from period end }
+    requires thin { MayThin thin f.now g.now }
     ensures { IfSome result (IsSlowerBounds f.now g.now from period) }
 {
     if is_slower_curve(f, g) {
-        return bounds_of(f, g, from, period, end);
+        return ordered_bounds(f, g, from, period, end, thin);
     }
     if is_slower_curve(g, f) {
-        return bounds_of(g, f, from, period, end);
+        return ordered_bounds(g, f, from, period, end, thin);
     }
     Some(Bounds { low: 0, high: 0 })
 }

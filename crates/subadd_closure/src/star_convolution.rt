@@ -15,11 +15,15 @@ ghost use Rattle.element_envelope.specs.ConvolutionWindows.{IsConvolutionWindow}
 ghost use Rattle.curve_call.specs.Frames.{IsFrame};
 ghost use Rattle.curve_conv.specs.ConvolveCall.{IsConvolveFrame};
 ghost use Rattle.curve_conv.specs.LateBounds.{IsSlowerBounds};
+ghost use Rattle.subadd_closure.specs.Ordered.{IsRepetition};
 ghost use Rattle.subadd_closure.specs.Thinned.{MayThin};
 
-use crate::again::{slower_rise, window_of};
+use crate::again::{slower_rise, window_between, window_of};
+use crate::ordered::{Repetition, early_repetition};
 use crate::quick_bounds::quick_bounds;
-use curve_call::{Bounds, CallWindow, Frame, answer, first_window, refuse_between, within};
+use curve_call::{
+    Bounds, CallWindow, Frame, answer, first_window, framed_answer, refuse_between, within,
+};
 use curve_conv::convolve_frame;
 use fraction128::{Frac, difference};
 use outcomes::Steps;
@@ -28,36 +32,44 @@ use std::sync::ledger::Ledger;
 use upp_curve::Curve;
 use upp_curve::affine_segment::Piece;
 use upp_limits::{OpFault, OpKind, tally_over};
+use upp_normal::unrolled;
 
-// The frame with the upper bound of the number of periods, where the call is within both limits with it, and not much
-// larger than with none; else none, as where there are no bounds. Refused where both bounds tell it.
+// The frame of a call with so many periods, where it is within both limits and not much larger than with none, whose window
+// ends at `first`.
+fn small_frame(f: &Curve, g: &Curve, periods: u128, first: Frac) -> Option<Frame>
+    ensures { IfSome result (IsFrame Convolve f.now g.now periods 0) }
+{
+    let kind = OpKind::Convolve;
+    let Ok(frame) = within(&kind, f, g, periods) else {
+        return None;
+    };
+    // To look for the least number costs a few times the pairs of the first window.
+    if tally_over(&kind, f, g, frame.end) / 4 > tally_over(&kind, f, g, first) {
+        return None;
+    }
+    Some(frame)
+}
+
+// That frame with the upper bound of the number of periods; none where there are no bounds. Refused where both bounds tell it.
 fn frame_between(
     f: &Curve,
     g: &Curve,
     first: &CallWindow,
     from: Frac,
+    thin: bool,
 ) -> Result<Option<Frame>, OpFault>
+    requires thin { MayThin thin f.now g.now }
     requires curves { IsCurve f.now × IsCurve g.now }
     requires window { IsFirstWindow Convolve f.now g.now first.now }
     requires from { from ≡ first.now.end -ℚ first.now.period }
     ensures frame { IfOk result (λ o. IfSome o (λ r. IsConvolveFrame f.now g.now r × IsWithin Convolve f.now g.now)) }
     ensures refused { IfErr result (IsCauseOf Convolve f.now g.now) }
 {
-    let kind = OpKind::Convolve;
-    let Some(bounds) = quick_bounds(f, g, from, first.period, first.end) else {
+    let Some(bounds) = quick_bounds(f, g, from, first.period, first.end, thin) else {
         return Ok(None);
     };
-    refuse_between(&kind, f, g, bounds.low, bounds.high)?;
-    match within(&kind, f, g, bounds.high) {
-        Ok(frame) => {
-            // To look for the least number costs a few times the pairs of the first window.
-            if tally_over(&kind, f, g, frame.end) / 4 > tally_over(&kind, f, g, first.end) {
-                return Ok(None);
-            }
-            Ok(Some(frame))
-        }
-        Err(_) => Ok(None),
-    }
+    refuse_between(&OpKind::Convolve, f, g, bounds.low, bounds.high)?;
+    Ok(small_frame(f, g, bounds.high, first.end))
 }
 
 // The frame with the upper bound of the number of periods in a call within both limits with no period, as `frame_between`
@@ -68,26 +80,20 @@ fn later_frame(f: &Curve, g: &Curve, first: &Frame, from: Frac, bounds: &Bounds)
     requires bounds { IsSlowerBounds f.now g.now from first.now.period bounds.now }
     ensures { IfSome result (λ r. IsConvolveFrame f.now g.now r × IsWithin Convolve f.now g.now) }
 {
-    let kind = OpKind::Convolve;
-    let Ok(frame) = within(&kind, f, g, bounds.high) else {
-        return None;
-    };
-    if tally_over(&kind, f, g, frame.end) / 4 > tally_over(&kind, f, g, first.end) {
-        return None;
-    }
-    Some(frame)
+    small_frame(f, g, bounds.high, first.end)
 }
 
 // The frame of a call within both limits with no period, where few numbers tell how many are enough: mostly none, so that
 // the pieces are gone over once alone for the limits.
-fn frame_at_once(f: &Curve, g: &Curve) -> Option<Frame>
+fn frame_at_once(f: &Curve, g: &Curve, thin: bool) -> Option<Frame>
+    requires { MayThin thin f.now g.now }
     ensures { IfSome result (λ r. IsConvolveFrame f.now g.now r × IsWithin Convolve f.now g.now) }
 {
     let Ok(frame) = within(&OpKind::Convolve, f, g, 0) else {
         return None;
     };
     let from = difference(frame.end, frame.period);
-    let Some(bounds) = quick_bounds(f, g, from, frame.period, frame.end) else {
+    let Some(bounds) = quick_bounds(f, g, from, frame.period, frame.end, thin) else {
         return None;
     };
     if bounds.high > 0 {
@@ -97,26 +103,29 @@ fn frame_at_once(f: &Curve, g: &Curve) -> Option<Frame>
 }
 
 // The frame where that does not tell.
-fn searched_frame(alloc: Global, f: &Curve, g: &Curve) -> Result<Frame, OpFault>
+fn searched_frame(alloc: Global, f: &Curve, g: &Curve, thin: bool) -> Result<Frame, OpFault>
+    requires { MayThin thin f.now g.now }
     ensures frame { IfOk result (IsConvolveFrame f.now g.now) }
     ensures limits { KeepsLimits Convolve f.now g.now result }
 {
     let first = first_window(&OpKind::Convolve, f, g)?;
     let from = difference(first.end, first.period);
-    match frame_between(f, g, &first, from)? {
+    match frame_between(f, g, &first, from, thin)? {
         Some(frame) => Ok(frame),
         None => convolve_frame(alloc, f, g),
     }
 }
 
-/// The frame of the call, as `convolve_frame` of `curve_conv`, which is asked where few numbers do not tell it.
-pub(crate) fn star_frame(alloc: Global, f: &Curve, g: &Curve) -> Result<Frame, OpFault>
+/// The frame of the call, as `convolve_frame` of `curve_conv`, which is asked where few numbers do not tell it; `thin` as of
+/// `window_of`.
+pub(crate) fn star_frame(alloc: Global, f: &Curve, g: &Curve, thin: bool) -> Result<Frame, OpFault>
+    requires { MayThin thin f.now g.now }
     ensures frame { IfOk result (IsConvolveFrame f.now g.now) }
     ensures limits { KeepsLimits Convolve f.now g.now result }
 {
-    match frame_at_once(f, g) {
+    match frame_at_once(f, g, thin) {
         Some(frame) => Ok(frame),
-        None => searched_frame(alloc, f, g),
+        None => searched_frame(alloc, f, g, thin),
     }
 }
 
@@ -136,18 +145,41 @@ fn curve_of(
 {
     let rise = slower_rise(f, g, frame);
     let from = difference(frame.end, frame.period);
+    framed_answer(alloc, pieces, from, rise, frame)
+}
+
+// The convolution in a call within both limits, from the pieces up to the end of a period with which it repeats; `thin` as of
+// `window_of`.
+fn early_convolved(
+    alloc: Global,
+    f: &Curve,
+    g: &Curve,
+    frame: &Frame,
+    n: &Repetition,
+    thin: bool,
+) -> Result<Curve, AllocError>
+    requires frame { IsConvolveFrame f.now g.now frame.now }
+    requires thin { MayThin thin f.now g.now }
+    requires repeats { (r : IsConvolveFrame f.now g.now frame.now)
+        → IsRepetition f.now g.now r.sizes frame.now.end n.now }
+    ensures { IfOk result (λ c. (t : ℚ) → zero_q ≤ℚ t
+        → IsConvolution (value_at f.now) (value_at g.now) t (value_at c t)) }
+{
+    let left = unrolled(f, n.end)?;
+    let right = unrolled(g, n.end)?;
+    let pieces = window_between(alloc, f, g, &left, &right, n.end, thin)?;
     answer(
         alloc,
         pieces,
-        from,
-        frame.period,
-        rise,
+        n.from,
+        n.period,
+        n.rise,
         frame.times,
         frame.values,
     )
 }
 
-// The convolution in a call within both limits.
+// The convolution in such a call.
 fn convolved_within(
     alloc: Global,
     f: &Curve,
@@ -160,6 +192,9 @@ fn convolved_within(
     ensures { IfOk result (λ c. (t : ℚ) → zero_q ≤ℚ t
         → IsConvolution (value_at f.now) (value_at g.now) t (value_at c t)) }
 {
+    if let Some(n) = early_repetition(f, g, frame, thin) {
+        return early_convolved(alloc, f, g, frame, &n, thin);
+    }
     let pieces = window_of(alloc, f, g, frame, thin)?;
     curve_of(alloc, f, g, frame, pieces)
 }
@@ -171,7 +206,7 @@ fn stars_convolved(alloc: Global, f: &Curve, g: &Curve, thin: bool) -> Result<Cu
         → IsConvolution (value_at f.now) (value_at g.now) t (value_at c t)) }
     ensures limits { KeepsLimits Convolve f.now g.now result }
 {
-    let frame = star_frame(alloc, f, g)?;
+    let frame = star_frame(alloc, f, g, thin)?;
     match convolved_within(alloc, f, g, &frame, thin) {
         Ok(c) => Ok(c),
         Err(_) => Err(OpFault::NoMemory),

@@ -16,8 +16,8 @@ use rational::Extended;
 use std::alloc::{AllocError, Global};
 use upp_curve::affine_segment::{Element, Line, Piece, start_of, value};
 
-// Whether a is at most b.
-fn is_at_most(a: Frac, b: Frac) -> bool
+/// Whether a is at most b.
+pub(crate) fn is_at_most(a: Frac, b: Frac) -> bool
     ensures { IsTrue result → a ≤ℚ b }
 {
     !is_less(b, a)

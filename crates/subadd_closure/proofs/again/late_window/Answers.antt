@@ -14,26 +14,26 @@ use Rattle.subadd_closure.proofs.again.late_window.Goals as goal
 
 pub lower_envelope-requires : goal.lower_envelope-requires
 lower_envelope-requires c =
-    let end = c.args.end in
-    let xs = c.args.xs.now in
-    let late = c.args.late.now in
-    let left = c.args.left.now in
+    let end = c.args.w.now.end in
+    let xs = c.args.w.now.xs.now in
+    let late = c.args.w.now.late.now in
+    let left = c.args.w.now.left.now in
     let kept : AreUseful (read left) end xs late c.deref.result.now =
     subst (AreUseful (read left) end xs late) (sym c.deref.ensures.value) c.in_ok-kept.ensures in
-    beside_room end left c.args.right.now xs c.args.ys.now late c.deref.result.now c.requires.elements.0 c.requires.elements.1
+    beside_room end left c.args.w.now.right.now xs c.args.w.now.ys.now late c.deref.result.now c.requires.elements.0 c.requires.elements.1
     c.requires.windows c.requires.late.fewer kept
 
 pub returns : goal.returns
 returns c =
-    let f = c.args.f.now in
-    let end = c.args.end in
-    let xs = c.args.xs.now in
-    let late = c.args.late.now in
-    let left = c.args.left.now in
-    let right = c.args.right.now in
+    let f = c.args.w.now.f.now in
+    let end = c.args.w.now.end in
+    let xs = c.args.w.now.xs.now in
+    let late = c.args.w.now.late.now in
+    let left = c.args.w.now.left.now in
+    let right = c.args.w.now.right.now in
     let reads = window_reads f end left c.requires.curves.0 c.requires.first in
     let low = subst (λ z. z ≤ₑ Fin zero_q)
-    (sym (window_reads c.args.g.now end right c.requires.curves.1 c.requires.second zero_q (le_refl zero_q)
+    (sym (window_reads c.args.w.now.g.now end right c.requires.curves.1 c.requires.second zero_q (le_refl zero_q)
     c.requires.windows.some)) c.requires.thin.zero in
     let thin : IsThinned (value_at f) end (elements_of right Inf) late =
     same_thinned (read left) (value_at f) end (elements_of right Inf) late reads

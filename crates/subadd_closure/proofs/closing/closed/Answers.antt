@@ -9,12 +9,11 @@ use Rattle.min_plus.specs.Functions.{zero_q}
 use Rattle.subadd_closure.specs.CurveParts.{part_of}
 use Rattle.subadd_closure.specs.FoldWork.{parts_work, fold_work}
 use Rattle.subadd_closure.specs.SegmentLimits.{IsElementOf}
-use Rattle.subadd_closure.proofs.FoldMemory.{same_want, then_wants, after_parts}
+use Rattle.subadd_closure.proofs.FoldMemory.{same_want, then_wants}
 use Rattle.subadd_closure.proofs.FirstElements.{two_elements}
 use Rattle.subadd_closure.proofs.FoldSteps.{early_refusal, last_refusal, last_part, always}
-use Rattle.subadd_closure.proofs.FoldLists.{all_elements, split_parts, split_last}
-use Rattle.subadd_closure.proofs.FoldLists.{some_taken, work_front, work_more, work_up_to}
-use Rattle.subadd_closure.proofs.FoldShapes.{last_thinnable, sofar_nonneg, star_nonneg, finite_past}
+use Rattle.subadd_closure.proofs.FoldLists.{all_elements, split_parts, work_front, work_up_to}
+use Rattle.subadd_closure.proofs.LastElements.{is_last, last_curves, last_wants, last_work}
 use Rattle.subadd_closure.proofs.closing.closed.Goals as goal
 
 pub overflow_sub-last : goal.overflow_sub-last
@@ -66,116 +65,58 @@ element_star-requires-clause-part g c =
 pub returns-in_err-star-clause-answer : goal.returns-in_err-star-clause-answer
 returns-in_err-star-clause-answer g c =
     let f = c.args.f.now in
-    let es = c.args.es.now in
-    let n = length es - 1 in
-    let e = c.index-es-last.result in
-    let two = two_elements f es c.requires.elements c.requires.curve.normal.raw c.requires.finite in
+    let L = is_last f c.args.es.now c.index-es-last.result c.requires.elements c.requires.curve.normal c.requires.finite c.index-es-last.is in
     let r = c.from_residual-in_err-star in
     let p = err_from_is_err_and r.result r.ensures.1 in
-    last_refusal f c.in_ok-sofar.sofar (map (part_of f.tail) (take n es)) (part_of f.tail e) c.in_err-star.field-0.0
+    last_refusal f c.in_ok-sofar.sofar (map (part_of f.tail) (take (length c.args.es.now - 1) c.args.es.now)) (part_of f.tail c.index-es-last.result) c.in_err-star.field-0.0
     r.result
-    (split_last f es n e c.requires.elements (omega (arith, two)) c.index-es-last.is) c.in_ok-sofar.ensures.answer
-    c.in_err-star.ensures.answer (rw (p.1, p.2) refl)
+    L.are c.in_ok-sofar.ensures.answer c.in_err-star.ensures.answer (rw (p.1, p.2) refl)
 
 pub returns-in_err-star-clause-within : goal.returns-in_err-star-clause-within
 returns-in_err-star-clause-within g c =
     let f = c.args.f.now in
-    let es = c.args.es.now in
-    let n = length es - 1 in
-    let e = c.index-es-last.result in
-    let two = two_elements f es c.requires.elements c.requires.curve.normal.raw c.requires.finite in
+    let L = is_last f c.args.es.now c.index-es-last.result c.requires.elements c.requires.curve.normal c.requires.finite c.index-es-last.is in
     let before = c.in_ok-sofar.ensures.all in
     let most = c.in_err-star.ensures.most in
-    let all = ap parts_work (split_last f es n e c.requires.elements (omega (arith, two)) c.index-es-last.is) in
-    let work = work_up_to (map (part_of f.tail) (take n es)) (part_of f.tail e) []
-    (some_taken f.tail es n (omega (arith, two)) (omega (arith, two))) in
+    let all = ap parts_work L.are in
+    let work = work_up_to (map (part_of f.tail) (take (length c.args.es.now - 1) c.args.es.now)) (part_of f.tail c.index-es-last.result) [] L.some in
     omega (arith, before, most, all, work)
 
-pub started_from-requires-clause-first : goal.started_from-requires-clause-first
-started_from-requires-clause-first g c =
+pub started_from-requires-clause-operands : goal.started_from-requires-clause-operands
+started_from-requires-clause-operands g c =
     let f = c.args.f.now in
-    let es = c.args.es.now in
-    let n = length es - 1 in
-    let e = c.index-es-last.result in
-    let two = two_elements f es c.requires.elements c.requires.curve.normal.raw c.requires.finite in
-    sofar_nonneg f c.in_ok-sofar.sofar c.in_ok-star.star (map (part_of f.tail) (take n es)) (part_of f.tail e)
-    c.requires.curve.normal
-    c.requires.finite c.requires.nonneg (split_last f es n e c.requires.elements (omega (arith, two))
-    c.index-es-last.is)
-    c.in_ok-sofar.ensures.answer c.in_ok-star.ensures.answer
-
-pub started_from-requires-clause-second : goal.started_from-requires-clause-second
-started_from-requires-clause-second g c =
-    let f = c.args.f.now in
-    let es = c.args.es.now in
-    let n = length es - 1 in
-    let e = c.index-es-last.result in
-    let two = two_elements f es c.requires.elements c.requires.curve.normal.raw c.requires.finite in
-    star_nonneg f c.in_ok-sofar.sofar c.in_ok-star.star (map (part_of f.tail) (take n es)) (part_of f.tail e)
-    c.requires.curve.normal
-    c.requires.finite c.requires.nonneg (split_last f es n e c.requires.elements (omega (arith, two))
-    c.index-es-last.is)
+    let L = is_last f c.args.es.now c.index-es-last.result c.requires.elements c.requires.curve.normal c.requires.finite c.index-es-last.is in
+    last_curves f c.args.es.now c.index-es-last.result L c.in_ok-sofar.sofar c.in_ok-star.star c.requires.curve.normal c.requires.finite c.requires.nonneg
     c.in_ok-sofar.ensures.answer c.in_ok-star.ensures.answer
 
 pub started_from-requires-clause-start : goal.started_from-requires-clause-start
 started_from-requires-clause-start g c =
     subst (λ z. Fin zero_q ≤ₑ z) c.start_of.ensures (c.requires.nonneg zero_q (le_refl zero_q))
 
-pub started_from-requires-clause-finite : goal.started_from-requires-clause-finite
-started_from-requires-clause-finite g c =
-    let f = c.args.f.now in
-    let es = c.args.es.now in
-    let n = length es - 1 in
-    let e = c.index-es-last.result in
-    let two = two_elements f es c.requires.elements c.requires.curve.normal.raw c.requires.finite in
-    finite_past f c.in_ok-sofar.sofar c.in_ok-star.star (map (part_of f.tail) (take n es)) (part_of f.tail e)
-    c.requires.curve.normal
-    c.requires.finite c.requires.nonneg (split_last f es n e c.requires.elements (omega (arith, two))
-    c.index-es-last.is)
-    c.in_ok-sofar.ensures.answer c.in_ok-star.ensures.answer
-
 pub returns-clause-answer : goal.returns-clause-answer
 returns-clause-answer g c =
     let f = c.args.f.now in
-    let es = c.args.es.now in
-    let n = length es - 1 in
-    let e = c.index-es-last.result in
-    let two = two_elements f es c.requires.elements c.requires.curve.normal.raw c.requires.finite in
-    last_part f c.in_ok-sofar.sofar c.in_ok-star.star (map (part_of f.tail) (take n es)) (part_of f.tail e)
+    let L = is_last f c.args.es.now c.index-es-last.result c.requires.elements c.requires.curve.normal c.requires.finite c.index-es-last.is in
+    last_part f c.in_ok-sofar.sofar c.in_ok-star.star (map (part_of f.tail) (take (length c.args.es.now - 1) c.args.es.now)) (part_of f.tail c.index-es-last.result)
     c.start_of.result
-    c.started_from.result (split_last f es n e c.requires.elements (omega (arith, two)) c.index-es-last.is)
+    c.started_from.result L.are
     c.in_ok-sofar.ensures.answer c.in_ok-star.ensures.answer c.start_of.ensures c.started_from.ensures.answer
 
 pub returns-clause-within : goal.returns-clause-within
 returns-clause-within g c =
     let f = c.args.f.now in
-    let es = c.args.es.now in
-    let n = length es - 1 in
-    let e = c.index-es-last.result in
-    let two = two_elements f es c.requires.elements c.requires.curve.normal.raw c.requires.finite in
-    let before = c.in_ok-sofar.ensures.all in
-    let star = c.in_ok-star.ensures.all in
-    let last = c.started_from.ensures.count in
-    let all = ap parts_work (split_last f es n e c.requires.elements (omega (arith, two)) c.index-es-last.is) in
-    let work = work_more (map (part_of f.tail) (take n es)) (part_of f.tail e)
-    (some_taken f.tail es n (omega (arith, two)) (omega (arith, two))) in
-    omega (arith, before, star, last, all, work)
+    let L = is_last f c.args.es.now c.index-es-last.result c.requires.elements c.requires.curve.normal c.requires.finite c.index-es-last.is in
+    let is = last_work f c.args.es.now c.index-es-last.result L c.args.steps.now c.folded.new.steps c.element_star.new.steps c.started_from.new.steps c.in_ok-sofar.ensures.all
+    c.in_ok-star.ensures.all c.started_from.ensures.count in
+    omega (arith, is)
 
 pub returns-clause-exact : goal.returns-clause-exact
 returns-clause-exact g c =
     let f = c.args.f.now in
-    let es = c.args.es.now in
-    let n = length es - 1 in
-    let e = c.index-es-last.result in
-    let two = two_elements f es c.requires.elements c.requires.curve.normal.raw c.requires.finite in
-    let before = c.in_ok-sofar.ensures.all in
-    let star = c.in_ok-star.ensures.all in
-    let last = c.started_from.ensures.count in
-    let all = ap parts_work (split_last f es n e c.requires.elements (omega (arith, two)) c.index-es-last.is) in
-    let work = work_more (map (part_of f.tail) (take n es)) (part_of f.tail e)
-    (some_taken f.tail es n (omega (arith, two)) (omega (arith, two))) in
+    let L = is_last f c.args.es.now c.index-es-last.result c.requires.elements c.requires.curve.normal c.requires.finite c.index-es-last.is in
     always (c.started_from.new.steps ≡ c.args.steps.now + fold_work f) c.started_from.result
-    (omega (arith, before, star, last, all, work))
+    (last_work f c.args.es.now c.index-es-last.result L c.args.steps.now c.folded.new.steps c.element_star.new.steps c.started_from.new.steps c.in_ok-sofar.ensures.all
+    c.in_ok-star.ensures.all c.started_from.ensures.count)
 
 pub returns-in_err-sofar-clause-memory : goal.returns-in_err-sofar-clause-memory
 returns-in_err-sofar-clause-memory g c is =
@@ -186,58 +127,23 @@ returns-in_err-sofar-clause-memory g c is =
 pub returns-in_err-star-clause-memory : goal.returns-in_err-star-clause-memory
 returns-in_err-star-clause-memory g c is =
     let f = c.args.f.now in
-    let es = c.args.es.now in
-    let n = length es - 1 in
-    let e = c.index-es-last.result in
-    let two = two_elements f es c.requires.elements c.requires.curve.normal.raw c.requires.finite in
+    let L = is_last f c.args.es.now c.index-es-last.result c.requires.elements c.requires.curve.normal c.requires.finite c.index-es-last.is in
     let r = c.from_residual-in_err-star in
     let p = err_from_is_err_and r.result r.ensures.1 in
-    record {
-      before = map (part_of f.tail) (take n es);
-      part = part_of f.tail e;
-      after = [];
-      are = split_last f es n e c.requires.elements (omega (arith, two)) c.index-es-last.is;
-      stops = after_parts f c.in_ok-sofar.sofar (map (part_of f.tail) (take n es)) (part_of f.tail e) c.args.steps.now
-          c.folded.new.steps c.element_star.new.steps c.in_ok-sofar.ensures.answer c.in_ok-sofar.ensures.all
-          (inl (c.in_err-star.ensures.memory (same_want r.result p.0 c.in_err-star.field-0.0 p.1 p.2 is)));
-      next = λ counted. tt;
-    }
+    last_wants f c.args.es.now c.index-es-last.result L c.in_ok-sofar.sofar c.args.steps.now c.folded.new.steps c.element_star.new.steps c.in_ok-sofar.ensures.answer
+    c.in_ok-sofar.ensures.all (inl (c.in_err-star.ensures.memory (same_want r.result p.0 c.in_err-star.field-0.0 p.1 p.2 is)))
 
 pub returns-clause-memory : goal.returns-clause-memory
 returns-clause-memory g c is =
     let f = c.args.f.now in
-    let es = c.args.es.now in
-    let n = length es - 1 in
-    let e = c.index-es-last.result in
-    let two = two_elements f es c.requires.elements c.requires.curve.normal.raw c.requires.finite in
+    let L = is_last f c.args.es.now c.index-es-last.result c.requires.elements c.requires.curve.normal c.requires.finite c.index-es-last.is in
     let star = c.in_ok-star.ensures.all in
     let last = c.started_from.ensures.count in
-    record {
-      before = map (part_of f.tail) (take n es);
-      part = part_of f.tail e;
-      after = [];
-      are = split_last f es n e c.requires.elements (omega (arith, two)) c.index-es-last.is;
-      stops = after_parts f c.in_ok-sofar.sofar (map (part_of f.tail) (take n es)) (part_of f.tail e) c.args.steps.now
-          c.folded.new.steps c.started_from.new.steps c.in_ok-sofar.ensures.answer c.in_ok-sofar.ensures.all
-          (inr record {
-            counted = omega (arith, star, last);
-            star = c.in_ok-star.star;
-            made = c.in_ok-star.ensures.answer;
-            within = then_wants c.in_ok-sofar.sofar c.in_ok-star.star c.start_of.result c.started_from.result
-                c.started_from.ensures.answer is;
-          });
-      next = λ counted. tt;
-    }
-
-pub started_from-requires-clause-thin : goal.started_from-requires-clause-thin
-started_from-requires-clause-thin g c =
-    let f = c.args.f.now in
-    let es = c.args.es.now in
-    let n = length es - 1 in
-    let e = c.index-es-last.result in
-    let two = two_elements f es c.requires.elements c.requires.curve.normal.raw c.requires.finite in
-    last_thinnable f c.in_ok-sofar.sofar c.in_ok-star.star (map (part_of f.tail) (take n es)) (part_of f.tail e)
-    c.requires.curve.normal
-    c.requires.finite c.requires.nonneg (split_last f es n e c.requires.elements (omega (arith, two))
-    c.index-es-last.is)
-    c.in_ok-sofar.ensures.answer c.in_ok-star.ensures.answer
+    last_wants f c.args.es.now c.index-es-last.result L c.in_ok-sofar.sofar c.args.steps.now c.folded.new.steps c.started_from.new.steps c.in_ok-sofar.ensures.answer
+    c.in_ok-sofar.ensures.all
+    (inr record {
+      counted = omega (arith, star, last);
+      star = c.in_ok-star.star;
+      made = c.in_ok-star.ensures.answer;
+      within = then_wants c.in_ok-sofar.sofar c.in_ok-star.star c.start_of.result c.started_from.result c.started_from.ensures.answer is;
+    })

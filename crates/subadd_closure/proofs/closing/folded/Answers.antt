@@ -124,15 +124,13 @@ loop-i-preserved g c =
     let es = c.args.es.now in
     let i = c.loop-i.i in
     let e = c.index-es-i.result in
-    let inside = c.loop-i-test.true in
-    let high = c.requires.inside in
     let before = map (part_of f.tail) (take i es) in
     let count = c.loop-i.invariant.count in
     let all = c.in_ok-sofar-2.ensures.all in
-    let one = one_more f.tail es i e (omega (arith, inside, high)) c.index-es-i.is in
+    let one = one_more f.tail es i e (omega (arith, c.loop-i-test.true, c.requires.inside)) c.index-es-i.is in
     let more = ap parts_work one in
     let work = work_more before (part_of f.tail e)
-    (some_taken f.tail es i c.loop-i.auto.i (omega (arith, inside, high))) in
+    (some_taken f.tail es i c.loop-i.auto.i (omega (arith, c.loop-i-test.true, c.requires.inside))) in
     record {
       answer = subst (λ z. PartsAnswer f z (Ok c.in_ok-sofar-2.sofar)) (sym one)
           (next_part f c.loop-i.sofar before (part_of f.tail e) c.in_ok-sofar-2.sofar c.loop-i.invariant.answer

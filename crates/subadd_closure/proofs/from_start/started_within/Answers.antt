@@ -42,8 +42,8 @@ repeats_start-requires-clause-less c =
     (rise_less c.args.f.now c.args.g.now c.args.frame.now c.in_ok-pieces.pieces.items c.difference-from.result
     c.slower_rise-rise.result C)
 
-pub answer-requires : goal.answer-requires
-answer-requires c =
+pub framed_answer-requires : goal.framed_answer-requires
+framed_answer-requires c =
     let C = convolved c.args.f.now c.args.g.now c.args.frame.now c.in_ok-pieces.pieces.items c.requires.frame
     c.in_ok-pieces.ensures c.difference-from.ensures c.slower_rise-rise.ensures in
     let r = c.args.frame.now in
@@ -64,7 +64,7 @@ pub returns-then-repeats_start : goal.returns-then-repeats_start
 returns-then-repeats_start c =
     let C = convolved c.args.f.now c.args.g.now c.args.frame.now c.in_ok-pieces.pieces.items c.requires.frame
     c.in_ok-pieces.ensures c.difference-from.ensures c.slower_rise-rise.ensures in
-    ok_map c.answer.result _ _
+    ok_map c.framed_answer.result _ _
     (λ h values. started_convolves c.args.f.now c.args.g.now c.args.frame.now c.in_ok-pieces.pieces.items
     c.difference-from.result
     c.slower_rise-rise.result C
@@ -72,10 +72,10 @@ returns-then-repeats_start c =
     (subst (λ ps. HasValues h (repeated (read ps) c.difference-from.result c.args.frame.now.period
     c.slower_rise-rise.result))
     c.with_first-started.ensures values))
-    c.answer.ensures
+    c.framed_answer.ensures
 
-pub answer-requires-2 : goal.answer-requires-2
-answer-requires-2 c =
+pub framed_answer-requires-2 : goal.framed_answer-requires-2
+framed_answer-requires-2 c =
     let C = convolved c.args.f.now c.args.g.now c.args.frame.now c.in_ok-pieces.pieces.items c.requires.frame
     c.in_ok-pieces.ensures c.difference-from.ensures c.slower_rise-rise.ensures in
     let r = c.args.frame.now in

@@ -10,4 +10,4 @@ returns-in-Open c told =
     let e = c.args.e.now in
     let h = c.is_idle_segment.ensures told in
     part_leaves f c.args.sofar.now e c.requires.alone (subst (λ z. SegmentWithin f (segment_number z)) (sym c.in-Open.is) h.within)
-    (c.is_zero.ensures c.if-not-is_zero.false) (subst ClosureLeaves (sym c.in-Open.is) h.leaves)
+    c.requires.zero (subst ClosureLeaves (sym c.in-Open.is) h.leaves)

@@ -16,3 +16,6 @@ pub returns-in-None-clause-work : goal.returns-in-None-clause-work
 returns-in-None-clause-work c told =
     part_alone c.args.f.now c.args.e.now
     (sym (c.turn_of.ensures ∙ ap (λ t. turn_of (copies_of t c.args.e.now)) c.tail.ensures.tail) ∙ c.in-None.is)
+
+pub is_idle-requires-clause-zero : goal.is_idle-requires-clause-zero
+is_idle-requires-clause-zero c = c.is_zero.ensures c.if-not-is_zero.false

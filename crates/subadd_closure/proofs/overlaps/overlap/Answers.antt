@@ -47,16 +47,15 @@ lengths_before-requires-clause-fits c =
 
 pub returns-in-Some-clause-within : goal.returns-in-Some-clause-within
 returns-in-Some-clause-within c =
-    let a = c.args.a in
-    let b = c.in-Fin.end in
     let f = c.args.f.now in
+    let a = c.args.a in
     let l = c.args.line.now in
-    let n = c.keeps.ensures.normal in
-    let part : IsElementOf f (Open a (Fin b) l) = subst (λ z. IsElementOf f (Open a z l)) c.in-Fin.is c.requires.part in
+    let b = c.in-Fin.end in
+    let part = subst (λ z. IsElementOf f (Open a z l)) c.in-Fin.is c.requires.part in
     let own = subst (IsOwnGauge f) c.in-Some.is c.requires.gauge in
     let late : zero_q <ℚ a = subst (λ z. z <ℚ a) c.zero.ensures (c.is_less.ensures.less.0 c.if-not-is_less.false) in
     subst (λ z. IfOk c.within_limits.result (IsOverlap f a z l)) (sym c.in-Fin.is)
     (found_overlap f a b l c.in-Some.own c.lengths_before.result c.within_limits.result late own.0
     c.lengths_before.ensures.value
     c.within_limits.ensures.same c.within_limits.ensures.narrow c.within_limits.ensures.few
-    (stretches_meet.ended a b (segment_start f a (Fin b) l n part) (segment_room f a b l n part)))
+    (stretches_meet.ended a b (segment_start f a (Fin b) l c.keeps.ensures.normal part) (segment_room f a b l c.keeps.ensures.normal part)))

@@ -1,9 +1,10 @@
 use Rattle.std.proofs.lemmas.Result.{err_from_is_err_and}
-use Rattle.curve_conv.proofs.ConvolveCalls.{parts_call, refused_by, high_frame, high_within}
+use Rattle.curve_conv.proofs.ConvolveCalls.{parts_call, refused_by}
+use Rattle.subadd_closure.proofs.FirstFrames.{between_frame}
 use Rattle.subadd_closure.proofs.star_convolution.frame_between.Goals as goal
 
-pub quick_bounds-requires : goal.quick_bounds-requires
-quick_bounds-requires c = parts_call c.args.f.now c.args.g.now c.args.first.now c.args.from c.requires.curves c.requires.window c.requires.from
+pub quick_bounds-requires-clause-parts : goal.quick_bounds-requires-clause-parts
+quick_bounds-requires-clause-parts c = parts_call c.args.f.now c.args.g.now c.args.first.now c.args.from c.requires.curves c.requires.window c.requires.from
 
 pub returns-in_err-refuse_between-clause-refused : goal.returns-in_err-refuse_between-clause-refused
 returns-in_err-refuse_between-clause-refused c =
@@ -12,8 +13,7 @@ returns-in_err-refuse_between-clause-refused c =
     rw (p.1, p.2)
     (refused_by c.args.f.now c.args.g.now c.args.first.now c.args.from B.number _ c.requires.curves c.requires.window c.requires.from B.is (c.in_err-refuse_between.ensures B.number B.low B.high))
 
-pub returns-else-tally_over-clause-frame : goal.returns-else-tally_over-clause-frame
-returns-else-tally_over-clause-frame c = (
-  high_frame c.args.f.now c.args.g.now c.args.first.now c.args.from c.in-Some.bounds c.in-Ok.frame c.requires.curves c.requires.window c.requires.from c.in-Some.ensures c.in-Ok.ensures.frame,
-  high_within c.args.f.now c.args.g.now c.args.first.now c.args.from c.in-Some.bounds c.in-Ok.frame c.requires.curves c.requires.window c.requires.from c.in-Some.ensures c.in-Ok.ensures.frame,
-)
+pub returns-clause-frame : goal.returns-clause-frame
+returns-clause-frame c =
+    between_frame c.args.f.now c.args.g.now c.args.first.now c.args.from c.in-Some.bounds c.small_frame.result c.requires.curves c.requires.window c.requires.from
+    c.in-Some.ensures c.small_frame.ensures

@@ -4,7 +4,7 @@ use Rattle.rational.specs.Extended.{◌<ₑ◌}
 use Rattle.upp_curve.specs.Steady.{rate}
 use Rattle.curve_call.specs.Levels.{level_curve}
 use Rattle.subadd_closure.proofs.QuickCurves.{bounds_by}
-use Rattle.subadd_closure.proofs.quick_bounds.bounds_by_level.Goals as goal
+use Rattle.subadd_closure.proofs.quick_bounds.by_level.Goals as goal
 
 pub periods_over-requires : goal.periods_over-requires
 periods_over-requires c = subst (λ y. y <ℚ c.lead-lead.result) c.zero.ensures (c.if-not-is_less.ensures.less.0 refl)
