@@ -33,6 +33,16 @@ pub(crate) struct Passage {
     pub(crate) time: Frac,
 }
 
+fn passage_of(server: u32, packet: u32, time: Frac) -> Passage
+    ensures { result ≡ record { server = server; packet = packet; time = time } }
+{
+    Passage {
+        server,
+        packet,
+        time,
+    }
+}
+
 /// What is known after some rows: the flow and the bits of each packet that has entered, where it is, and the site of
 /// each server.
 #[derive(Drop)]
@@ -239,24 +249,16 @@ impl Walk {
     {
         let end = run.end;
         match run.steps[place] {
-            Step::Enter {
-                flow,
-                packet,
+            Step::Visit {
+                server,
+                queue,
                 time,
-                bits,
-            } => self.enter(net, end, flow, packet, time, bits),
-            Step::Reach {
+            } => Ok(self.visit(end, server, queue, time)),
+            Step::Leave {
                 server,
                 packet,
                 time,
-            } => {
-                let at = Passage {
-                    server,
-                    packet,
-                    time,
-                };
-                Ok(self.reach(net, end, &at))
-            }
+            } => Ok(self.leave(net, end, &passage_of(server, packet, time))),
             Step::Work {
                 server,
                 packet,
@@ -272,23 +274,17 @@ impl Walk {
                 };
                 Ok(self.work(net, end, server, &piece))
             }
-            Step::Leave {
+            Step::Reach {
                 server,
                 packet,
                 time,
-            } => {
-                let at = Passage {
-                    server,
-                    packet,
-                    time,
-                };
-                Ok(self.leave(net, end, &at))
-            }
-            Step::Visit {
-                server,
-                queue,
+            } => Ok(self.reach(net, end, &passage_of(server, packet, time))),
+            Step::Enter {
+                flow,
+                packet,
                 time,
-            } => Ok(self.visit(end, server, queue, time)),
+                bits,
+            } => self.enter(net, end, flow, packet, time, bits),
         }
     }
 }

@@ -50,7 +50,7 @@ after_most n (Work s p a b w) = omega arith
 after_most n (Leave s p t) = omega arith
 after_most n (Visit s q t) = omega arith
 
-give_more : (net : Net) (n : ℕ) (rows : List Row) (xs : List Step) (row : Row) (x : Step) → Give net n rows xs → Gives net (packets_behind n xs) (run_row row) (Does x) → Give net n (rows ++ row ∷ []) (xs ++ x ∷ [])
+pub give_more : (net : Net) (n : ℕ) (rows : List Row) (xs : List Step) (row : Row) (x : Step) → Give net n rows xs → Gives net (packets_behind n xs) (run_row row) (Does x) → Give net n (rows ++ row ∷ []) (xs ++ x ∷ [])
 give_more net n [] [] row x h g = (g, tt)
 give_more net n [] (y ∷ ys) row x h g = absurd h
 give_more net n (r ∷ rows) [] row x h g = absurd h
