@@ -1,6 +1,7 @@
 -- Statement after statement: what a script finds, from what each statement adds.
-use Rattle.std.specs.Prelude.{◌≡◌, ℕ, ◌≤◌, length, List, [], ◌∷◌, ◌++◌, map, Option, Some, None, Result, Ok, Err, is_some, false}
-use Rattle.std.proofs.Common.{refl, sym, ap, subst, inl, inr, drop, drop_of_length-le}
+use Rattle.std.specs.Prelude.{◌≡◌, ℕ, ◌+◌, ◌≤◌, ◌<◌, length, List, [], ◌∷◌, ◌++◌, map, Option, Some, None, Result, Ok, Err, is_some, false}
+use Rattle.std.proofs.Common.{refl, sym, ap, subst, ◌∙◌, inl, inr, get_or, drop, drop_of_length-le}
+use Rattle.std.proofs.lemmas.List.{drop_more}
 use Rattle.rational.specs.Rational.{ℚ}
 use Rattle.upp_curve.specs.Curve.{SpecCurve}
 use Rattle.input_texts.specs.declared.curve_script.fault.LangKind.{LangKind}
@@ -72,6 +73,13 @@ pub script_stops : (U : Type 0) (l : Numbered) (ls ms : List Let) (out more : Li
 script_stops U l ls ms out more rest k old new h = line_stops k h refl
 
 -- ---- the lines that are left
+-- what a line finds with those after it is what the lines from it on find
+pub from_line : (ls : List Let) (out : List Answered) (xs : List ScriptLine) (i : ℕ) (line : ScriptLine) (r : Told) (old new : ℕ) → i < length xs
+    → line ≡ get_or xs i line → ScriptFinds ls out (line_view line ∷ map line_view (drop (i + 1) xs)) r old new
+    → ScriptFinds ls out (map line_view (drop i xs)) r old new
+from_line ls out xs i line r old new within is h =
+    subst (λ ys. ScriptFinds ls out (map line_view ys) r old new) (sym (drop_more xs i line within ∙ ap (λ y. y ∷ drop (i + 1) xs) (sym is))) h
+
 -- none is: the answers are those of the script
 pub found_at_end : (ls : List Let) (out : List Answered) (xs : List ScriptLine) (i : ℕ) (old new : ℕ) → length xs ≤ i
     → ((r : Told) (n : ℕ) → ScriptFinds ls out (map line_view (drop i xs)) r new n → ScriptFinds [] [] (map line_view xs) r old n)

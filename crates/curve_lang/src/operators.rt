@@ -1,16 +1,16 @@
 //! Operators on curves, each with its conditions.
 
-ghost use Rattle.std.specs.Prelude.{◌≡◌, IsTrue, ◌↔◌};
-ghost use Rattle.rational.specs.Rational.{◌≤ℚ◌};
+ghost use Rattle.std.specs.Prelude.{◌≡◌, ◌+◌, IsTrue, IfOk, ◌↔◌};
+ghost use Rattle.rational.specs.Rational.{ℚ, ◌≤ℚ◌};
 ghost use Rattle.min_plus.specs.Functions.{zero_q, IsFinite, IsNonnegative};
 ghost use Rattle.upp_curve.specs.Curve.{value_at};
-ghost use Rattle.input_texts.specs.declared.curve_script.keyword.PairOperator.TheVariants as twos;
-ghost use Rattle.input_texts.specs.declared.curve_script.keyword.NumberOperator.TheVariants as numbers;
-ghost use Rattle.input_texts.specs.declared.curve_script.keyword.CurveOperator.TheVariants as ones;
+ghost use Rattle.upp_limits.specs.Outcome.{KeepsLimits};
+ghost use Rattle.curve_call.specs.Answers.{IsAnswer};
 ghost use Rattle.rational.specs.Extended.{◌<ₑ◌};
 ghost use Rattle.rational.specs.declared.Extended.TheVariants.{Fin};
-ghost use Rattle.curve_lang.specs.Finding.{Once, OneFinds, TestFinds, zero_curve};
+ghost use Rattle.curve_lang.specs.Finding.{MayCall, MayCallWith, Once, OneFinds, TestFinds, zero_curve};
 ghost use Rattle.curve_lang.specs.Found.{TestedBy, OneMade, NumberMade, TwoMade};
+ghost use Rattle.curve_lang.specs.Meaning.{call_of_two, call_with};
 ghost use Rattle.curve_lang.specs.Views.{found};
 
 use crate::kinds::zero_found;
@@ -30,77 +30,41 @@ use std::rc::Rc;
 use std::sync::ledger::Ledger;
 use subadd_closure::close;
 use upp_curve::Curve;
+use upp_limits::OpFault;
 
-fn sum_made<L: Ledger>(
-    alloc: Global,
-    f: &Curve,
-    g: &Curve,
-    steps: &mut Steps<L>,
-) -> Result<Rc<Curve>, LangKind>
-    ensures { TwoMade twos.Sum f.now g.now (found result) steps.old steps.new }
+// Whether an operator may be called on two curves.
+fn may_call(operator: PairOperator, f: &Curve, g: &Curve) -> bool
+    ensures { IsTrue result ↔ MayCall operator f.now g.now }
 {
-    kept_call(alloc, intact(sum(alloc, f, g, steps)))
-}
-
-fn min_made<L: Ledger>(
-    alloc: Global,
-    f: &Curve,
-    g: &Curve,
-    steps: &mut Steps<L>,
-) -> Result<Rc<Curve>, LangKind>
-    ensures { TwoMade twos.Min f.now g.now (found result) steps.old steps.new }
-{
-    kept_call(alloc, intact(min(alloc, f, g, steps)))
-}
-
-fn max_made<L: Ledger>(
-    alloc: Global,
-    f: &Curve,
-    g: &Curve,
-    steps: &mut Steps<L>,
-) -> Result<Rc<Curve>, LangKind>
-    ensures { TwoMade twos.Max f.now g.now (found result) steps.old steps.new }
-{
-    kept_call(alloc, intact(max(alloc, f, g, steps)))
-}
-
-fn convolution_made<L: Ledger>(
-    alloc: Global,
-    f: &Curve,
-    g: &Curve,
-    steps: &mut Steps<L>,
-) -> Result<Rc<Curve>, LangKind>
-    ensures { TwoMade twos.Conv f.now g.now (found result) steps.old steps.new }
-{
-    kept_call(alloc, intact(convolve(alloc, f, g, steps)))
-}
-
-fn difference_made<L: Ledger>(
-    alloc: Global,
-    f: &Curve,
-    g: &Curve,
-    steps: &mut Steps<L>,
-) -> Result<Rc<Curve>, LangKind>
-    ensures { TwoMade twos.PosDiff f.now g.now (found result) steps.old steps.new }
-{
-    if !f.is_finite() {
-        return Err(LangKind::C8);
+    match operator {
+        PairOperator::Sum | PairOperator::Min | PairOperator::Max | PairOperator::Conv => true,
+        PairOperator::PosDiff => f.is_finite(),
+        PairOperator::Deconv => g.is_finite(),
     }
-    kept_call(alloc, intact(pos_diff(alloc, f, g, steps)))
 }
 
-fn deconvolution_made<L: Ledger>(
+// The answer of an operator on two curves that it may be called on.
+fn called<L: Ledger>(
     alloc: Global,
+    operator: PairOperator,
     f: &Curve,
     g: &Curve,
     steps: &mut Steps<L>,
-) -> Result<Rc<Curve>, LangKind>
-    ensures { TwoMade twos.Deconv f.now g.now (found result) steps.old steps.new }
+) -> Result<Curve, OpFault>
+    requires { MayCall operator f.now g.now }
+    ensures count { steps.new ≡ steps.old + 1 }
+    ensures value { IfOk result (λ c. (t : ℚ) → zero_q ≤ℚ t
+        → IsAnswer (call_of_two operator) (value_at f.now) (value_at g.now) t (value_at c t)) }
+    ensures limits { KeepsLimits (call_of_two operator) f.now g.now result }
 {
-    if !g.is_finite() {
-        return Err(LangKind::C8);
+    match operator {
+        PairOperator::Sum => sum(alloc, f, g, steps),
+        PairOperator::Min => min(alloc, f, g, steps),
+        PairOperator::Max => max(alloc, f, g, steps),
+        PairOperator::Conv => convolve(alloc, f, g, steps),
+        PairOperator::PosDiff => pos_diff(alloc, f, g, steps),
+        PairOperator::Deconv => deconvolve(alloc, f, g, steps),
     }
-    kept_call(alloc, intact(deconvolve(alloc, f, g, steps)))
 }
 
 /// An operator on two curves.
@@ -113,62 +77,56 @@ pub(crate) fn two_made<L: Ledger>(
 ) -> Result<Rc<Curve>, LangKind>
     ensures { TwoMade operator f.now g.now (found result) steps.old steps.new }
 {
+    if !may_call(operator, f, g) {
+        return Err(LangKind::C8);
+    }
+    kept_call(alloc, intact(called(alloc, operator, f, g, steps)))
+}
+
+// Whether a number is from 0 on.
+fn is_from_zero(x: Frac) -> bool
+    ensures { IsTrue result ↔ (zero_q ≤ℚ x) }
+{
+    !is_less(x, Frac::zero())
+}
+
+// Whether a curve is finite, and a number from 0 on.
+fn are_within(f: &Curve, x: Frac) -> bool
+    ensures { IsTrue result ↔ (IsFinite (value_at f.now) × (zero_q ≤ℚ x)) }
+{
+    f.is_finite() && is_from_zero(x)
+}
+
+// Whether an operator may be called on a curve and a number.
+fn may_call_with(operator: NumberOperator, f: &Curve, x: Frac) -> bool
+    ensures { IsTrue result ↔ MayCallWith operator f.now x }
+{
     match operator {
-        PairOperator::Sum => sum_made(alloc, f, g, steps),
-        PairOperator::Min => min_made(alloc, f, g, steps),
-        PairOperator::Max => max_made(alloc, f, g, steps),
-        PairOperator::Conv => convolution_made(alloc, f, g, steps),
-        PairOperator::PosDiff => difference_made(alloc, f, g, steps),
-        PairOperator::Deconv => deconvolution_made(alloc, f, g, steps),
+        NumberOperator::PosMinus => are_within(f, x),
+        NumberOperator::Scale => are_within(f, x),
+        NumberOperator::Shift => is_from_zero(x),
     }
 }
 
-fn less_made<L: Ledger>(
+// The answer of an operator on a curve and a number that it may be called on.
+fn called_with<L: Ledger>(
     alloc: Global,
+    operator: NumberOperator,
     f: &Curve,
-    level: Frac,
+    x: Frac,
     steps: &mut Steps<L>,
-) -> Result<Rc<Curve>, LangKind>
-    ensures { NumberMade numbers.PosMinus f.now level (found result) steps.old steps.new }
+) -> Result<Curve, OpFault>
+    requires { MayCallWith operator f.now x }
+    ensures count { steps.new ≡ steps.old + 1 }
+    ensures value { IfOk result (λ c. (t : ℚ) → zero_q ≤ℚ t
+        → IsAnswer (call_with operator x) (value_at f.now) (value_at f.now) t (value_at c t)) }
+    ensures limits { KeepsLimits (call_with operator x) f.now f.now result }
 {
-    if !f.is_finite() {
-        return Err(LangKind::C8);
+    match operator {
+        NumberOperator::PosMinus => pos_minus(alloc, f, x, steps),
+        NumberOperator::Scale => scale(alloc, f, x, steps),
+        NumberOperator::Shift => shift(alloc, f, Extended::Fin(x), steps),
     }
-    if is_less(level, Frac::zero()) {
-        return Err(LangKind::C8);
-    }
-    kept_call(alloc, intact(pos_minus(alloc, f, level, steps)))
-}
-
-fn multiple_made<L: Ledger>(
-    alloc: Global,
-    f: &Curve,
-    factor: Frac,
-    steps: &mut Steps<L>,
-) -> Result<Rc<Curve>, LangKind>
-    ensures { NumberMade numbers.Scale f.now factor (found result) steps.old steps.new }
-{
-    if !f.is_finite() {
-        return Err(LangKind::C8);
-    }
-    if is_less(factor, Frac::zero()) {
-        return Err(LangKind::C8);
-    }
-    kept_call(alloc, intact(scale(alloc, f, factor, steps)))
-}
-
-fn shift_made<L: Ledger>(
-    alloc: Global,
-    f: &Curve,
-    by: Frac,
-    steps: &mut Steps<L>,
-) -> Result<Rc<Curve>, LangKind>
-    ensures { NumberMade numbers.Shift f.now by (found result) steps.old steps.new }
-{
-    if is_less(by, Frac::zero()) {
-        return Err(LangKind::C8);
-    }
-    kept_call(alloc, intact(shift(alloc, f, Extended::Fin(by), steps)))
 }
 
 /// An operator on a curve and a number.
@@ -181,47 +139,10 @@ pub(crate) fn number_made<L: Ledger>(
 ) -> Result<Rc<Curve>, LangKind>
     ensures { NumberMade operator f.now x (found result) steps.old steps.new }
 {
-    match operator {
-        NumberOperator::PosMinus => less_made(alloc, f, x, steps),
-        NumberOperator::Scale => multiple_made(alloc, f, x, steps),
-        NumberOperator::Shift => shift_made(alloc, f, x, steps),
+    if !may_call_with(operator, f, x) {
+        return Err(LangKind::C8);
     }
-}
-
-fn closure_made<L: Ledger>(
-    alloc: Global,
-    f: &Curve,
-    steps: &mut Steps<L>,
-) -> Result<Rc<Curve>, LangKind>
-    requires finite { IsFinite (value_at f.now) }
-    requires nonneg { IsNonnegative (value_at f.now) }
-    ensures { OneFinds ones.Close f.now (found result) steps.old steps.new }
-{
-    kept_call(alloc, intact(close(alloc, f, steps)))
-}
-
-fn supremum_made<L: Ledger>(
-    alloc: Global,
-    f: &Curve,
-    steps: &mut Steps<L>,
-) -> Result<Rc<Curve>, LangKind>
-    requires finite { IsFinite (value_at f.now) }
-    requires nonneg { IsNonnegative (value_at f.now) }
-    ensures { OneFinds ones.RunSup f.now (found result) steps.old steps.new }
-{
-    kept_call(alloc, intact(run_sup(alloc, f, steps)))
-}
-
-fn infimum_made<L: Ledger>(
-    alloc: Global,
-    f: &Curve,
-    steps: &mut Steps<L>,
-) -> Result<Rc<Curve>, LangKind>
-    requires finite { IsFinite (value_at f.now) }
-    requires nonneg { IsNonnegative (value_at f.now) }
-    ensures { OneFinds ones.RunInf f.now (found result) steps.old steps.new }
-{
-    kept_call(alloc, intact(run_inf(alloc, f, steps)))
+    kept_call(alloc, intact(called_with(alloc, operator, f, x, steps)))
 }
 
 // An operator on one curve whose conditions hold.
@@ -236,9 +157,9 @@ fn one_of<L: Ledger>(
     ensures { OneFinds operator f.now (found result) steps.old steps.new }
 {
     match operator {
-        CurveOperator::Close => closure_made(alloc, f, steps),
-        CurveOperator::RunSup => supremum_made(alloc, f, steps),
-        CurveOperator::RunInf => infimum_made(alloc, f, steps),
+        CurveOperator::Close => kept_call(alloc, intact(close(alloc, f, steps))),
+        CurveOperator::RunSup => kept_call(alloc, intact(run_sup(alloc, f, steps))),
+        CurveOperator::RunInf => kept_call(alloc, intact(run_inf(alloc, f, steps))),
     }
 }
 
