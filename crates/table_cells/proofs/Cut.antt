@@ -1,5 +1,5 @@
 -- Words that were cut off a text, and those that are left in it.
-use Rattle.std.proofs.Common.{◌≡◌, ℕ, suc, ◌+◌, ◌-◌, ◌<◌, ◌≤◌, Bool, true, false, List, [], ◌∷◌, ◌++◌, length, take, drop, get_or, refl, sym, ap, ap₂, ◌∙◌, arith, append_assoc, length-drop}
+use Rattle.std.proofs.Common.{◌≡◌, ℕ, ◌+◌, ◌-◌, ◌<◌, ◌≤◌, true, false, List, [], ◌∷◌, ◌++◌, length, take, drop, get_or, refl, sym, ap, ◌∙◌, arith, append_assoc, length-drop}
 use Rattle.std.proofs.lemmas.List.{take_more, drop_more, drop_all, get_or-drop}
 use Rattle.std.specs.Char.{is_ascii_whitespace}
 use Rattle.std.specs.List.{slice_range}
@@ -15,9 +15,6 @@ ended_before (b ∷ bs) rest = refl
 
 none_yet : (cell : List ℕ) (at : ℕ) → slice_range cell at at ≡ []
 none_yet cell at = let n : at - at ≡ 0 = omega arith in ap (λ k. take k (drop at cell)) n
-
-pub cut_none : (cell : List ℕ) → IsCut cell 0 0 []
-cut_none cell = refl
 
 left : (cell : List ℕ) (at : ℕ) → at < length cell → drop at cell ≡ get_or cell at 0 ∷ drop (at + 1) cell
 left cell at h = drop_more cell at 0 h

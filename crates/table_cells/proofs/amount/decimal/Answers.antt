@@ -1,4 +1,4 @@
-use Rattle.std.proofs.Common.{◌+◌, ◌*◌, ◌<◌, ◌^◌, ◌≡◌, length, arith}
+use Rattle.std.proofs.Common.{◌^◌, ◌≡◌, length, arith}
 use Rattle.table_cells.proofs.Digits.{joined, amount_joined}
 use Rattle.table_cells.proofs.amount.decimal.Goals as goal
 

@@ -1,5 +1,4 @@
-use Rattle.std.proofs.Common.{◌<◌, arith, subst, sym}
-use Rattle.std.proofs.lemmas.Grind.{common_steps}
+use Rattle.std.proofs.Common.{arith}
 use Rattle.table_cells.proofs.Digits.{capped, few, few_is, short}
 use Rattle.table_cells.proofs.amount.few_digits.Goals as goal
 

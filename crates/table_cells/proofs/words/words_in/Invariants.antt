@@ -1,4 +1,4 @@
-use Rattle.std.proofs.Common.{◌≡◌, map, ◌≤◌}
+use Rattle.std.proofs.Common.{map, ◌≤◌}
 use Rattle.table_cells.proofs.Cut.{IsCut}
 use Rattle.table_cells.proofs.words.words_in.Given as goal
 
