@@ -18,7 +18,7 @@ use Rattle.input_texts.specs.curve_script.Tokens.{Token, Word, Mark}
 use Rattle.input_texts.specs.curve_script.Keywords.{spelling}
 use Rattle.input_texts.specs.curve_script.Grammar.{Expression, Named, Nought, OfPair, OfTriple, OnCurve, OnNumber, OnTwo, Statement, Lets, ValueAt, AsksOne, AsksTwo, key, expression_tokens, statement_tokens, IsName, HasNames, HasNamesIn, number_in, both, depth, depth_in, numbers_read, numbers_read_in}
 use Rattle.input_texts.specs.curve_script.Shapes.{is_at}
-use Rattle.input_texts.specs.curve_script.Building.{Made, Told, ◌>>=◌, next_sign, behind_if, with_rest, next_number, number_behind, pair_from, triple_from, one_from, number_from, two_from, call_from, name_if, is_zero, zero_or, begin_with, build, calls, next_at, let_from, value_from, one_asked_from, two_asked_from, statement_behind, statement_from}
+use Rattle.input_texts.specs.curve_script.Building.{Made, Told, ◌>>=◌, next_sign, behind_if, with_rest, next_number, number_behind, pair_from, triple_from, one_from, number_from, curve_behind, two_from, call_from, name_if, is_zero, zero_or, begin_with, build, calls, next_at, let_from, value_from, one_asked_from, two_asked_from, statement_behind, statement_from}
 use Rattle.input_texts.proofs.curve_script.Words.{keyword_spelt, name_is_text, name_is_free}
 use Rattle.input_texts.proofs.curve_script.Chains.{build-step}
 
@@ -66,7 +66,7 @@ abbrev two_last : PairOperator → Expression ℚ → Made → Option Made
 two_last k f y = Some (OnTwo k f y.0, y.1)
 
 abbrev two_step : ℕ → PairOperator → Made → Option Made
-two_step m k x = next_sign Comma x.1 >>= (λ c. build m c >>= two_last k x.0)
+two_step m k x = curve_behind (build m) x.1 >>= two_last k x.0
 
 abbrev pair_last : NumberPair → ℚ → ℚ × List Token → Option Made
 pair_last k p y = Some (OfPair k p y.0, y.1)
@@ -236,7 +236,7 @@ abbrev two_asked_last : TwoAsked → Expression ℚ → Made → Option Told
 two_asked_last q f b = Some (AsksTwo q f b.0, b.1)
 
 abbrev two_asked_step : ℕ → TwoAsked → Made → Option Told
-two_asked_step n q a = next_sign Comma a.1 >>= (λ c. build n c >>= two_asked_last q a.0)
+two_asked_step n q a = curve_behind (build n) a.1 >>= two_asked_last q a.0
 
 two_asked-step : (n : ℕ) (q : TwoAsked) (a b : Expression (List ℕ)) (rest : List Token)
     → two_asked_from n q ((expression_tokens a ++ Mark Comma ∷ expression_tokens b) ++ rest) ≡ (build n (expression_tokens a ++ Mark Comma ∷ (expression_tokens b ++ rest)) >>= two_asked_step n q)

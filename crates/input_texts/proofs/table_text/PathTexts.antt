@@ -1,33 +1,27 @@
 -- Entries of paths, one after another.
-use Rattle.std.proofs.Common.{◌≡◌, ℕ, zero, suc, ◌+◌, ◌-◌, ◌^◌, ◌<◌, ◌≤◌, min, true, false, List, [], ◌∷◌, ◌++◌, length, take, drop, map, get_or, Option, Some, None, option_map, slice_index, refl, sym, ap, arith, ◌∙◌, append_assoc, append-nil}
-use Rattle.std.specs.List.{list_all, slice_range}
+use Rattle.std.proofs.Common.{◌≡◌, ℕ, zero, suc, ◌+◌, ◌-◌, ◌^◌, ◌<◌, ◌≤◌, min, true, false, List, [], ◌∷◌, ◌++◌, length, take, drop, map, Option, Some, None, option_map, slice_index, refl, sym, ap, arith, ◌∙◌, append_assoc, append-nil}
+use Rattle.std.specs.List.{slice_range}
 use Rattle.std.proofs.lemmas.List.{drop-drop}
 use Rattle.std.proofs.Math.Seq.{drop-cons}
 use Rattle.std.specs.Str.{IsUtf8}
 use Rattle.std.specs.Str.Parse.{digits_value}
 use Rattle.std.proofs.lemmas.Bool.{eq-eqb, ne_eqb}
 use Rattle.std.proofs.lemmas.Bool.Decides.{nat_tests}
-use Rattle.std.proofs.lemmas.Str.{IsUtf8-from_ascii}
 use Rattle.rational.specs.Gauge.{cap}
 use Rattle.fraction128.specs.Text.{is_numeral}
 use Rattle.net_model.specs.Names.{is_name_byte}
 use Rattle.input_texts.specs.declared.table_text.fault.TableKind.{TableKind}
 use Rattle.input_texts.specs.declared.table_text.fault.TableKind.TheVariants.{T1, T2, T3, T4, T5, T6, T7, NoMemory}
 use Rattle.input_texts.specs.table_text.EditRows.{IsMissing}
-use Rattle.input_texts.proofs.table_text.PlainTexts.{both}
+use Rattle.input_texts.proofs.table_text.PlainTexts.{both, passed_is_text}
 use Rattle.input_texts.specs.table_text.Paths.{EntryText, is_name, entry_of, entry_in, word_with, words_of, all_of}
 
 -- ---- names are text
 below : (b : ℕ) → is_name_byte b ≡ true → b < 128
 below b h = grind (arith, nat_tests)
 
-ascii : (bs : List ℕ) → list_all is_name_byte bs ≡ true → (i : ℕ) → get_or bs i 0 < 128
-ascii [] h i = omega arith
-ascii (b ∷ bs) h zero = below b (both _ _ h).0
-ascii (b ∷ bs) h (suc i) = ascii bs (both _ _ h).1 i
-
 pub name_is_text : (name : List ℕ) → is_name name ≡ true → IsUtf8 name
-name_is_text name h = IsUtf8-from_ascii name (ascii name (both _ _ h).0)
+name_is_text name h = passed_is_text is_name_byte below name (both _ _ h).0
 
 -- ---- one entry
 pub entry_is : (name digits server : List ℕ) (n q : ℕ) → is_name name ≡ true → is_numeral digits ≡ true → n ≡ cap (digits_value 10 digits) → q ≡ min n (2 ^ 32 - 1) → server ≡ name

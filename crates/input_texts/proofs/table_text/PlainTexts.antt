@@ -1,9 +1,13 @@
 -- Fields of plain bytes are text.
-use Rattle.std.proofs.Common.{◌≡◌, ℕ, zero, suc, ◌<◌, Bool, true, false, ◌&&◌, List, [], ◌∷◌, drop, Some, None, get_or, refl, ap, subst, arith}
+use Rattle.std.proofs.Common.{◌≡◌, ℕ, zero, suc, ◌<◌, Bool, true, false, ◌&&◌, List, [], ◌∷◌, drop, Some, None, refl, ap, subst, arith}
 use Rattle.std.specs.Prelude.{unwrap_or}
+use Rattle.std.specs.List.{list_all}
 use Rattle.std.specs.Str.{IsUtf8}
 use Rattle.std.proofs.lemmas.Bool.Decides.{nat_tests}
+use Rattle.std.proofs.lemmas.List.Elements.{All-weaker}
+use Rattle.std.proofs.lemmas.List.Sums.{AllPass-from_list_all}
 use Rattle.std.proofs.lemmas.Str.{IsUtf8-from_ascii}
+use Rattle.std.proofs.lemmas.Str.Ascii.{IsAscii-from_all}
 use Rattle.csv.specs.Records.{field_at}
 use Rattle.input_texts.specs.plain_text.Plain.{is_plain_byte}
 use Rattle.input_texts.specs.plain_text.Plain as plain
@@ -20,14 +24,14 @@ second_false false b h = refl
 same : (a b : List ℕ) → Some a ≡ Some b → a ≡ b
 same a b e = ap (λ o. unwrap_or o []) e
 
+-- bytes that pass a test which those of ASCII alone pass are text
+pub passed_is_text : (test : ℕ → Bool) → ((b : ℕ) → test b ≡ true → b < 128) → (bs : List ℕ) → list_all test bs ≡ true → IsUtf8 bs
+passed_is_text test small bs h =
+    IsUtf8-from_ascii bs (IsAscii-from_all bs (All-weaker (λ b. test b ≡ true) (λ b. b < 128) small bs (AllPass-from_list_all test bs h)))
+
 below : (b : ℕ) → is_plain_byte b ≡ true → b < 128
 unfolding is_plain_byte
 below b h = grind (arith, nat_tests)
-
-ascii : (bs : List ℕ) → plain.is_plain bs ≡ true → (i : ℕ) → get_or bs i 0 < 128
-ascii [] h i = omega arith
-ascii (b ∷ bs) h zero = below b (both _ _ h).0
-ascii (b ∷ bs) h (suc i) = ascii bs (both _ _ h).1 i
 
 plain_at : (row : Row) (place : ℕ) (bytes : List ℕ) → is_plain row ≡ true → field_at row place ≡ Some bytes → plain.is_plain bytes ≡ true
 unfolding field_at
@@ -36,7 +40,7 @@ plain_at (f ∷ fs) zero bytes h e = subst (λ b. plain.is_plain b ≡ true) (sa
 plain_at (f ∷ fs) (suc i) bytes h e = plain_at fs i bytes (both _ _ h).1 e
 
 pub plain_is_text : (row : Row) (place : ℕ) (bytes : List ℕ) → is_plain row ≡ true → field_at row place ≡ Some bytes → IsUtf8 bytes
-plain_is_text row place bytes h e = IsUtf8-from_ascii bytes (ascii bytes (plain_at row place bytes h e))
+plain_is_text row place bytes h e = passed_is_text is_plain_byte below bytes (plain_at row place bytes h e)
 
 -- ---- one field after another
 -- a field that is not plain

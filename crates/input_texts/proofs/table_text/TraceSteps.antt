@@ -28,12 +28,12 @@ memory_or NoMemory = inl refl
 memory_or kind = inr (λ e. let bad : ⊥ = cc in bad)
 
 -- ---- what entries hold
-packets_more : (es : List Entry) (e : Entry) → packets_in (es ++ e ∷ []) ≡ packets_in es ++ packets_in (e ∷ [])
+pub packets_more : (es : List Entry) (e : Entry) → packets_in (es ++ e ∷ []) ≡ packets_in es ++ packets_in (e ∷ [])
 packets_more [] e = refl
 packets_more (Packet p ∷ es) e = ap (λ ps. p ∷ ps) (packets_more es e)
 packets_more (Stop s ∷ es) e = packets_more es e
 
-stalls_more : (es : List Entry) (e : Entry) → stalls_in (es ++ e ∷ []) ≡ stalls_in es ++ stalls_in (e ∷ [])
+pub stalls_more : (es : List Entry) (e : Entry) → stalls_in (es ++ e ∷ []) ≡ stalls_in es ++ stalls_in (e ∷ [])
 stalls_more [] e = refl
 stalls_more (Packet p ∷ es) e = stalls_more es e
 stalls_more (Stop s ∷ es) e = ap (λ ss. s ∷ ss) (stalls_more es e)
@@ -43,7 +43,7 @@ in_all [] = refl
 in_all (Packet p ∷ es) = let k = in_all es in omega (arith, k)
 in_all (Stop s ∷ es) = let k = in_all es in omega (arith, k)
 
-give_more : (net : Net) (rows : List Row) (es : List Entry) (row : Row) (e : Entry) → Give net rows es → Gives net (trace_row row) e → Give net (rows ++ row ∷ []) (es ++ e ∷ [])
+pub give_more : (net : Net) (rows : List Row) (es : List Entry) (row : Row) (e : Entry) → Give net rows es → Gives net (trace_row row) e → Give net (rows ++ row ∷ []) (es ++ e ∷ [])
 give_more net [] [] row e h g = (g, tt)
 give_more net [] (x ∷ es) row e h g = absurd h
 give_more net (r ∷ rows) [] row e h g = absurd h
@@ -56,7 +56,7 @@ give_length net (r ∷ rows) [] h = absurd h
 give_length net (r ∷ rows) (x ∷ es) h = ap suc (give_length net rows es h.1)
 
 -- ---- the order of packets, and what is kept
-ordered_more : (ps : List TracePacket) (e : Entry) → AllPairs (λ p q. p.time ≤ℚ q.time) ps → Follows ps e → AllPairs (λ p q. p.time ≤ℚ q.time) (ps ++ packets_in (e ∷ []))
+pub ordered_more : (ps : List TracePacket) (e : Entry) → AllPairs (λ p q. p.time ≤ℚ q.time) ps → Follows ps e → AllPairs (λ p q. p.time ≤ℚ q.time) (ps ++ packets_in (e ∷ []))
 ordered_more ps (Packet p) h f = all_pairs_push (λ p q. p.time ≤ℚ q.time) ps p h f
 ordered_more ps (Stop s) h f = subst (AllPairs (λ p q. p.time ≤ℚ q.time)) (sym (append-nil ps)) h
 

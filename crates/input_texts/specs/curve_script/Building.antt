@@ -68,8 +68,12 @@ one_from inner k ts = inner ts >>= (λ e. Some (OnCurve k e.0, e.1))
 unfoldable pub number_from : (List Token → Option Made) → NumberOperator → List Token → Option Made
 number_from inner k ts = inner ts >>= (λ e. number_behind Comma e.1 >>= (λ x. Some (OnNumber k e.0 x.0, x.1)))
 
+-- a comma and an expression
+abbrev pub curve_behind : (List Token → Option Made) → List Token → Option Made
+curve_behind inner ts = next_sign Comma ts >>= inner
+
 unfoldable pub two_from : (List Token → Option Made) → PairOperator → List Token → Option Made
-two_from inner k ts = inner ts >>= (λ a. next_sign Comma a.1 >>= (λ c. inner c >>= (λ b. Some (OnTwo k a.0 b.0, b.1))))
+two_from inner k ts = inner ts >>= (λ a. curve_behind inner a.1 >>= (λ b. Some (OnTwo k a.0 b.0, b.1)))
 
 -- what stands between the parentheses behind a keyword
 abbrev pub inside_from : (List Token → Option Made) → Keyword → List Token → Option Made
@@ -148,8 +152,7 @@ unfoldable pub one_asked_from : ℕ → OneAsked → List Token → Option Told
 one_asked_from n q ts = build n ts >>= (λ m. Some (AsksOne q m.0, m.1))
 
 unfoldable pub two_asked_from : ℕ → TwoAsked → List Token → Option Told
-two_asked_from n q ts = build n ts >>=
-    (λ a. next_sign Comma a.1 >>= (λ c. build n c >>= (λ b. Some (AsksTwo q a.0 b.0, b.1))))
+two_asked_from n q ts = build n ts >>= (λ a. curve_behind (build n) a.1 >>= (λ b. Some (AsksTwo q a.0 b.0, b.1)))
 
 abbrev pub statement_behind : ℕ → Keyword → List Token → Option Told
 statement_behind n Let ts = let_from n ts

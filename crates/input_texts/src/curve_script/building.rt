@@ -3,7 +3,7 @@
 ghost use Rattle.std.specs.Prelude.{◌≡◌, IfOk, option_map};
 ghost use Rattle.std.specs.String.{string_bytes};
 ghost use Rattle.input_texts.specs.curve_script.Views.{expression_view};
-ghost use Rattle.input_texts.specs.curve_script.Building.{IsTaken, pair_from, triple_from, one_from, number_from, two_from, inside_from, call_from, name_if, is_zero, build};
+ghost use Rattle.input_texts.specs.curve_script.Building.{IsTaken, pair_from, triple_from, one_from, number_from, curve_behind, two_from, inside_from, call_from, name_if, is_zero, build};
 ghost use Rattle.input_texts.specs.curve_script.Grammar.{Named, OnCurve, OnNumber, OnTwo};
 ghost use Rattle.input_texts.specs.curve_script.Shapes.{is_name_text};
 
@@ -202,6 +202,21 @@ fn with_number_at(
     Ok(Some(made))
 }
 
+/// Takes a comma, and an expression whose parentheses nest at most so deep.
+#[cycle(curve)]
+pub(crate) fn curve_behind(
+    alloc: Global,
+    tokens: &mut Tokens<'_, '_>,
+    deep: u32,
+) -> Result<Option<Expr>, AllocError>
+    ensures { IfOk result (IsTaken expression_view tokens.new (curve_behind (build deep) tokens.old)) }
+{
+    if !tokens.takes_sign(Sign::Comma) {
+        return Ok(None);
+    }
+    curve_at(alloc, tokens, deep)
+}
+
 #[cycle(curve)]
 fn two_at(
     alloc: Global,
@@ -214,10 +229,7 @@ fn two_at(
     let Some(a) = curve_at(alloc, tokens, deep)? else {
         return Ok(None);
     };
-    if !tokens.takes_sign(Sign::Comma) {
-        return Ok(None);
-    }
-    let Some(b) = curve_at(alloc, tokens, deep)? else {
+    let Some(b) = curve_behind(alloc, tokens, deep)? else {
         return Ok(None);
     };
     let made = on_two(alloc, operator, a, b)?;

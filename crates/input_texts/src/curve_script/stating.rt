@@ -4,7 +4,7 @@ ghost use Rattle.std.specs.Prelude.{◌≡◌, IfOk};
 ghost use Rattle.input_texts.specs.curve_script.Views.{statement_view};
 ghost use Rattle.input_texts.specs.curve_script.Building.{IsTaken, let_from, value_from, one_asked_from, two_asked_from, statement_behind, statement_from};
 
-use crate::curve_script::building::{curve_at, name_of};
+use crate::curve_script::building::{curve_at, curve_behind, name_of};
 use crate::curve_script::keyword::{Keyword, OneAsked, TwoAsked, keyword_of};
 use crate::curve_script::script::Stat;
 use crate::curve_script::token::Sign;
@@ -73,10 +73,7 @@ fn two_asked_at(
     let Some(a) = curve_at(alloc, tokens, deep)? else {
         return Ok(None);
     };
-    if !tokens.takes_sign(Sign::Comma) {
-        return Ok(None);
-    }
-    let Some(b) = curve_at(alloc, tokens, deep)? else {
+    let Some(b) = curve_behind(alloc, tokens, deep)? else {
         return Ok(None);
     };
     Ok(Some(Stat::AskTwo(question, a, b)))

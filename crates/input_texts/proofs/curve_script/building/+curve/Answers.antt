@@ -70,17 +70,20 @@ pub two_at-returns-in_default : goal.two_at-returns-in_default
 unfolding two_from
 two_at-returns-in_default t c = chain_none _ _ (opened_none _ _ _ c.in_default.is c.in_ok-a.ensures)
 
-pub two_at-returns-then-not-takes_sign : goal.two_at-returns-then-not-takes_sign
-unfolding two_from
-two_at-returns-then-not-takes_sign t c = chain_none _ _ c.if-not-takes_sign.ensures ∙ chain_some _ _ _ (opened_some _ _ _ _ c.in-Some.is c.in_ok-a.ensures)
-
 pub two_at-returns-in_default-2 : goal.two_at-returns-in_default-2
 unfolding two_from
 two_at-returns-in_default-2 t c =
-    chain_none _ _ (opened_none _ _ _ c.in_default-2.is c.in_ok-b.ensures) ∙ chain_some _ _ _ c.if-not-takes_sign.ensures ∙ chain_some _ _ _ (opened_some _ _ _ _ c.in-Some.is c.in_ok-a.ensures)
+    chain_none _ _ (opened_none _ _ _ c.in_default-2.is c.in_ok-b.ensures) ∙ chain_some _ _ _ (opened_some _ _ _ _ c.in-Some.is c.in_ok-a.ensures)
 
 pub two_at-returns : goal.two_at-returns
 unfolding two_from
 two_at-returns t c =
-    ap (λ e. Some (e, c.curve_at-2.new.tokens)) c.in_ok-made.ensures
-    ∙ chain_some _ _ _ (opened_some _ _ _ _ c.in-Some-2.is c.in_ok-b.ensures) ∙ chain_some _ _ _ c.if-not-takes_sign.ensures ∙ chain_some _ _ _ (opened_some _ _ _ _ c.in-Some.is c.in_ok-a.ensures)
+    ap (λ e. Some (e, c.curve_behind.new.tokens)) c.in_ok-made.ensures
+    ∙ chain_some _ _ _ (opened_some _ _ _ _ c.in-Some-2.is c.in_ok-b.ensures) ∙ chain_some _ _ _ (opened_some _ _ _ _ c.in-Some.is c.in_ok-a.ensures)
+
+pub curve_behind-returns-then-not-takes_sign : goal.curve_behind-returns-then-not-takes_sign
+curve_behind-returns-then-not-takes_sign t c = chain_none _ _ c.if-not-takes_sign.ensures
+
+pub curve_behind-returns : goal.curve_behind-returns
+curve_behind-returns t c =
+    IfOk-weaker c.curve_at.result _ _ (λ made e. e ∙ chain_some _ _ _ c.if-not-takes_sign.ensures) c.curve_at.ensures

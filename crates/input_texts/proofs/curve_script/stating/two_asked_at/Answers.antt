@@ -7,14 +7,10 @@ pub returns-in_default : goal.returns-in_default
 unfolding two_asked_from
 returns-in_default c = chain_none _ _ (opened_none _ _ _ c.in_default.is c.in_ok-a.ensures)
 
-pub returns-then-not-takes_sign : goal.returns-then-not-takes_sign
-unfolding two_asked_from
-returns-then-not-takes_sign c = chain_none _ _ c.if-not-takes_sign.ensures ∙ chain_some _ _ _ (opened_some _ _ _ _ c.in-Some.is c.in_ok-a.ensures)
-
 pub returns-in_default-2 : goal.returns-in_default-2
 unfolding two_asked_from
-returns-in_default-2 c = chain_none _ _ (opened_none _ _ _ c.in_default-2.is c.in_ok-b.ensures) ∙ chain_some _ _ _ c.if-not-takes_sign.ensures ∙ chain_some _ _ _ (opened_some _ _ _ _ c.in-Some.is c.in_ok-a.ensures)
+returns-in_default-2 c = chain_none _ _ (opened_none _ _ _ c.in_default-2.is c.in_ok-b.ensures) ∙ chain_some _ _ _ (opened_some _ _ _ _ c.in-Some.is c.in_ok-a.ensures)
 
 pub returns : goal.returns
 unfolding two_asked_from
-returns c = chain_some _ _ _ (opened_some _ _ _ _ c.in-Some-2.is c.in_ok-b.ensures) ∙ chain_some _ _ _ c.if-not-takes_sign.ensures ∙ chain_some _ _ _ (opened_some _ _ _ _ c.in-Some.is c.in_ok-a.ensures)
+returns c = chain_some _ _ _ (opened_some _ _ _ _ c.in-Some-2.is c.in_ok-b.ensures) ∙ chain_some _ _ _ (opened_some _ _ _ _ c.in-Some.is c.in_ok-a.ensures)

@@ -1,4 +1,4 @@
-use Rattle.std.proofs.Common.{Bor, List, ℕ, ◌≡◌, ◌≤◌, ◌∙◌, ap, sym, refl, rules, inl, inr, map, length, Some, ◌∷◌, [], arith, subst, ◌++◌}
+use Rattle.std.proofs.Common.{Bor, List, ℕ, ◌≡◌, ◌≤◌, ◌∙◌, ap, sym, refl, rules, inl, inr, map, length, Some, ◌∷◌, [], arith, subst}
 use Rattle.std.proofs.lemmas.List.{map-append, length_push, length-map}
 use Rattle.std.proofs.lemmas.Result.{err_from_is_err_and}
 use Rattle.csv.specs.Reading.{Reached, builder_config, builder_names_headers, builder_trim, default_config, strip_bom}
