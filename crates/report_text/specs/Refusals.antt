@@ -4,7 +4,7 @@ use Rattle.std.specs.List.{flat_map}
 use Rattle.std.specs.String.{string_bytes}
 use Rattle.std.specs.Fmt.{decimal}
 use Rattle.report_text.specs.declared.refusal.Refusal.{Refusal}
-use Rattle.report_text.specs.declared.refusal.Refusal.TheVariants.{Usage, CannotRead, TooLong, BadNetwork, Cycle}
+use Rattle.report_text.specs.declared.refusal.Refusal.TheVariants.{BadNetwork, Cycle}
 use Rattle.report_text.specs.declared.refusal.Refusal.TheVariants.{CurveTooMany, CurveTooWide, CellTooMany, CellTooWide}
 use Rattle.report_text.specs.declared.refusal.Refusal.TheVariants.{SimTooWide, BadTable, BadScript}
 use Rattle.report_text.specs.declared.refusal.Refusal.TheVariants.{ScriptTooMany, ScriptTooWide}
@@ -16,9 +16,6 @@ spaced = flat_map (λ name. codes " " ++ name)
 
 -- what is said
 abbrev pub reason : Refusal → List ℕ
-reason (Usage commands) = codes "usage: " ++ string_bytes commands
-reason (CannotRead file) = codes "cannot read " ++ string_bytes file
-reason (TooLong file) = string_bytes file ++ codes ": too long"
 reason (BadNetwork file fault) = string_bytes file ++ codes ": " ++ fault_text fault.kind (string_bytes fault.place)
 reason (Cycle names) = codes "cycle" ++ spaced (map string_bytes names.items)
 reason (CurveTooMany place) = codes "too many: curve " ++ string_bytes place

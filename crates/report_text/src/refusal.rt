@@ -15,12 +15,6 @@ use std::alloc::{AllocError, Global};
 /// Why there is no report.
 #[derive(Drop)]
 pub enum Refusal {
-    /// The words of the command line are not taken: the commands that are.
-    Usage { commands: String },
-    /// A file could not be read.
-    CannotRead { file: String },
-    /// A file has more bytes than a file may have.
-    TooLong { file: String },
     /// A file breaks a rule of networks. The fault is one of the rules', and neither a curve over a limit nor want of
     /// memory.
     BadNetwork { file: String, fault: NetFault },
@@ -175,9 +169,6 @@ fn push_reason(into: &mut Vec<u8>, refusal: &Refusal) -> Result<(), AllocError>
     ensures { OnOk result (into.new.items ≡ into.old.items ++ reason refusal.now) }
 {
     match refusal {
-        Refusal::Usage { commands } => push_after(into, "usage: ", commands),
-        Refusal::CannotRead { file } => push_after(into, "cannot read ", file),
-        Refusal::TooLong { file } => push_after(into, file, ": too long"),
         Refusal::BadNetwork { file, fault } => {
             push_after(into, file, ": ")?;
             push_fault(into, fault)
