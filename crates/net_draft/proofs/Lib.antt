@@ -15,3 +15,4 @@ pub mod MayStand
 pub mod LeastKey
 pub mod KindsOfTables
 pub mod ThreeWords
+pub mod DisciplinesKept
