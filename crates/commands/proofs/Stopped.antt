@@ -37,7 +37,7 @@ pub stopped_told : {E : Type 0} (net : Net) (Told : CellTable → Reply → Type
 stopped_told net Told r h = IfOk-weaker r _ _ (λ a at. stopped net Told (reply_of a) at) h
 
 -- and no report
-not_at : (status at : ℕ) → status ≡ at → at ≢ 0 → at ≢ 9 → ¬ IsOfReport status
+pub not_at : (status at : ℕ) → status ≡ at → at ≢ 0 → at ≢ 9 → ¬ IsOfReport status
 not_at status at is zero nine = no_report status (λ e. zero (sym is ∙ e)) (λ e. nine (sym is ∙ e))
 
 is_none : (net : Net) (reply : Reply) → IsStopped net reply → ¬ IsOfReport reply.status
@@ -45,10 +45,11 @@ is_none net reply (inl h) = not_at reply.status 8 (status_is reply _ h.is) (λ e
 is_none net reply (inr (order, o, (TooMany, h))) = not_at reply.status 7 (status_is reply _ h.is) (λ e. cc) (λ e. cc)
 is_none net reply (inr (order, o, (TooWide, h))) = not_at reply.status 6 (status_is reply _ h.is) (λ e. cc) (λ e. cc)
 
-none_told : {E : Type 0} (net : Net) (r : Result Answer E) → IfOk r (λ a. IsStopped net (reply_of a))
-    → ¬ IsOfReport (status_of r)
-none_told net (Ok a) h = is_none net (reply_of a) h
-none_told net (Err e) h = no_report 5 (λ k. absurd (cc)) (λ k. absurd (cc))
+-- so an answer that is such a reply, if any, is none
+pub none_of : {E : Type 0} (Is : Reply → Type 0) → ((reply : Reply) → Is reply → ¬ IsOfReport reply.status)
+    → (r : Result Answer E) → IfOk r (λ a. Is (reply_of a)) → ¬ IsOfReport (status_of r)
+none_of Is none (Ok a) h = none (reply_of a) h
+none_of Is none (Err e) h = no_report 5 (λ k. absurd (cc)) (λ k. absurd (cc))
 
 -- ---- the steps of its cells
 -- at the status of an answer
@@ -61,4 +62,4 @@ at_status net status old new h exact =
 -- where it stops, no more than those of all cells
 pub stopped_counts : {E : Type 0} (net : Net) (r : Result Answer E) (old new : ℕ) → CountsOnCells net 5 old new
     → IfOk r (λ a. IsStopped net (reply_of a)) → CountsOnCells net (status_of r) old new
-stopped_counts net r old new h at = at_status net (status_of r) old new h (λ is. absurd (none_told net r at is))
+stopped_counts net r old new h at = at_status net (status_of r) old new h (λ is. absurd (none_of (IsStopped net) (is_none net) r at is))

@@ -8,6 +8,7 @@ pub mod edit;
 pub mod edit_report;
 pub mod exercise;
 pub mod measure;
+mod network_read;
 pub mod simulate;
 mod simulated;
 mod tabled;

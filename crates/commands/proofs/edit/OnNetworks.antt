@@ -46,15 +46,6 @@ at_zero (Ok a) P holds zero = holds
 at_zero (Err e) P holds zero = absurd (cc)
 
 -- ---- steps
-pub none_on_net : (net : Net) (edits : List Edit) (status count : ℕ) → status ≢ 0
-    → CountsOnEdits net edits status count count
-none_on_net net edits status count other = record {
-  rises = omega arith;
-  most = λ order all done o w. omega arith;
-  report = λ zero order all done o w. absurd (other zero);
-  round = λ walk c. refl;
-}
-
 -- first those of all cells, and then those of the edits
 pub record RowsSteps (net : Net) (edits : List Edit) (status mid new : ℕ) : Type 0 where
   pub rises : mid ≤ new

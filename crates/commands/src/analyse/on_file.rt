@@ -7,8 +7,8 @@ ghost use Rattle.commands.specs.FileCounts.{CountsOnFile};
 ghost use Rattle.commands.specs.analyse.OnFiles.{IsReplyOn};
 
 use crate::analyse::on_net::on_network;
-use command_replies::{Answer, on_fault};
-use net_text::read_network;
+use crate::network_read::network_from;
+use command_replies::Answer;
 use outcomes::Steps;
 use report_text::json_report::Form;
 use std::alloc::{AllocError, Global};
@@ -26,11 +26,8 @@ pub fn answer_on<L: Ledger>(
     ensures reply { IfOk result (λ r. IsReplyOn form file.now bytes.now (reply_of r)) }
     ensures counts { CountsOnFile CountsOnCells bytes.now (status_of result) steps.old steps.new }
 {
-    match read_network(alloc, bytes, steps) {
-        Ok(network) => {
-            network.keeps();
-            on_network(alloc, &network, form, steps)
-        }
-        Err(fault) => on_fault(alloc, file, fault),
+    match network_from(alloc, file, bytes, steps) {
+        Ok(network) => on_network(alloc, &network, form, steps),
+        Err(told) => told,
     }
 }

@@ -10,7 +10,7 @@ ghost use Rattle.run_watch.specs.simulated_sizes.Laws.{AreCurves};
 ghost use Rattle.run_check.specs.run_table.ReadRuns.{IsRecordedRun};
 ghost use Rattle.command_replies.specs.View.{reply_of};
 ghost use Rattle.commands.specs.check.Checked as spec;
-ghost use Rattle.commands.specs.check.Checked.{IsUnlawfulOn, IsLawfulOn, IsReportOn, IsVerdictReply};
+ghost use Rattle.commands.specs.check.Checked.{IsUnlawfulOn, IsLawfulOn, IsVerdictReply};
 
 use crate::check::refusals::check_too_wide;
 use command_replies::run_findings::{findings, status_by};
@@ -67,11 +67,11 @@ fn reported_lawful(
     run: &Run,
     table: &Analysis<Value>,
 ) -> Result<Answer, AllocError>
+    requires narrow { check_gauge net.now run.now < 2 ^ 120 }
+    requires lawful { IsLawful (routes_of net.now) run.now }
     requires accepted { IsAccepted net.now }
     requires curves { AreCurves net.now }
     requires recorded { IsRecordedRun net.now run.now }
-    requires narrow { check_gauge net.now run.now < 2 ^ 120 }
-    requires lawful { IsLawful (routes_of net.now) run.now }
     ensures { IfOk result
         (λ r. IsLawfulOn net.now run.now (⟦<Analysis<Value> as Table<Value>>⟧.at table.now) (reply_of r)) }
 {
@@ -80,26 +80,6 @@ fn reported_lawful(
     let text = lawful_text(alloc, net, table, &found)?;
     let status = status_by(&found.breach);
     Ok(Answer { status, text })
-}
-
-// The report on a recorded run whose numbers are not too wide.
-fn reported(
-    alloc: Global,
-    net: &Network,
-    run: &Run,
-    table: &Analysis<Value>,
-) -> Result<Answer, AllocError>
-    requires accepted { IsAccepted net.now }
-    requires curves { AreCurves net.now }
-    requires recorded { IsRecordedRun net.now run.now }
-    requires narrow { check_gauge net.now run.now < 2 ^ 120 }
-    ensures { IfOk result
-        (λ r. IsReportOn net.now run.now (⟦<Analysis<Value> as Table<Value>>⟧.at table.now) (reply_of r)) }
-{
-    match first_broken(alloc, net, run)? {
-        Some(broken) => reported_broken(alloc, net, run, broken),
-        None => reported_lawful(alloc, net, run, table),
-    }
 }
 
 /// The answer on a network and a recorded run of it beside the numbers of a table: that the run is too wide, or the report
@@ -117,8 +97,10 @@ pub(crate) fn checked(
         (λ r. IsVerdictReply net.now run.now (⟦<Analysis<Value> as Table<Value>>⟧.at table.now) (reply_of r)) }
 {
     if is_too_wide(net, run) {
-        check_too_wide(alloc)
-    } else {
-        reported(alloc, net, run, table)
+        return check_too_wide(alloc);
+    }
+    match first_broken(alloc, net, run)? {
+        Some(broken) => reported_broken(alloc, net, run, broken),
+        None => reported_lawful(alloc, net, run, table),
     }
 }

@@ -9,9 +9,9 @@ ghost use Rattle.commands.specs.check.CheckCounts.{CountsOnNet};
 
 use crate::check::on_net::on_network;
 use crate::check::refusals::on_run_fault;
-use command_replies::{Answer, on_fault};
+use crate::network_read::network_from;
+use command_replies::Answer;
 use net_model::Network;
-use net_text::read_network;
 use outcomes::Steps;
 use run_check::run_table::read_run;
 use std::alloc::{AllocError, Global};
@@ -52,11 +52,8 @@ pub fn answer_on<L: Ledger>(
     ensures counts { CountsOnFile (λ net. CountsOnNet net run_bytes.now) net_bytes.now (status_of result)
         steps.old steps.new }
 {
-    match read_network(alloc, net_bytes, steps) {
-        Ok(network) => {
-            network.keeps();
-            on_rows(alloc, &network, run_file, run_bytes, steps)
-        }
-        Err(fault) => on_fault(alloc, net_file, fault),
+    match network_from(alloc, net_file, net_bytes, steps) {
+        Ok(network) => on_rows(alloc, &network, run_file, run_bytes, steps),
+        Err(told) => told,
     }
 }

@@ -8,10 +8,10 @@ ghost use Rattle.commands.specs.edit.EditCounts.{CountsOnNet};
 ghost use Rattle.commands.specs.edit.OnEdits.{IsEditReply, IsReplyOnNet};
 
 use crate::edit::on_net::on_network;
-use command_replies::{Answer, on_fault, on_table_fault};
+use crate::network_read::network_from;
+use command_replies::{Answer, on_table_fault};
 use input_texts::table_text::read_edits;
 use net_model::Network;
-use net_text::read_network;
 use outcomes::Steps;
 use report_text::json_report::Form;
 use std::alloc::{AllocError, Global};
@@ -54,11 +54,8 @@ pub fn answer_on<L: Ledger>(
     ensures counts { CountsOnFile (λ net. CountsOnNet net edits_bytes.now) net_bytes.now (status_of result)
         steps.old steps.new }
 {
-    match read_network(alloc, net_bytes, steps) {
-        Ok(network) => {
-            network.keeps();
-            on_list(alloc, &network, edits_file, edits_bytes, form, steps)
-        }
-        Err(fault) => on_fault(alloc, net_file, fault),
+    match network_from(alloc, net_file, net_bytes, steps) {
+        Ok(network) => on_list(alloc, &network, edits_file, edits_bytes, form, steps),
+        Err(told) => told,
     }
 }

@@ -80,8 +80,7 @@ pub(crate) fn json_text<V: ShownValue, T: Table<V>>(
     table: &T,
     said: &[Said],
 ) -> Result<Vec<u8>, AllocError>
-    ensures { IfOk result (λ text. text.items
-        ≡ line_of (edit_report_data net.now (T.at table.now) (map said_view said.now))) }
+    ensures { IfOk result (λ text. text.items ≡ line_of (edit_report_data net.now (T.at table.now) (map said_view said.now))) }
 {
     let value = report_value(alloc, net, table, said)?;
     json_line(alloc, &value)

@@ -50,8 +50,7 @@ fn lines_text<V: ShownValue, T: Table<V>>(
     table: &T,
     said: &[Said],
 ) -> Result<Vec<u8>, AllocError>
-    ensures { IfOk result (λ text. text.items
-        ≡ edit_report_of net.now (T.at table.now) (map said_view said.now)) }
+    ensures { IfOk result (λ text. text.items ≡ edit_report_of net.now (T.at table.now) (map said_view said.now)) }
 {
     let mut text = Vec::new(alloc);
     push_lines(&mut text, said)?;
@@ -70,8 +69,7 @@ pub fn edit_text_in<V: ShownValue, T: Table<V>>(
     table: &T,
     said: &[Said],
 ) -> Result<Vec<u8>, AllocError>
-    ensures { IfOk result (λ text. text.items
-        ≡ edit_report_in form net.now (T.at table.now) (map said_view said.now)) }
+    ensures { IfOk result (λ text. text.items ≡ edit_report_in form net.now (T.at table.now) (map said_view said.now)) }
 {
     match form {
         Form::Lines => lines_text(alloc, net, table, said),

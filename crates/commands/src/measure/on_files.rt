@@ -8,11 +8,11 @@ ghost use Rattle.commands.specs.measure.MeasureCounts.{CountsOn};
 ghost use Rattle.commands.specs.measure.OnMeasures.{IsMeasureReply, IsReplyOnNet};
 
 use crate::measure::on_trace::on_trace;
-use command_replies::{Answer, on_fault, on_table_fault};
+use crate::network_read::network_from;
+use command_replies::{Answer, on_table_fault};
 use fraction128::Frac;
 use input_texts::table_text::read_trace;
 use net_model::Network;
-use net_text::read_network;
 use outcomes::Steps;
 use std::alloc::{AllocError, Global};
 use std::sync::ledger::Ledger;
@@ -47,10 +47,10 @@ pub fn answer_on<L: Ledger>(
     alloc: Global,
     net_file: &str,
     net_bytes: &[u8],
-    trace_file: &str,
-    trace_bytes: &[u8],
     name: &str,
     rate: Frac,
+    trace_file: &str,
+    trace_bytes: &[u8],
     steps: &mut Steps<L>,
 ) -> Result<Answer, AllocError>
     requires { zero_q ≤ℚ rate }
@@ -58,11 +58,8 @@ pub fn answer_on<L: Ledger>(
         IsMeasureReply net_file.now net_bytes.now trace_file.now trace_bytes.now name.now rate (reply_of r)) }
     ensures counts { CountsOn net_bytes.now (status_of result) steps.old steps.new }
 {
-    match read_network(alloc, net_bytes, steps) {
-        Ok(network) => {
-            network.keeps();
-            on_rows(alloc, &network, trace_file, trace_bytes, name, rate, steps)
-        }
-        Err(fault) => on_fault(alloc, net_file, fault),
+    match network_from(alloc, net_file, net_bytes, steps) {
+        Ok(network) => on_rows(alloc, &network, trace_file, trace_bytes, name, rate, steps),
+        Err(told) => told,
     }
 }

@@ -7,11 +7,11 @@ ghost use Rattle.commands.specs.simulate.OnTraces.{IsRunReply, IsRunReplyOnNet};
 ghost use Rattle.commands.specs.FileCounts.{CountsOnFile};
 ghost use Rattle.commands.specs.simulate.RunCounts.{CountsOnNet};
 
+use crate::network_read::network_from;
 use crate::simulate::on_net::on_network;
-use command_replies::{Answer, on_fault, on_table_fault};
+use command_replies::{Answer, on_table_fault};
 use input_texts::table_text::read_trace;
 use net_model::Network;
-use net_text::read_network;
 use outcomes::Steps;
 use std::alloc::{AllocError, Global};
 use std::sync::ledger::Ledger;
@@ -54,11 +54,8 @@ pub fn answer_on<L: Ledger>(
     ensures counts { CountsOnFile (λ net. CountsOnNet net trace_bytes.now) net_bytes.now (status_of result)
         steps.old steps.new }
 {
-    match read_network(alloc, net_bytes, steps) {
-        Ok(network) => {
-            network.keeps();
-            on_rows(alloc, &network, trace_file, trace_bytes, steps)
-        }
-        Err(fault) => on_fault(alloc, net_file, fault),
+    match network_from(alloc, net_file, net_bytes, steps) {
+        Ok(network) => on_rows(alloc, &network, trace_file, trace_bytes, steps),
+        Err(told) => told,
     }
 }

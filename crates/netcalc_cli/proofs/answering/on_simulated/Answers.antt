@@ -13,6 +13,6 @@ returns-in-Ok g c =
 
 pub returns-in-Err : goal.returns-in-Err
 returns-in-Err g c =
-    on_end g.I.Inputs.content g.I.Inputs.faults g.I.Inputs.last_fault g.I.Inputs.asked g.I.Inputs.had
-    (Simulate c.args.net.now c.args.trace.now) c.args.inputs.now c.fetch_two.new.inputs c.in-Err.unread
+    on_end g.I.Inputs.content g.I.Inputs.faults g.I.Inputs.last_fault g.I.Inputs.asked g.I.Inputs.had (Simulate c.args.net.now c.args.trace.now)
+    c.args.inputs.now c.fetch_two.new.inputs c.in-Err.unread
     c.unread_answer.result c.args.steps.now c.fetch_two.ensures.asked c.in-Err.ensures.ended c.unread_answer.ensures

@@ -1,28 +1,22 @@
-use Rattle.command_replies.specs.View.{status_of}
-use Rattle.commands.proofs.FileAnswers.{said_of_network, said_of_fault}
-use Rattle.commands.proofs.FileCounts.{of_network, of_fault, fault_no_report}
 use Rattle.command_replies.specs.run_findings.CellCounts.{CountsOnCells}
 use Rattle.command_replies.proofs.run_findings.Counted.{none_on_cells}
+use Rattle.commands.specs.analyse.OnFiles.{IsReplyOnNet}
+use Rattle.commands.proofs.FileAnswers.{by_network, by_none}
 use Rattle.commands.proofs.analyse.on_file.answer_on.Goals as goal
 
-pub returns-in-Ok-clause-reply : goal.returns-in-Ok-clause-reply
-returns-in-Ok-clause-reply g c =
-    said_of_network _ _ c.in-Ok.network _ c.on_network.result c.in-Ok.ensures.network c.keeps.ensures c.on_network.ensures.reply
+pub on_network-requires : goal.on_network-requires
+on_network-requires g c = c.in-Ok.ensures.network.accepted
 
-pub returns-in-Ok-clause-counts : goal.returns-in-Ok-clause-counts
-returns-in-Ok-clause-counts g c =
-    of_network CountsOnCells c.args.bytes.now c.in-Ok.network (status_of c.on_network.result)
-    c.args.steps.now c.read_network.new.steps c.on_network.new.steps
-    c.in-Ok.ensures.network c.read_network.ensures.rises c.read_network.ensures.most c.on_network.ensures.counts
+pub returns-in-Ok : goal.returns-in-Ok
+returns-in-Ok g c =
+    let all = by_network c.args.file.now c.args.bytes.now (IsReplyOnNet c.args.form) CountsOnCells c.in-Ok.network
+    c.on_network.result c.args.steps.now c.network_from.new.steps c.on_network.new.steps c.in-Ok.ensures.network
+    c.network_from.ensures.rises c.network_from.ensures.folds c.on_network.ensures.reply c.on_network.ensures.counts in
+    record { reply = all.reply; counts = all.counts }
 
-pub returns-in-Err-clause-reply : goal.returns-in-Err-clause-reply
-returns-in-Err-clause-reply g c =
-    said_of_fault _ _ _ c.in-Err.fault c.on_fault.result c.in-Err.ensures.fault c.on_fault.ensures.reply c.on_fault.ensures.told
-
-pub returns-in-Err-clause-counts : goal.returns-in-Err-clause-counts
-returns-in-Err-clause-counts g c =
-    let none = fault_no_report c.args.file.now c.in-Err.fault c.on_fault.result c.on_fault.ensures.reply in
-    let status = status_of c.on_fault.result in
-    let new = c.read_network.new.steps in
-    of_fault CountsOnCells c.args.bytes.now status c.args.steps.now new c.read_network.ensures.rises
-    c.read_network.ensures.most (λ net. none_on_cells net status new none)
+pub returns-in-Err : goal.returns-in-Err
+returns-in-Err g c =
+    let all = by_none c.args.file.now c.args.bytes.now (IsReplyOnNet c.args.form) CountsOnCells c.in-Err.told
+    c.args.steps.now c.network_from.new.steps c.in-Err.ensures.none c.network_from.ensures.rises
+    c.network_from.ensures.folds (λ net status none. none_on_cells net status c.network_from.new.steps none) in
+    record { reply = all.reply; counts = all.counts }

@@ -1,0 +1,37 @@
+//! The network of a file, or the answer where there is none.
+
+ghost use Rattle.std.specs.Prelude.{◌≤◌, IfErr, IfOk};
+ghost use Rattle.net_text.specs.Folds.{StepsAtMost};
+ghost use Rattle.subadd_closure.specs.FoldWork.{fold_work};
+ghost use Rattle.command_replies.specs.OnFiles.{IsNetOf, IsNoNetwork};
+ghost use Rattle.command_replies.specs.View.{reply_of};
+
+use command_replies::{Answer, on_fault};
+use net_model::Network;
+use net_text::read_network;
+use outcomes::Steps;
+use std::alloc::{AllocError, Global};
+use std::sync::ledger::Ledger;
+
+/// The network that a file with this name and these bytes gives, with all that a network keeps; or else the answer: of the
+/// first rule that its tables break, of the first curve over a limit, or none for want of memory. The steps are no more
+/// than the operators of the folds of the file's closures.
+pub(crate) fn network_from<L: Ledger>(
+    alloc: Global,
+    file: &str,
+    bytes: &[u8],
+    steps: &mut Steps<L>,
+) -> Result<Network, Result<Answer, AllocError>>
+    ensures network { IfOk result (IsNetOf bytes.now) }
+    ensures none { IfErr result (λ told. IfOk told (λ r. IsNoNetwork file.now bytes.now (reply_of r))) }
+    ensures rises { steps.old ≤ steps.new }
+    ensures folds { StepsAtMost fold_work bytes.now steps.old steps.new }
+{
+    match read_network(alloc, bytes, steps) {
+        Ok(network) => {
+            network.keeps();
+            Ok(network)
+        }
+        Err(fault) => Err(on_fault(alloc, file, fault)),
+    }
+}
