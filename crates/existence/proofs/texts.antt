@@ -1,4 +1,3 @@
-pub mod Pushed
 pub mod EachTable
 pub mod EachScript
 pub mod EachRun

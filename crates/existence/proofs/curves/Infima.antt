@@ -5,7 +5,6 @@ use Rattle.rational.specs.Rational.{ℚ, ◌+ℚ◌, ◌≤ℚ◌, int}
 use Rattle.rational.specs.MinMax.{min_q}
 use Rattle.rational.proofs.Laws.{le_or_lt}
 use Rattle.upp_curve.specs.declared.affine_segment.line.Piece.{Piece}
-use Rattle.upp_curve.specs.affine_segment.Values.{line_at}
 use Rattle.upp_curve.proofs.affine_segment.PieceOrder.{heads_same, zero_some}
 use Rattle.min_plus.specs.Functions.{IsFinite, IsNonnegative}
 use Rattle.upp_curve.specs.Curve.{SpecCurve, value_at}

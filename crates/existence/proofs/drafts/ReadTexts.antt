@@ -16,7 +16,7 @@ use Rattle.fraction128.specs.declared.fault.FracText.{FracText}
 use Rattle.fraction128.specs.Text.{parse_of}
 use Rattle.curve_library.specs.declared.texts.PieceText.{PieceText}
 use Rattle.curve_library.specs.declared.texts.UseAs.TheVariants as uses
-use Rattle.run_laws.specs.Servers.{Fifo, Priority, Drr, queue_count}
+use Rattle.run_laws.specs.Servers.{queue_count}
 use Rattle.net_model.specs.Accepted.{IsVersion, IsLength, IsQueueNumber, HasFewQueues}
 use Rattle.net_model.specs.Names.{IsName, is_name, is_name_byte}
 use Rattle.net_model.specs.declared.fault.NetKind.{NetKind}
@@ -28,18 +28,17 @@ use Rattle.net_draft.specs.declared.words.ServiceWord.{ServiceWord}
 use Rattle.net_draft.specs.declared.words.ServiceWord.TheVariants as services
 use Rattle.net_draft.specs.declared.words.ArrivalWord.{ArrivalWord}
 use Rattle.net_draft.specs.declared.words.ArrivalWord.TheVariants as arrivals
-use Rattle.net_draft.specs.declared.words.DisciplineWord.{DisciplineWord}
-use Rattle.net_draft.specs.declared.words.DisciplineWord.TheVariants as disciplines
 use Rattle.net_draft.specs.Drafts.{quanta_fit, servers_of, flows_of, root_of, tree_of, draft_in, draft_of}
 use Rattle.net_draft.specs.Faults.{◌>>=◌, Read, placed, under, nth}
 use Rattle.net_draft.specs.Hops.{hop_text, hop_in, named_from}
 use Rattle.net_draft.specs.Keys.{only}
 use Rattle.net_draft.specs.Kept.{AreWithinQuanta}
 use Rattle.net_draft.specs.Refusals.{refusal_of}
-use Rattle.net_draft.specs.Tables.{each, unless_refused, curve_at, piece_at, pieces_of, latency_at, gate_at, listed_service_at, service_by, service_at, service_or_rate, bucket_at, stair_at, listed_arrival_at, arrival_by, arrival_at, quantum_at, quanta_of, fifo_at, priority_at, drr_at, discipline_by, discipline_at, tail_of, service_word, arrival_word, discipline_word, forbidden, server_keys, server_names, server_with, server_text_at, hop_at, path_of, arrival_of, flow_names, flow_with, flow_at}
+use Rattle.net_draft.specs.Tables.{each, unless_refused, curve_at, piece_at, pieces_of, latency_at, gate_at, listed_service_at, service_by, service_at, service_or_rate, bucket_at, stair_at, listed_arrival_at, arrival_by, arrival_at, quantum_at, quanta_of, discipline_at, tail_of, service_word, arrival_word, server_keys, server_names, server_with, server_text_at, hop_at, path_of, arrival_of, flow_names, flow_with, flow_at}
 use Rattle.net_draft.specs.Texts.{CurveText, Bucket, Stair, RateLatency, Gate, Listed, ServerText, FlowText, DraftText, IsServiceOf, IsArrivalOf, IsHopOf}
 use Rattle.net_draft.specs.Values.{entries, entries_in, number_in, written, less, positive_in, nonnegative_in, in_range, whole_in, longest, name_in, new_name, list_in, required, optional, at_key, table_in, text_in, truth_in, wanted}
 use Rattle.net_draft.proofs.Decided.{Decides, less_decides}
+use Rattle.net_draft.proofs.DisciplinesKept.{AreQuanta, discipline_few, same_ok}
 use Rattle.net_draft.proofs.Named.{All-unmap, all_other}
 use Rattle.net_draft.proofs.QuantaKept.{none_passes, quanta_kept}
 use Rattle.existence.proofs.scripts.Numbers.{over_small, parsed_small}
@@ -51,9 +50,6 @@ record Keeps {A E : Type 0} (P : A → Type 0) (r : Result A E) : Type 0 where
 
 err_is_ok : {A E : Type 0} (x : A) (e : E) → (let r : Result A E = Err e in r) ≡ Ok x → ⊥
 err_is_ok x e h = cc
-
-same_ok : {A E : Type 0} (x y : A) → (let r : Result A E = Ok x in r) ≡ Ok y → x ≡ y
-same_ok x y h = cc
 
 fine : {A E : Type 0} {P : A → Type 0} (x : A) → P x → Keeps {A = A} {E = E} P (Ok x)
 fine {A} {E} {P} x p = record { kept = λ y h. subst P (same_ok {E = E} x y h) p }
@@ -354,9 +350,6 @@ arrival_kept packet place ms h =
     next (needed Ok any_data (codes "arrival") place ms h) (λ d s. arrival_at_kept packet (under place (codes "arrival")) d s)
 
 -- ---- disciplines
-abbrev AreQuanta : List ℕ → Type 0
-AreQuanta qs = IsQueueNumber (length qs) × All IsLength qs
-
 quantum_kept : (before : List ℕ) (place : List ℕ) (d : Data) → All IsLength before → AreShort d
     → Keeps (λ n. All IsLength (before ++ n ∷ [])) (quantum_at place d)
 quantum_kept before place d h s =
@@ -369,31 +362,12 @@ quanta_read place ms h =
     (λ ds c. weaker (each_from (λ before. quantum_at) (All IsLength) quantum_kept (under place (codes "quanta")) [] ds (All-nil IsLength) c.0)
     (λ qs k. let same = k.1 in let e : length qs ≡ length ds = omega (arith, same) in (subst IsQueueNumber (sym e) (c.1.0, c.1.1), k.0)))
 
-fifo_kept : (place : List ℕ) (ms : Members) → Keeps HasFewQueues (fifo_at place ms)
-unfolding fifo_at
-fifo_kept place ms =
-    next (whatever (forbidden (codes "queues") place ms)) (λ u v. next (whatever (forbidden (codes "quanta") place ms)) (λ w x. fine Fifo tt))
-
-priority_kept : (place : List ℕ) (ms : Members) → MembersAreShort ms → Keeps HasFewQueues (priority_at place ms)
-unfolding priority_at
-priority_kept place ms h =
-    next (needed (whole_in 1 8) (whole_kept 1 8) (codes "queues") place ms h) (λ queues l.
-    next (whatever (forbidden (codes "quanta") place ms)) (λ u v. fine (Priority queues) l))
-
-drr_kept : (place : List ℕ) (ms : Members) → MembersAreShort ms → Keeps HasFewQueues (drr_at place ms)
-unfolding drr_at
-drr_kept place ms h =
-    next (whatever (forbidden (codes "queues") place ms)) (λ u v. next (quanta_read place ms h) (λ quanta l. fine (Drr quanta) l))
-
-discipline_by_kept : (word : DisciplineWord) (place : List ℕ) (ms : Members) → MembersAreShort ms → Keeps HasFewQueues (discipline_by word place ms)
-discipline_by_kept disciplines.Fifo place ms h = fifo_kept place ms
-discipline_by_kept disciplines.Priority place ms h = priority_kept place ms h
-discipline_by_kept disciplines.Drr place ms h = drr_kept place ms h
-
 discipline_kept : (place : List ℕ) (ms : Members) → MembersAreShort ms → Keeps HasFewQueues (discipline_at place ms)
-unfolding discipline_at
-discipline_kept place ms h =
-    next (whatever (at_key (codes "discipline") (optional discipline_word disciplines.Fifo) place ms)) (λ word u. discipline_by_kept word place ms h)
+discipline_kept place ms h = record {
+  kept = discipline_few place ms
+      (λ n is. (needed (whole_in 1 8) (whole_kept 1 8) (codes "queues") place ms h).kept n is)
+      (λ quanta is. (quanta_read place ms h).kept quanta is);
+}
 
 -- ---- servers
 pub record IsReadServer (s : ServerText) : Type 0 where

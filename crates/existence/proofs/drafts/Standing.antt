@@ -3,19 +3,17 @@
 use Rattle.std.specs.Prelude.{◌≢◌, All, AllPairs, Vec, String, true}
 use Rattle.std.specs.declared.alloc.Global.{Global}
 use Rattle.std.proofs.StringFromBytes.{spelled}
-use Rattle.std.proofs.Common.{◌≡◌, ℕ, ◌<◌, ◌≤◌, ◌^◌, List, [], ◌∷◌, map, length, get_or, Ok, refl, sym, ap, ap₂, subst, subst₂, arith, le_refl, inl, inr, ◌∙◌}
-use Rattle.std.proofs.lemmas.Bool.{cases_lt}
+use Rattle.std.proofs.Common.{◌≡◌, ℕ, ◌<◌, ◌≤◌, ◌^◌, List, [], ◌∷◌, map, length, Ok, refl, sym, ap, ap₂, subst, subst₂, arith, le_refl, ◌∙◌}
 use Rattle.std.proofs.lemmas.Bool.Decides.{nat_tests}
-use Rattle.std.proofs.lemmas.List.{length-map, get_or_past}
-use Rattle.std.proofs.lemmas.List.Elements.{All-nil, All-cons, All-head, All-tail}
+use Rattle.std.proofs.lemmas.List.{length-map}
+use Rattle.std.proofs.lemmas.List.Elements.{All-nil, All-cons, All-head, All-tail, All-weaker}
+use Rattle.std.specs.Str.{IsUtf8}
 use Rattle.std.proofs.lemmas.Str.{IsUtf8-from_ascii}
+use Rattle.std.proofs.lemmas.Str.Ascii.{IsAscii-from_all}
 use denote.RawPtr.{null_ptr}
-use Rattle.run_laws.specs.Servers.{Discipline, Fifo, Priority, Drr}
+use Rattle.run_laws.specs.Servers.{Discipline}
 use Rattle.net_model.specs.Accepted.{HasFewQueues}
 use Rattle.net_model.specs.Names.{IsName, is_name_byte}
-use Rattle.net_model.specs.Views.{discipline_of}
-use Rattle.net_model.specs.declared.server.Discipline.{Discipline as DisciplineCode}
-use Rattle.net_model.specs.declared.server.Discipline.TheVariants as disciplines
 use Rattle.net_draft.specs.declared.curve_text.CurveText.{CurveText as CurveCode}
 use Rattle.net_draft.specs.declared.curve_text.CurveText.TheVariants as curves
 use Rattle.net_draft.specs.declared.draft.Draft.{Draft}
@@ -28,6 +26,7 @@ use Rattle.net_draft.specs.Kept.{IsServerDraft, IsFlowDraft, IsDraft, AreWithinQ
 use Rattle.net_draft.specs.Made.{IsMade}
 use Rattle.net_draft.specs.Texts.{CurveText, Bucket, Stair, RateLatency, Gate, Listed, ServerText, FlowText, DraftText, IsServiceOf, IsArrivalOf}
 use Rattle.net_draft.specs.Views.{server_text, flow_text}
+use Rattle.net_draft.proofs.DisciplinesKept.{discipline_code}
 use Rattle.existence.specs.drafts.Drafts.{HasService, HasArrival}
 use Rattle.existence.proofs.drafts.FoundCurves.{curve_found}
 use Rattle.existence.proofs.drafts.ReadTexts.{IsShortList, IsReadServer, IsReadFlow, IsReadDraft, draft_kept}
@@ -50,32 +49,22 @@ vec_of xs small = record {
 below : (b : ℕ) → is_name_byte b ≡ true → b < 128
 below b h = grind (arith, nat_tests)
 
-ascii : (name : List ℕ) → IsName name → (i : ℕ) → get_or name i 0 < 128
-ascii name h i = elim (cases_lt i (length name)) [
-  | inl l ↦ below (get_or name i 0) (h.bytes i 0 l)
-  | inr l ↦ subst (λ (n : ℕ). n < 128) (sym (get_or_past name i 0 l)) (let z : 0 < 128 = omega arith in z)
-]
+is_text : (name : List ℕ) → IsName name → IsUtf8 name
+is_text name h = IsUtf8-from_ascii name (IsAscii-from_all name (All-weaker (λ b. is_name_byte b ≡ true) (λ b. b < 128) below name h.bytes))
 
 short : (name : List ℕ) → IsName name → length name < 2 ^ 63
 short name h = let few = h.few in omega (arith, few)
 
 abbrev string_of : (name : List ℕ) → IsName name → String Global
-string_of name h = spelled heap name ∣ IsUtf8-from_ascii name (ascii name h) ∣₁ (short name h)
+string_of name h = spelled heap name ∣ is_text name h ∣₁ (short name h)
 
--- ---- curves and disciplines
+-- ---- curves
 curve_code : (t : CurveText) → IsShortList t → (c : CurveCode) × (text_of c ≡ t)
 curve_code (Bucket burst rate) few = (curves.Bucket burst rate, refl)
 curve_code (Stair packet period jitter) few = (curves.Stair packet period jitter, refl)
 curve_code (RateLatency rate latency) few = (curves.RateLatency rate latency, refl)
 curve_code (Gate rate cycle slot) few = (curves.Gate rate cycle slot, refl)
 curve_code (Listed pieces tail use_as) few = (curves.Listed (vec_of pieces (omega (arith, few))) tail use_as, refl)
-
-discipline_code : (d : Discipline) → HasFewQueues d → (c : DisciplineCode) × (discipline_of c ≡ d)
-discipline_code Fifo few = (disciplines.Fifo, refl)
-discipline_code (Priority queues) few = (disciplines.Priority queues, refl)
-discipline_code (Drr quanta) few =
-    let most = few.0.1 in
-    (disciplines.Drr (vec_of quanta (let l : length quanta < 2 ^ 63 = omega (arith, most) in l)), refl)
 
 -- ---- servers
 record IsServerMade (s : ServerText) : Type 0 where
@@ -91,7 +80,7 @@ server_made : (s : ServerText) → IsReadServer s → IsServerMade s
 server_made s k =
     let code = curve_code s.service k.service.short in
     let found = curve_found s.service k.service.passes k.service.small in
-    let queues = discipline_code s.discipline k.queues in
+    let queues = discipline_code (λ xs small. vec_of xs small) (λ xs small. refl) s.discipline k.queues in
     let draft : ServerDraft = record {
       name = string_of s.name k.name;
       rate = s.rate;

@@ -1,11 +1,8 @@
 -- A call and then another have an answer.
 use Rattle.std.specs.Prelude.{◌≢◌, Result, Ok, Err}
 use Rattle.std.proofs.Common.{refl}
-use Rattle.upp_curve.specs.Curve.{SpecCurve}
-use Rattle.upp_limits.specs.declared.op_kind.OpKind.{OpKind}
 use Rattle.upp_limits.specs.declared.op_kind.OpFault.{OpFault}
 use Rattle.upp_limits.specs.declared.op_kind.OpFault.TheVariants.{NoMemory}
-use Rattle.curve_call.specs.Calls.{Applies}
 use Rattle.outcomes.specs.Calls.{Then, goes_on, stops}
 use Rattle.existence.specs.curves.Answered.{HasAnswer}
 

@@ -18,7 +18,7 @@ use Rattle.run_check.specs.run_table.Runs.{Give, GiveSteps, GiveAll, IsRunOf, Is
 use Rattle.commands.specs.check.Checked.{run_fault_reply}
 use Rattle.existence.specs.texts.Laws.{RunsAreRead, RunStagesEnd}
 use Rattle.run_check.proofs.run_table.RunSteps.{packets_behind}
-use Rattle.existence.proofs.texts.Pushed.{steps_more}
+use Rattle.run_check.proofs.run_table.RunSteps.{give_more}
 
 -- ---- what a row says, where so many packets have entered: a step, the end, or a name that nothing has
 data Sort (net : Net) (packets : ℕ) (says : RunRow) : Type 0 where
@@ -115,7 +115,7 @@ run_from net text (row ∷ rest) before steps e given room = elim (cases_lt (len
       let more = length_push before row in
       by_row net text before row rest steps e few given
       (λ x gives. run_from net text rest (before ++ row ∷ []) (steps ++ x ∷ []) (e ∙ sym (append_assoc before (row ∷ []) rest))
-      (steps_more net 0 before steps row x given gives) (omega (arith, few, more))) (run_row row) refl
+      (give_more net 0 before steps row x given gives) (omega (arith, few, more))) (run_row row) refl
   | inr many ↦ wrong_row net text before row rest e room T7 (inl (refl, many, inl record { steps = steps; give = given }))
 ]
 

@@ -27,7 +27,7 @@ use Rattle.input_texts.specs.table_text.Kept.{Follows}
 use Rattle.command_replies.specs.Replies.{table_fault_reply}
 use Rattle.existence.specs.texts.Laws.{EditsAreRead, ListStagesEnd, TracesAreRead, TraceStagesEnd}
 use Rattle.existence.proofs.texts.KeptTraces.{traces_stand}
-use Rattle.existence.proofs.texts.Pushed.{packets_more, stalls_more, give_more, ordered_more}
+use Rattle.input_texts.proofs.table_text.TraceSteps.{packets_more, stalls_more, give_more, ordered_more}
 
 -- ---- lists of edits
 abbrev IsListOrFaulty : List ℕ → Type 0
