@@ -153,10 +153,12 @@ def main(words):
             for file, text in zip(["ports.csv", "links.csv"], make()):
                 (Path(folder) / file).write_text(text)
                 files.append(str(Path(folder) / file))
-            (status, out), seconds, _, memory = real_size.measured([words[0], *files], folder, "out")
+            (status, out), seconds, _ = real_size.measured([words[0], *files], folder, "out")
+            memory = real_size.memory_of([words[0], *files], folder)
             size = sum(Path(file).stat().st_size for file in files) / 1e6
         line = out.split(b"\n")[0].decode()[:80]
-        print(f"{name} ({size:.1f} MB): status {status}, {seconds:.2f} s, {memory:.0f} MB, {out.count(b' none')} none: {line}", flush=True)
+        most = f"{memory:.0f} MiB" if memory else "memory not told"
+        print(f"{name} ({size:.1f} MB): status {status}, {seconds:.2f} s, {most}, {out.count(b' none')} none: {line}", flush=True)
     return 0
 
 

@@ -9,14 +9,15 @@ of 6,795 branches, gaps of 2 to 128 milliseconds, frames of 84 to 1,538 bytes on
 28.7 milliseconds for each branch. A size of k has k such clusters, each with one of its cables to the next one, and a tenth
 of the branches go over. No path goes up and then down again in the order of the switches, so that there is no cycle.
 
-Names are as long as those of interface control documents are, and as long at each size: links of 974 take some 0.9 MB. With
---short they are as short as can be, and longer in larger networks: 10 times the branches are then 11.9 times the bytes.
+Names have 15 to 29 characters (own choice), as many at each size: the tables of 974 links take 0.8 MB. With --short they are
+as short as can be, and longer in larger networks: 10 times the branches are then 11.9 times the bytes, else 10.5 times.
 examples/avionics_real has the tables of seed 1 and size 1 with short names. Paths of larger networks are longer, since
-branches go over, so that 10 times the branches visit 10.7 times the ports.
+branches go over: 10 times the branches are 10.9 times the nodes of trees.
 
-Processor time (the least of twenty runs; of the Python one run) and largest memory are those of each child; the branches a second are those
-of netbound, and the last lines say how much longer a larger network takes. Where there is a cargo, the same is timed in plain
-Rust (bench/twin, src/tables.rs). It ends with 1 where they print unlike lines.
+Processor time is that of each child, the least of twenty runs, taken in turn at each size, of the Python one run. The largest
+memory is that which /usr/bin/time tells of a run by itself (where there is none it is not told: what the system tells of a child begins with
+what its parent has). The branches a second are those of netbound, and the last lines say how much longer a larger network takes. Where there
+is a cargo, the same is timed in plain Rust (bench/twin, src/tables.rs). It ends with 1 where they print unlike lines.
 """
 
 import os
@@ -155,14 +156,23 @@ def write(folder, seed, size, names):
 
 
 def measured(words, folder, name):
-    """The status and the bytes; seconds of processor time and of the clock, and megabytes at most."""
+    """The status and the bytes; seconds of processor time and of the clock."""
     with open(Path(folder) / name, "wb") as out:
         began = time.monotonic()
         child = os.posix_spawnp(words[0], words, os.environ, file_actions=[(os.POSIX_SPAWN_DUP2, out.fileno(), 1)])
         _, status, used = os.wait4(child, 0)
     clock = time.monotonic() - began
     answer = os.waitstatus_to_exitcode(status), (Path(folder) / name).read_bytes()
-    return answer, used.ru_utime + used.ru_stime, clock, used.ru_maxrss / 1024
+    return answer, used.ru_utime + used.ru_stime, clock
+
+
+def memory_of(words, folder):
+    """The most memory of a call in MiB, or none where there is no /usr/bin/time."""
+    if not Path("/usr/bin/time").exists():
+        return None
+    told = Path(folder) / "memory"
+    subprocess.run(["/usr/bin/time", "-o", told, "-f", "%M", *words], stdout=subprocess.DEVNULL)
+    return int(told.read_text().split()[-1]) / 1024
 
 
 def plain_rust(folder):
@@ -175,33 +185,40 @@ def plain_rust(folder):
     return str(copy / "target" / "release" / "tables")
 
 
-def least(words, folder, name):
-    return min((measured(words, folder, name) for _ in range(RUNS)), key=lambda run: run[1])
+class Network:
+    """A network's tables, and the best of the runs on them so far."""
 
+    def __init__(self, folder, seed, size, names):
+        self.folder = Path(folder) / str(size)
+        self.folder.mkdir()
+        write(self.folder, seed, size, names)
+        self.files = [str(self.folder / name) for name in ["ports.csv", "links.csv"]]
+        self.least = {}
 
-def compared(program, rust, seed, size, names):
-    """Prints a line, and tells whether all print the same, the seconds, and the branches."""
-    with tempfile.TemporaryDirectory() as folder:
-        write(folder, seed, size, names)
-        files = [str(Path(folder) / name) for name in ["ports.csv", "links.csv"]]
-        sizes = " and ".join(f"{Path(file).stat().st_size / 1e6:.1f}" for file in files)
-        ours = least([program, *files], folder, "ours")
-        plain = measured([sys.executable, str(TWIN), *files], folder, "plain")
-        twin = least([rust, *files], folder, "rust") if rust else None
-    same = ours[0] == plain[0] and (twin is None or twin[0] == plain[0])
-    head = plain[0][1].split(b"\n")[0].decode()
-    none, missed = (plain[0][1].count(word) for word in (b" none", b" missed"))
-    branches = int(head.split()[-1])
-    took = max(ours[1], 0.001)
-    print(
-        f"{head} ({sizes} MB, {none} none, {missed} missed):",
-        f"netbound {ours[1]:.3f} s ({ours[2]:.3f} s by the clock), {ours[3]:.0f} MB, {branches / took:,.0f} branches a second;",
-        f"in plain Rust {twin[1]:.3f} s, so {ours[1] / max(twin[1], 0.001):.1f} times as long;" if twin else "no cargo;",
-        f"in Python {plain[1]:.2f} s, {plain[3]:.0f} MB;",
-        "the same" if same else "NOT the same",
-        flush=True,
-    )
-    return same, took, branches
+    def run(self, words):
+        came = measured([*words, *self.files], self.folder, "out")
+        self.least[words[-1]] = min(self.least.get(words[-1], came), came, key=lambda run: run[1])
+
+    def told(self, program, rust):
+        """Prints a line, and tells whether all print the same, the seconds, and the branches."""
+        ours, plain, twin = (self.least.get(word) for word in [program, str(TWIN), rust])
+        same = ours[0] == plain[0] and (twin is None or twin[0] == plain[0])
+        sizes = " and ".join(f"{Path(file).stat().st_size / 1e6:.1f}" for file in self.files)
+        head = plain[0][1].split(b"\n")[0].decode()
+        none, missed = (plain[0][1].count(word) for word in (b" none", b" missed"))
+        branches = int(head.split()[-1])
+        took = max(ours[1], 0.001)
+        memory = memory_of([program, *self.files], self.folder)
+        print(
+            f"{head} ({sizes} MB, {none} none, {missed} missed):",
+            f"netbound {ours[1]:.4f} s ({ours[2]:.3f} s by the clock), {branches / took:,.0f} branches a second,",
+            f"{memory:.0f} MiB;" if memory else "memory not told;",
+            f"in plain Rust {twin[1]:.4f} s, so {ours[1] / max(twin[1], 0.001):.1f} times as long;" if twin else "no cargo;",
+            f"in Python {plain[1]:.2f} s;",
+            "the same" if same else "NOT the same",
+            flush=True,
+        )
+        return same, took, branches
 
 
 def main(words):
@@ -214,7 +231,14 @@ def main(words):
     seed, *sizes = [int(word) for word in words[1:]] or [1]
     with tempfile.TemporaryDirectory() as folder:
         rust = plain_rust(folder)
-        found = [compared(words[0], rust, seed, size, names) for size in sizes or [1, 4, 10]]
+        networks = [Network(folder, seed, size, names) for size in sizes or [1, 4, 10]]
+        for network in networks:
+            network.run([sys.executable, str(TWIN)])
+        for _ in range(RUNS):
+            for network in networks:
+                for program in [words[0], rust] if rust else [words[0]]:
+                    network.run([program])
+        found = [network.told(words[0], rust) for network in networks]
     for _, seconds, branches in found[1:]:
         _, first, few = found[0]
         print(f"{branches / few:.1f} times the branches: {seconds / first:.1f} times the time")
