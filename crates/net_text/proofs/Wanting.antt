@@ -14,10 +14,8 @@ use Rattle.net_draft.specs.Faults.{fault_of}
 use Rattle.net_draft.specs.Texts.{CurveText, FlowText}
 use Rattle.net_draft.specs.Views.{flow_text}
 use Rattle.subadd_closure.specs.FoldMemory.{CloseWants}
-use Rattle.subadd_closure.specs.FoldWork.{fold_work}
 use Rattle.net_text.specs.Becoming.{IsCurveOf, IsTold}
 use Rattle.net_text.specs.Built.{IsLiveFlowOf}
-use Rattle.net_text.specs.FoldLimits.{OverFold}
 use Rattle.net_text.specs.Reading.{FailsFile}
 use Rattle.net_text.specs.Wants.{ArrivalWants, FlowWants, StopsIn, FlowsWant}
 use Rattle.net_text.proofs.FirstFaults.{no_fault_is_want_of_memory}
@@ -42,8 +40,8 @@ texts_split : (ds : List FlowDraft) (i : ℕ) → map flow_text ds ≡ map flow_
 texts_split ds i = ap (map flow_text) (sym (take-append-drop i ds)) ∙ map-append flow_text (take i ds) (drop i ds)
 
 -- between two flows
-pub between_flows : (ds : List FlowDraft) (i : ℕ) (made : List (Option NetFlow)) (old new : ℕ) → AllZip (IsLiveFlowOf OverFold) (map flow_text (take i ds)) made
-    → HaveTaken fold_work (map flow_text (take i ds)) old new → FlowsWant (map flow_text ds) old new
+pub between_flows : (ds : List FlowDraft) (i : ℕ) (made : List (Option NetFlow)) (old new : ℕ) → AllZip IsLiveFlowOf (map flow_text (take i ds)) made
+    → HaveTaken (map flow_text (take i ds)) old new → FlowsWant (map flow_text ds) old new
 between_flows ds i made old new built taken = record {
   before = map flow_text (take i ds);
   after = map flow_text (drop i ds);
@@ -56,8 +54,8 @@ between_flows ds i made old new built taken = record {
 }
 
 -- in one of them
-pub in_flow : (ds : List FlowDraft) (i : ℕ) (d : FlowDraft) (made : List (Option NetFlow)) (old now new : ℕ) → i < length ds → d ≡ get_or ds i d → AllZip (IsLiveFlowOf OverFold) (map flow_text (take i ds)) made
-    → HaveTaken fold_work (map flow_text (take i ds)) old now → FlowWants d.closes (text_of d.arrival.text) now new → FlowsWant (map flow_text ds) old new
+pub in_flow : (ds : List FlowDraft) (i : ℕ) (d : FlowDraft) (made : List (Option NetFlow)) (old now new : ℕ) → i < length ds → d ≡ get_or ds i d → AllZip IsLiveFlowOf (map flow_text (take i ds)) made
+    → HaveTaken (map flow_text (take i ds)) old now → FlowWants d.closes (text_of d.arrival.text) now new → FlowsWant (map flow_text ds) old new
 in_flow ds i d made old now new within is built taken wants = record {
   before = map flow_text (take i ds);
   after = flow_text d ∷ map flow_text (drop (i + 1) ds);
@@ -71,6 +69,6 @@ in_flow ds i d made old now new within is built taken wants = record {
 
 -- ---- a file
 -- what is told as want of memory was want of memory, since no fault of a file is
-pub told_wants : {A : Type 0} (bytes : List ℕ) (e : DraftFault) (f : NetFault) → IsTold e f → FailsFile OverFold bytes e → f.kind ≡ NoMemory → (let s : Result A DraftFault = Err e in s) ≡ Err answers.NoMemory
+pub told_wants : {A : Type 0} (bytes : List ℕ) (e : DraftFault) (f : NetFault) → IsTold e f → FailsFile bytes e → f.kind ≡ NoMemory → (let s : Result A DraftFault = Err e in s) ≡ Err answers.NoMemory
 told_wants bytes answers.NoMemory f told fails kind = refl
 told_wants bytes (answers.Fault g) f told fails kind = absurd (no_fault_is_want_of_memory bytes (fault_of g) fails (sym (ap (λ x. x.kind) told) ∙ kind))

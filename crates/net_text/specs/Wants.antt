@@ -8,10 +8,8 @@ use Rattle.net_draft.specs.Drafts.{draft_of}
 use Rattle.net_draft.specs.Made.{IsOverNone}
 use Rattle.net_draft.specs.Texts.{CurveText, FlowText, DraftText}
 use Rattle.subadd_closure.specs.FoldMemory.{CloseWants}
-use Rattle.subadd_closure.specs.FoldWork.{fold_work}
 use Rattle.net_text.specs.Becoming.{IsCurveOf}
 use Rattle.net_text.specs.Built.{IsServerOf, IsLiveFlowOf}
-use Rattle.net_text.specs.FoldLimits.{OverFold}
 use Rattle.net_text.specs.Folds.{FoldsOf}
 
 -- ---- one arrival
@@ -42,9 +40,9 @@ pub record FlowsWant (flows : List FlowText) (old new : ℕ) : Type 0 where
   pub after : List FlowText
   pub are : flows ≡ before ++ after
   pub made : List (Option NetFlow)
-  pub built : AllZip (IsLiveFlowOf OverFold) before made
+  pub built : AllZip IsLiveFlowOf before made
   pub count : ℕ
-  pub folds : FoldsOf fold_work before count
+  pub folds : FoldsOf before count
   pub stops : StopsIn after (old + count) new
 
 -- ---- a file

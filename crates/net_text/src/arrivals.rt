@@ -10,7 +10,6 @@ ghost use Rattle.net_draft.specs.Kept.{IsArrivalDraft};
 ghost use Rattle.net_text.specs.Becoming.{Becomes, FailsAt};
 ghost use Rattle.net_text.specs.Closing.{Closes};
 ghost use Rattle.net_text.specs.Folds.{FoldAtMost, HasTaken};
-ghost use Rattle.net_text.specs.FoldLimits.{OverFold};
 ghost use Rattle.net_text.specs.Wants.{ArrivalWants};
 ghost use Rattle.subadd_closure.specs.FoldMemory.{CloseWants};
 ghost use Rattle.subadd_closure.specs.FoldWork.{fold_work};
@@ -35,8 +34,8 @@ fn closure_of<L: Ledger>(
     requires finite { IsFinite (value_at curve.now) }
     requires nonneg { IsNonnegative (value_at curve.now) }
     ensures own { IsCurve curve.now }
-    ensures closed { IfOk result (λ c. Closes OverFold curve.now (Ok c)) }
-    ensures over { IfErr result (FailsAt (Closes OverFold curve.now) (string_bytes place)) }
+    ensures closed { IfOk result (λ c. Closes curve.now (Ok c)) }
+    ensures over { IfErr result (FailsAt (Closes curve.now) (string_bytes place)) }
     ensures memory { result ≡ Err DraftFault.NoMemory → CloseWants curve.now steps.old steps.new }
     ensures rises { steps.old ≤ steps.new }
     ensures most { steps.new ≤ steps.old + fold_work curve.now }
@@ -60,15 +59,15 @@ pub(crate) fn arrival_of<L: Ledger>(
     steps: &mut Steps<L>,
 ) -> Result<Curve, DraftFault>
     requires { IsArrivalDraft flow.now.packet flow.now.arrival }
-    ensures becomes { IfOk result (λ c. Becomes OverFold flow.now.closes (text_of flow.now.arrival.text) (Ok c)) }
+    ensures becomes { IfOk result (λ c. Becomes flow.now.closes (text_of flow.now.arrival.text) (Ok c)) }
     ensures over { IfErr result
-        (FailsAt (Becomes OverFold flow.now.closes (text_of flow.now.arrival.text)) (string_bytes place)) }
+        (FailsAt (Becomes flow.now.closes (text_of flow.now.arrival.text)) (string_bytes place)) }
     ensures memory { result ≡ Err DraftFault.NoMemory
         → ArrivalWants flow.now.closes (text_of flow.now.arrival.text) steps.old steps.new }
     ensures rises { steps.old ≤ steps.new }
-    ensures most { FoldAtMost fold_work flow.now.closes (text_of flow.now.arrival.text) steps.old steps.new }
+    ensures most { FoldAtMost flow.now.closes (text_of flow.now.arrival.text) steps.old steps.new }
     ensures taken { IfOk result
-        (λ _. HasTaken fold_work flow.now.closes (text_of flow.now.arrival.text) steps.old steps.new) }
+        (λ _. HasTaken flow.now.closes (text_of flow.now.arrival.text) steps.old steps.new) }
 {
     match &flow.arrival.made {
         Ok(curve) => {

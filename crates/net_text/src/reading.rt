@@ -4,9 +4,7 @@ ghost use Rattle.std.specs.Prelude.{◌≡◌, ◌≤◌, ◌<◌, Err, IfOk, If
 ghost use Rattle.net_text.specs.Becoming.{IsTold};
 ghost use Rattle.net_text.specs.Folds.{StepsAtMost};
 ghost use Rattle.net_text.specs.Reading.{IsNetworkOf, IsAnswered, FailsFile};
-ghost use Rattle.net_text.specs.FoldLimits.{OverFold};
 ghost use Rattle.net_text.specs.Wants.{FileWants};
-ghost use Rattle.subadd_closure.specs.FoldWork.{fold_work};
 
 use crate::flows::flows_of;
 use crate::servers::servers_of;
@@ -33,12 +31,12 @@ fn network_of<L: Ledger>(
     text: &[u8],
     steps: &mut Steps<L>,
 ) -> Result<Network, DraftFault>
-    ensures network { IfOk result (IsNetworkOf OverFold text.now) }
-    ensures fault { IfErr result (FailsFile OverFold text.now) }
+    ensures network { IfOk result (IsNetworkOf text.now) }
+    ensures fault { IfErr result (FailsFile text.now) }
     ensures memory { result ≡ Err DraftFault.NoMemory → steps.old < steps.new
         → FileWants text.now steps.old steps.new }
     ensures rises { steps.old ≤ steps.new }
-    ensures most { StepsAtMost fold_work text.now steps.old steps.new }
+    ensures most { StepsAtMost text.now steps.old steps.new }
 {
     let draft = read_draft(alloc, text)?;
     let servers = servers_of(alloc, &draft.servers)?;
@@ -58,12 +56,12 @@ pub fn read_network<L: Ledger>(
     text: &[u8],
     steps: &mut Steps<L>,
 ) -> Result<Network, NetFault>
-    ensures network { IfOk result (IsNetworkOf OverFold text.now) }
-    ensures fault { IfErr result (IsAnswered OverFold text.now) }
+    ensures network { IfOk result (IsNetworkOf text.now) }
+    ensures fault { IfErr result (IsAnswered text.now) }
     ensures memory { IfErr result (λ f. f.kind ≡ NetKind.NoMemory → steps.old < steps.new
         → FileWants text.now steps.old steps.new) }
     ensures rises { steps.old ≤ steps.new }
-    ensures most { StepsAtMost fold_work text.now steps.old steps.new }
+    ensures most { StepsAtMost text.now steps.old steps.new }
 {
     match network_of(alloc, text, steps) {
         Ok(network) => Ok(network),

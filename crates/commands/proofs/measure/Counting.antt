@@ -2,10 +2,9 @@
 use Rattle.std.specs.Prelude.{◌≡◌, ◌≢◌, ℕ, ◌+◌, ◌≤◌, List}
 use Rattle.std.proofs.Common.{arith}
 use Rattle.net_text.specs.Folds.{StepsAtMost}
-use Rattle.subadd_closure.specs.FoldWork.{fold_work}
 use Rattle.commands.specs.measure.MeasureCounts.{CountsOn}
 
-pub counts_without : (bytes : List ℕ) (status old new : ℕ) → old ≤ new → StepsAtMost fold_work bytes old new → status ≢ 0
+pub counts_without : (bytes : List ℕ) (status old new : ℕ) → old ≤ new → StepsAtMost bytes old new → status ≢ 0
     → CountsOn bytes status old new
 counts_without bytes status old new rises folds other = record {
   between = new;
@@ -16,7 +15,7 @@ counts_without bytes status old new rises folds other = record {
   report = λ e. absurd (other e);
 }
 
-pub counts_with : (bytes : List ℕ) (status old between new : ℕ) → old ≤ between → StepsAtMost fold_work bytes old between → between ≤ new → new ≤ between + 1
+pub counts_with : (bytes : List ℕ) (status old between new : ℕ) → old ≤ between → StepsAtMost bytes old between → between ≤ new → new ≤ between + 1
     → (status ≡ 0 → new ≡ between + 1) → CountsOn bytes status old new
 counts_with bytes status old between new rises folds from most report = record {
   between = between;

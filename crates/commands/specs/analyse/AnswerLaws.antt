@@ -7,7 +7,6 @@ use Rattle.net_model.specs.Networks.{Net}
 use Rattle.net_model.specs.Orders.{IsOrder}
 use Rattle.net_model.specs.Walks.{IsFeedForward}
 use Rattle.net_text.specs.Reading.{IsNetworkOf}
-use Rattle.net_text.specs.FoldLimits.{OverFold}
 use Rattle.net_cells.specs.declared.cell.Cell.{Cell}
 use Rattle.net_cells.specs.Meanings.{number, CellTable}
 use Rattle.net_cells.specs.FirstOver.{FirstOver}
@@ -39,7 +38,7 @@ StatusesHaveCauses =
 -- a file that gives a network without a cycle, and by no order of its servers a cell is over a limit
 pub record IsWithinLimits (bytes : List ℕ) : Type 0 where
   pub net : Net
-  pub reads : IsNetworkOf OverFold bytes net
+  pub reads : IsNetworkOf bytes net
   pub feed_forward : IsFeedForward net
   pub within : (order : List ℕ) (c : Cell) (fault : OpFault) → IsOrder net order → ¬ (FirstOver net order c fault)
 

@@ -9,7 +9,6 @@ use Rattle.net_model.specs.NetRoutes.{routes_of}
 use Rattle.net_model.specs.Orders.{IsOrder}
 use Rattle.net_model.specs.Walks.{IsFeedForward}
 use Rattle.net_text.specs.Reading.{IsNetworkOf}
-use Rattle.net_text.specs.FoldLimits.{OverFold}
 use Rattle.net_cells.specs.declared.cell.Cell.{Cell}
 use Rattle.net_cells.specs.FirstOver.{FirstOver}
 use Rattle.net_cells.specs.Meanings.{CellTable}
@@ -90,7 +89,7 @@ RepliesAreDetermined =
 -- the run over its gauge
 pub record IsWithinLimits (net_bytes run_bytes : List ℕ) : Type 0 where
   pub net : Net
-  pub reads : IsNetworkOf OverFold net_bytes net
+  pub reads : IsNetworkOf net_bytes net
   pub run : SpecRun
   pub rows : IsRunOf net (rows_of run_bytes) run
   pub feed_forward : IsFeedForward net

@@ -6,7 +6,6 @@ use Rattle.net_model.specs.Orders.{IsOrder}
 use Rattle.net_model.specs.Accepted.{IsAccepted}
 use Rattle.net_model.specs.Walks.{IsCycle, IsFeedForward}
 use Rattle.net_text.specs.Reading.{IsNetworkOf}
-use Rattle.net_text.specs.FoldLimits.{OverFold}
 use Rattle.net_cells.specs.declared.cell.Cell.{Cell}
 use Rattle.net_cells.specs.FirstOver.{FirstOver}
 use Rattle.net_cells.specs.Meanings.{CellTable}
@@ -32,7 +31,7 @@ ReportsAreGuaranteed =
 -- fault
 pub record IsWithinLimits (net_bytes edits_bytes : List ℕ) : Type 0 where
   pub net : Net
-  pub reads : IsNetworkOf OverFold net_bytes net
+  pub reads : IsNetworkOf net_bytes net
   pub feed_forward : IsFeedForward net
   pub within : (order : List ℕ) (c : Cell) (fault : OpFault) → IsOrder net order → ¬ (FirstOver net order c fault)
   pub edits : List EditText

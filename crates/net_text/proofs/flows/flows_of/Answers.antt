@@ -12,8 +12,6 @@ use Rattle.net_text.proofs.Firsts.{goes_on, stops, arrival_entry, arrivals_more,
 use Rattle.net_text.proofs.FoldSteps.{taken_more, none_taken, spends_more, spent}
 use Rattle.net_text.proofs.Wanting.{handed_on, between_flows, in_flow}
 use Rattle.net_text.proofs.Zips.{zip_more, zip_whole}
-use Rattle.net_text.specs.FoldLimits.{OverFold}
-use Rattle.subadd_closure.specs.FoldWork.{fold_work}
 use Rattle.net_text.proofs.flows.flows_of.Goals as goal
 
 pub flow_of-requires : goal.flow_of-requires
@@ -26,7 +24,7 @@ returns-in_err-flow-clause-over g c =
     let ds = c.args.drafts.now in
     let i = c.loop-number.number in
     let d = c.index-drafts-number.result in
-    rw (p.1, p.2) (stops OverFold (arrivals_from i (map flow_text (drop i ds))) (arrivals_from 0 (map flow_text ds)) (arrival_entry i d) (arrivals_from (i + 1) (map flow_text (drop (i + 1) ds)))
+    rw (p.1, p.2) (stops (arrivals_from i (map flow_text (drop i ds))) (arrivals_from 0 (map flow_text ds)) (arrival_entry i d) (arrivals_from (i + 1) (map flow_text (drop (i + 1) ds)))
     c.in_err-flow.field-0.0 (arrivals_more ds i d c.loop-number-test.true c.index-drafts-number.is) c.in_err-flow.ensures.over c.loop-number.invariant.leads)
 
 pub loop-number-preserved : goal.loop-number-preserved
@@ -38,14 +36,14 @@ loop-number-preserved g c =
     let f = c.in_ok-flow.flow in
     let grown : c.push.new.self.items ≡ xs ++ Some f ∷ [] = c.in_ok-push.ensures.items in
     let views : map (option_map flow_of) c.push.new.self.items ≡ map (option_map flow_of) xs ++ Some (flow_of f) ∷ [] = ap (map (option_map flow_of)) grown ∙ map_push (option_map flow_of) xs (Some f) in
-    let live : IsLiveFlowOf OverFold (flow_text d) (Some (flow_of f)) = record { flow = flow_of f; live = refl; is = c.in_ok-flow.ensures.built } in
+    let live : IsLiveFlowOf (flow_text d) (Some (flow_of f)) = record { flow = flow_of f; live = refl; is = c.in_ok-flow.ensures.built } in
     record {
-      built = rw views (zip_more (IsLiveFlowOf OverFold) flow_text ds i d (map (option_map flow_of) xs) (Some (flow_of f)) c.loop-number-test.true c.index-drafts-number.is c.loop-number.invariant.built live);
-      leads = goes_on OverFold (arrivals_from i (map flow_text (drop i ds))) (arrivals_from 0 (map flow_text ds)) (arrival_entry i d) (arrivals_from (i + 1) (map flow_text (drop (i + 1) ds)))
+      built = rw views (zip_more IsLiveFlowOf flow_text ds i d (map (option_map flow_of) xs) (Some (flow_of f)) c.loop-number-test.true c.index-drafts-number.is c.loop-number.invariant.built live);
+      leads = goes_on (arrivals_from i (map flow_text (drop i ds))) (arrivals_from 0 (map flow_text ds)) (arrival_entry i d) (arrivals_from (i + 1) (map flow_text (drop (i + 1) ds)))
           (arrivals_more ds i d c.loop-number-test.true c.index-drafts-number.is) (record { curve = (flow_of f).arrival; is = c.in_ok-flow.ensures.built.arrival }) c.loop-number.invariant.leads;
       rises = omega (arith, c.loop-number.invariant.rises, c.in_ok-flow.ensures.rises);
-      taken = taken_more fold_work ds i d c.args.steps.now c.loop-number.steps c.flow_of.new.steps c.loop-number-test.true c.index-drafts-number.is c.loop-number.invariant.taken c.in_ok-flow.ensures.taken;
-      spends = spends_more fold_work (map flow_text ds) (map flow_text (drop i ds)) (flow_text d) (map flow_text (drop (i + 1) ds)) c.args.steps.now c.loop-number.steps c.flow_of.new.steps
+      taken = taken_more ds i d c.args.steps.now c.loop-number.steps c.flow_of.new.steps c.loop-number-test.true c.index-drafts-number.is c.loop-number.invariant.taken c.in_ok-flow.ensures.taken;
+      spends = spends_more (map flow_text ds) (map flow_text (drop i ds)) (flow_text d) (map flow_text (drop (i + 1) ds)) c.args.steps.now c.loop-number.steps c.flow_of.new.steps
           (texts_more ds i d c.loop-number-test.true c.index-drafts-number.is) c.in_ok-flow.ensures.most c.loop-number.invariant.spends;
     }
 
@@ -54,26 +52,26 @@ returns-in_err-flow-clause-most g c =
     let ds = c.args.drafts.now in
     let i = c.loop-number.number in
     let d = c.index-drafts-number.result in
-    let spends = spends_more fold_work (map flow_text ds) (map flow_text (drop i ds)) (flow_text d) (map flow_text (drop (i + 1) ds)) c.args.steps.now c.loop-number.steps c.flow_of.new.steps
+    let spends = spends_more (map flow_text ds) (map flow_text (drop i ds)) (flow_text d) (map flow_text (drop (i + 1) ds)) c.args.steps.now c.loop-number.steps c.flow_of.new.steps
     (texts_more ds i d c.loop-number-test.true c.index-drafts-number.is) c.in_err-flow.ensures.most c.loop-number.invariant.spends in
-    spent fold_work (map flow_text ds) (map flow_text (drop (i + 1) ds)) c.args.steps.now c.flow_of.new.steps spends
+    spent (map flow_text ds) (map flow_text (drop (i + 1) ds)) c.args.steps.now c.flow_of.new.steps spends
 
 pub returns-in_err-push-clause-most : goal.returns-in_err-push-clause-most
 returns-in_err-push-clause-most g c =
     let ds = c.args.drafts.now in
     let i = c.loop-number.number in
     let d = c.index-drafts-number.result in
-    let spends = spends_more fold_work (map flow_text ds) (map flow_text (drop i ds)) (flow_text d) (map flow_text (drop (i + 1) ds)) c.args.steps.now c.loop-number.steps c.flow_of.new.steps
+    let spends = spends_more (map flow_text ds) (map flow_text (drop i ds)) (flow_text d) (map flow_text (drop (i + 1) ds)) c.args.steps.now c.loop-number.steps c.flow_of.new.steps
     (texts_more ds i d c.loop-number-test.true c.index-drafts-number.is) c.in_ok-flow.ensures.most c.loop-number.invariant.spends in
-    spent fold_work (map flow_text ds) (map flow_text (drop (i + 1) ds)) c.args.steps.now c.flow_of.new.steps spends
+    spent (map flow_text ds) (map flow_text (drop (i + 1) ds)) c.args.steps.now c.flow_of.new.steps spends
 
 pub returns-clause-most : goal.returns-clause-most
 returns-clause-most g c =
-    spent fold_work (map flow_text c.args.drafts.now) (map flow_text (drop c.loop-number.number c.args.drafts.now)) c.args.steps.now c.loop-number.steps c.loop-number.invariant.spends
+    spent (map flow_text c.args.drafts.now) (map flow_text (drop c.loop-number.number c.args.drafts.now)) c.args.steps.now c.loop-number.steps c.loop-number.invariant.spends
 
 pub returns-clause-built : goal.returns-clause-built
 returns-clause-built g c =
-    zip_whole (IsLiveFlowOf OverFold) flow_text c.args.drafts.now c.loop-number.number (map (option_map flow_of) c.loop-number.flows.items) c.loop-number-test.false c.loop-number.invariant.built
+    zip_whole IsLiveFlowOf flow_text c.args.drafts.now c.loop-number.number (map (option_map flow_of) c.loop-number.flows.items) c.loop-number-test.false c.loop-number.invariant.built
 
 pub returns-in_err-flow-clause-memory : goal.returns-in_err-flow-clause-memory
 returns-in_err-flow-clause-memory g c = λ wants.
@@ -91,10 +89,10 @@ returns-in_err-push-clause-memory g c = λ wants.
     let d = c.index-drafts-number.result in
     let xs = c.loop-number.flows.items in
     let f = c.in_ok-flow.flow in
-    let live : IsLiveFlowOf OverFold (flow_text d) (Some (flow_of f)) = record { flow = flow_of f; live = refl; is = c.in_ok-flow.ensures.built } in
+    let live : IsLiveFlowOf (flow_text d) (Some (flow_of f)) = record { flow = flow_of f; live = refl; is = c.in_ok-flow.ensures.built } in
     between_flows ds (i + 1) (map (option_map flow_of) xs ++ Some (flow_of f) ∷ []) c.args.steps.now c.flow_of.new.steps
-    (zip_more (IsLiveFlowOf OverFold) flow_text ds i d (map (option_map flow_of) xs) (Some (flow_of f)) c.loop-number-test.true c.index-drafts-number.is c.loop-number.invariant.built live)
-    (taken_more fold_work ds i d c.args.steps.now c.loop-number.steps c.flow_of.new.steps c.loop-number-test.true c.index-drafts-number.is c.loop-number.invariant.taken c.in_ok-flow.ensures.taken)
+    (zip_more IsLiveFlowOf flow_text ds i d (map (option_map flow_of) xs) (Some (flow_of f)) c.loop-number-test.true c.index-drafts-number.is c.loop-number.invariant.built live)
+    (taken_more ds i d c.args.steps.now c.loop-number.steps c.flow_of.new.steps c.loop-number-test.true c.index-drafts-number.is c.loop-number.invariant.taken c.in_ok-flow.ensures.taken)
 
 pub returns-in_err-flows-clause-memory : goal.returns-in_err-flows-clause-memory
-returns-in_err-flows-clause-memory g c = λ wants. between_flows c.args.drafts.now 0 [] c.args.steps.now c.args.steps.now tt (none_taken fold_work c.args.steps.now)
+returns-in_err-flows-clause-memory g c = λ wants. between_flows c.args.drafts.now 0 [] c.args.steps.now c.args.steps.now tt (none_taken c.args.steps.now)

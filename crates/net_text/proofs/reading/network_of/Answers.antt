@@ -12,51 +12,49 @@ use Rattle.net_text.proofs.FoldSteps.{no_steps, fold_steps}
 use Rattle.net_text.proofs.Files.{servers_fail, flows_fail}
 use Rattle.net_text.proofs.Wanting.{handed_on}
 use Rattle.net_text.specs.Wants.{FlowsWant}
-use Rattle.net_text.specs.FoldLimits.{OverFold}
-use Rattle.subadd_closure.specs.FoldWork.{fold_work}
 use Rattle.net_text.proofs.reading.network_of.Goals as goal
 
 pub of_version-requires : goal.of_version-requires
 of_version-requires g c =
     let draft = c.in_ok-draft.draft in
     let net = net_of draft.version c.in_ok-servers.servers.items c.in_ok-flows.flows.items in
-    let built : IsBuilt OverFold (draft_text draft) net = record {
+    let built : IsBuilt (draft_text draft) net = record {
       version = refl;
       servers = subst (λ ds. AllZip IsServerOf (map server_text ds) (servers_of c.in_ok-servers.servers.items)) c.deref.ensures.value c.in_ok-servers.ensures.built;
-      flows = subst (λ ds. AllZip (IsLiveFlowOf OverFold) (map flow_text ds) (flows_of c.in_ok-flows.flows.items)) c.deref-2.ensures.value c.in_ok-flows.ensures.built;
+      flows = subst (λ ds. AllZip IsLiveFlowOf (map flow_text ds) (flows_of c.in_ok-flows.flows.items)) c.deref-2.ensures.value c.in_ok-flows.ensures.built;
     } in
-    accepted OverFold draft net c.in_ok-draft.ensures.kept built
+    accepted draft net c.in_ok-draft.ensures.kept built
 
 pub returns-in_err-servers-clause-fault : goal.returns-in_err-servers-clause-fault
 returns-in_err-servers-clause-fault g c =
     let p = err_from_is_err_and c.from_residual-in_err-servers.result c.from_residual-in_err-servers.ensures.1 in
     let e = c.in_err-servers.field-0.0 in
-    let over = subst (λ ds. FailsFirst OverFold (services_from 0 (map server_text ds)) e) c.deref.ensures.value c.in_err-servers.ensures.over in
-    rw (p.1, p.2) (servers_fail OverFold c.args.text.now (draft_text c.in_ok-draft.draft) e c.in_ok-draft.ensures.value over)
+    let over = subst (λ ds. FailsFirst (services_from 0 (map server_text ds)) e) c.deref.ensures.value c.in_err-servers.ensures.over in
+    rw (p.1, p.2) (servers_fail c.args.text.now (draft_text c.in_ok-draft.draft) e c.in_ok-draft.ensures.value over)
 
 pub returns-in_err-flows-clause-fault : goal.returns-in_err-flows-clause-fault
 returns-in_err-flows-clause-fault g c =
     let p = err_from_is_err_and c.from_residual-in_err-flows.result c.from_residual-in_err-flows.ensures.1 in
     let e = c.in_err-flows.field-0.0 in
-    let over = subst (λ ds. FailsFirst OverFold (arrivals_from 0 (map flow_text ds)) e) c.deref-2.ensures.value c.in_err-flows.ensures.over in
+    let over = subst (λ ds. FailsFirst (arrivals_from 0 (map flow_text ds)) e) c.deref-2.ensures.value c.in_err-flows.ensures.over in
     let built = subst (λ ds. AllZip IsServerOf (map server_text ds) (servers_of c.in_ok-servers.servers.items)) c.deref.ensures.value c.in_ok-servers.ensures.built in
-    rw (p.1, p.2) (flows_fail OverFold c.args.text.now (draft_text c.in_ok-draft.draft) e (servers_of c.in_ok-servers.servers.items) c.in_ok-draft.ensures.value built over)
+    rw (p.1, p.2) (flows_fail c.args.text.now (draft_text c.in_ok-draft.draft) e (servers_of c.in_ok-servers.servers.items) c.in_ok-draft.ensures.value built over)
 
 pub returns-in_err-draft-clause-most : goal.returns-in_err-draft-clause-most
-returns-in_err-draft-clause-most g c = no_steps fold_work c.args.text.now c.args.steps.now c.args.steps.now refl
+returns-in_err-draft-clause-most g c = no_steps c.args.text.now c.args.steps.now c.args.steps.now refl
 
 pub returns-in_err-servers-clause-most : goal.returns-in_err-servers-clause-most
-returns-in_err-servers-clause-most g c = no_steps fold_work c.args.text.now c.args.steps.now c.args.steps.now refl
+returns-in_err-servers-clause-most g c = no_steps c.args.text.now c.args.steps.now c.args.steps.now refl
 
 pub returns-in_err-flows-clause-most : goal.returns-in_err-flows-clause-most
 returns-in_err-flows-clause-most g c =
-    let most = subst (λ ds. (t : ℕ) → FoldsOf fold_work (map flow_text ds) t → c.flows_of.new.steps ≤ c.args.steps.now + t) c.deref-2.ensures.value c.in_err-flows.ensures.most in
-    fold_steps fold_work c.args.text.now (draft_text c.in_ok-draft.draft) c.args.steps.now c.flows_of.new.steps c.in_ok-draft.ensures.value most
+    let most = subst (λ ds. (t : ℕ) → FoldsOf (map flow_text ds) t → c.flows_of.new.steps ≤ c.args.steps.now + t) c.deref-2.ensures.value c.in_err-flows.ensures.most in
+    fold_steps c.args.text.now (draft_text c.in_ok-draft.draft) c.args.steps.now c.flows_of.new.steps c.in_ok-draft.ensures.value most
 
 pub returns-clause-most : goal.returns-clause-most
 returns-clause-most g c =
-    let most = subst (λ ds. (t : ℕ) → FoldsOf fold_work (map flow_text ds) t → c.flows_of.new.steps ≤ c.args.steps.now + t) c.deref-2.ensures.value c.in_ok-flows.ensures.most in
-    fold_steps fold_work c.args.text.now (draft_text c.in_ok-draft.draft) c.args.steps.now c.flows_of.new.steps c.in_ok-draft.ensures.value most
+    let most = subst (λ ds. (t : ℕ) → FoldsOf (map flow_text ds) t → c.flows_of.new.steps ≤ c.args.steps.now + t) c.deref-2.ensures.value c.in_ok-flows.ensures.most in
+    fold_steps c.args.text.now (draft_text c.in_ok-draft.draft) c.args.steps.now c.flows_of.new.steps c.in_ok-draft.ensures.value most
 
 pub returns-in_err-flows-clause-memory : goal.returns-in_err-flows-clause-memory
 returns-in_err-flows-clause-memory g c = λ wants counted.
