@@ -65,12 +65,12 @@ HasCause seed =
     causes.HasCause (IsSummarised seed) (IsSummarised seed) NoReply (IsWide seed)
     (IsCellOver TooMany (network_of seed)) NoReply
 
-abbrev pub ExerciseStatusesHaveCauses : Type 0
-ExerciseStatusesHaveCauses = (seed : ℕ) (reply : Reply) → IsExerciseReply seed reply → HasCause seed reply
+abbrev pub StatusesHaveCauses : Type 0
+StatusesHaveCauses = (seed : ℕ) (reply : Reply) → IsExerciseReply seed reply → HasCause seed reply
 
 -- a number has one reply
-abbrev pub ExerciseRepliesAreDetermined : Type 0
-ExerciseRepliesAreDetermined =
+abbrev pub RepliesAreDetermined : Type 0
+RepliesAreDetermined =
     (seed : ℕ) (x y : Reply) → IsExerciseReply seed x → IsExerciseReply seed y → x ≡ y
 
 -- by no order of the servers a cell is over a limit, nor is the simulation over its gauge
@@ -80,6 +80,6 @@ pub record IsWithinLimits (seed : ℕ) : Type 0 where
   pub narrow : simulation_gauge (network_of seed) (trace_of seed) < 2 ^ 120
 
 -- then its one reply is a summary
-abbrev pub ExerciseRepliesAreComplete : Type 0
-ExerciseRepliesAreComplete =
+abbrev pub RepliesAreComplete : Type 0
+RepliesAreComplete =
     (seed : ℕ) (reply : Reply) → IsWithinLimits seed → IsExerciseReply seed reply → IsOfReport reply.status

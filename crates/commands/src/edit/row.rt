@@ -37,8 +37,8 @@ fn said_of_edited(
     alloc: Global,
     store: &Store<Value>,
     edit: &Edit,
-    answer: &Result<Done, EditFault>,
     fault: &EditFault,
+    answer: &Result<Done, EditFault>,
 ) -> Result<Said, AllocError>
     requires refused { IsRefused store.now edit.now fault.now }
     requires late { IsOfEdited fault.now }
@@ -64,9 +64,9 @@ fn said_of_refused(
 {
     match fault {
         EditFault::NoMemory => Err(AllocError),
-        EditFault::Cycle(_) => said_of_edited(alloc, store, edit, answer, fault),
-        EditFault::TooMany(_) => said_of_edited(alloc, store, edit, answer, fault),
-        EditFault::TooWide(_) => said_of_edited(alloc, store, edit, answer, fault),
+        EditFault::Cycle(_) => said_of_edited(alloc, store, edit, fault, answer),
+        EditFault::TooMany(_) => said_of_edited(alloc, store, edit, fault, answer),
+        EditFault::TooWide(_) => said_of_edited(alloc, store, edit, fault, answer),
         _ => said_of(alloc, store.network(), answer),
     }
 }

@@ -47,10 +47,10 @@ pub fn answer_on<L: Ledger>(
     alloc: Global,
     net_file: &str,
     net_bytes: &[u8],
-    name: &str,
-    rate: Frac,
     trace_file: &str,
     trace_bytes: &[u8],
+    name: &str,
+    rate: Frac,
     steps: &mut Steps<L>,
 ) -> Result<Answer, AllocError>
     requires { zero_q ≤ℚ rate }
