@@ -10,7 +10,7 @@ use Rattle.command_replies.specs.OnFiles.{HasCycle}
 use Rattle.command_replies.specs.Replies.{Reply, goes_round}
 use Rattle.command_replies.proofs.FirstFaults.{says}
 use Rattle.commands.specs.edit_report.Said.{EditSaid, Refused}
-use Rattle.commands.specs.edit.EditLaws.{TellCycles, AreSaidAlike}
+use Rattle.commands.specs.edit.Laws.{TellCycles, AreSaidAlike}
 
 -- what is made of two equal things is equal
 made_of : {A B C : Type 0} (f : A → B → C) (a b : A) (c d : B) (x y : C) → x ≡ f a c → y ≡ f b d → a ≡ b → c ≡ d → x ≡ y

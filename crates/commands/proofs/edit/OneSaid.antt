@@ -26,7 +26,7 @@ use Rattle.report_text.specs.CellWords.{cell_words}
 use Rattle.commands.specs.edit.NetHistories.{NetHistory}
 use Rattle.commands.specs.edit.Causes.{GoesRound, HasCellOver, IsOverBy, IsCause}
 use Rattle.commands.specs.edit.Answered.{IsTaken, IsAnswered, Taken, Undone, Refused}
-use Rattle.commands.specs.edit.EditLaws.{TellsCycle, TellCycles}
+use Rattle.commands.specs.edit.Laws.{TellsCycle, TellCycles}
 use Rattle.commands.proofs.edit.Exclusive.{gives_not_over, gives_not_refused, over_not_refused, undo_gives_none}
 use Rattle.commands.proofs.edit.NextOne.{no_cause, no_undo_cause, undo_says}
 

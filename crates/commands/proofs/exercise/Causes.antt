@@ -9,7 +9,7 @@ use Rattle.command_replies.proofs.run_findings.Reports.{is_report}
 use Rattle.exercise_load.specs.Workloads.{network_of, trace_of}
 use Rattle.exercise_load.specs.exercise_report.Summary.{summary_of}
 use Rattle.commands.specs.exercise.OnSeeds.{IsAnalysed, IsSummarised, IsReplyBeside}
-use Rattle.commands.specs.exercise.ExerciseLaws.{HasCause, StatusesHaveCauses}
+use Rattle.commands.specs.exercise.Laws.{HasCause, StatusesHaveCauses}
 
 -- beside a table
 beside : (seed : ℕ) (at : CellTable) (reply : Reply) → IsAnalysed (network_of seed) at → IsReplyBeside seed at reply

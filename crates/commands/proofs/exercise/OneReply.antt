@@ -12,7 +12,7 @@ use Rattle.exercise_load.proofs.Stand.{workloads_stand}
 use Rattle.exercise_load.specs.exercise_report.Summary.{summary_of}
 use Rattle.exercise_load.proofs.exercise_report.OneSummary.{one_summary}
 use Rattle.commands.specs.exercise.OnSeeds.{IsReplyBeside, IsReplyInOrder}
-use Rattle.commands.specs.exercise.ExerciseLaws.{RepliesAreDetermined, RepliesAreComplete}
+use Rattle.commands.specs.exercise.Laws.{RepliesAreDetermined, RepliesAreComplete}
 
 summaries_alike : (seed : ℕ) (order : List ℕ) → IsOrder (network_of seed) order
     → GoOnAlike IsEqual (IsTableOf (network_of seed) order) (OnCurves (network_of seed) (IsReplyBeside seed))

@@ -1,6 +1,6 @@
 //! Laws of the replies on files. Each is the contract of a function that does nothing.
 
-ghost use Rattle.commands.specs.analyse.AnswerLaws.{RepliesAreComplete, RepliesAreDetermined, StatusesHaveCauses, UnboundedIsInfinite};
+ghost use Rattle.commands.specs.analyse.Laws.{RepliesAreComplete, RepliesAreDetermined, StatusesHaveCauses, UnboundedIsInfinite};
 
 /// Two replies on one file have one status, and one text unless it tells a cycle (then, too, by a law of `netcalc_cli`).
 pub fn replies_are_determined()

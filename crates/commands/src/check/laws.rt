@@ -1,7 +1,7 @@
 //! Laws of the replies on networks and recorded runs. Each is the contract of a function that does nothing.
 
-ghost use Rattle.commands.specs.check.CheckLaws.{VerdictsTellRuns, AdmissibleRunsAreWithinBounds, ReportsGuarantee};
-ghost use Rattle.commands.specs.check.CheckLaws.{StatusesHaveCauses, RepliesAreDetermined, RepliesAreComplete};
+ghost use Rattle.commands.specs.check.Laws.{VerdictsTellRuns, AdmissibleRunsAreWithinBounds, ReportsGuarantee};
+ghost use Rattle.commands.specs.check.Laws.{StatusesHaveCauses, RepliesAreDetermined, RepliesAreComplete};
 
 /// The status of a report is 0 exactly where its run is lawful and keeps packet sizes, arrival curves and service curves,
 /// and 9 exactly where not. It tells the first law that the run breaks exactly where the run is not lawful, and what is

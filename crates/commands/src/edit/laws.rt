@@ -1,7 +1,7 @@
 //! Laws of the replies on edits. Each is the contract of a function that does nothing.
 
 ghost use Rattle.commands.specs.edit.EditCauses.{StatusesHaveCauses};
-ghost use Rattle.commands.specs.edit.EditLaws.{RepliesAreComplete, RepliesAreDetermined, ReportsAreGuaranteed};
+ghost use Rattle.commands.specs.edit.Laws.{RepliesAreComplete, RepliesAreDetermined, ReportsAreGuaranteed};
 
 /// What a report shows of the network after the edits is kept in every lawful run of that network that keeps packet
 /// sizes, arrival and service curves.

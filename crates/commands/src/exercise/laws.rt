@@ -1,8 +1,8 @@
 //! Laws of the replies on workloads. Each is the contract of a function that does nothing.
 
-ghost use Rattle.commands.specs.exercise.ExerciseLaws.{SummaryTellsPremises, QuietSummariesAreWithinBounds};
-ghost use Rattle.commands.specs.exercise.ExerciseLaws.{SummariesGuarantee, StatusesHaveCauses};
-ghost use Rattle.commands.specs.exercise.ExerciseLaws.{RepliesAreDetermined, RepliesAreComplete};
+ghost use Rattle.commands.specs.exercise.Laws.{SummaryTellsPremises, QuietSummariesAreWithinBounds};
+ghost use Rattle.commands.specs.exercise.Laws.{SummariesGuarantee, StatusesHaveCauses};
+ghost use Rattle.commands.specs.exercise.Laws.{RepliesAreDetermined, RepliesAreComplete};
 
 /// The status of a summary is 0 exactly where its run keeps packet sizes, arrival curves and service curves, and 9
 /// exactly where it does not.

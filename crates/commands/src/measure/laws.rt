@@ -1,8 +1,8 @@
 //! Laws of the replies on traces. Each is the contract of a function that does nothing.
 
 ghost use Rattle.commands.specs.measure.MeasureCauses.{StatusesHaveCauses};
-ghost use Rattle.commands.specs.measure.MeasureLaws.{RepliesAreComplete, RepliesAreDetermined, ReportsAreLeast};
-ghost use Rattle.commands.specs.measure.MeasureLaws.{StatusesAreFour};
+ghost use Rattle.commands.specs.measure.Laws.{RepliesAreComplete, RepliesAreDetermined, ReportsAreLeast};
+ghost use Rattle.commands.specs.measure.Laws.{StatusesAreFour};
 
 /// What a report shows is the least arrival curve of the packets, and the least bucket of the rate that they keep.
 pub fn reports_are_least()
