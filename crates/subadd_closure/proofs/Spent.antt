@@ -5,6 +5,38 @@ use Rattle.std.proofs.lemmas.Result.{on_ok_weaker}
 use Rattle.outcomes.specs.Stages.{IsEqual}
 use Rattle.outcomes.specs.Spending.{SpendsSteps}
 
+-- ---- whatever tells its work
+module _ {A E : Type 0} {Works : ℕ → Type 0} {lacking : E} {Ends : ℕ → Type 0} where
+  -- where it answers
+  pub spends_given : {old new : ℕ} {x : A} → ((n : ℕ) → Works n → new ≡ old + n) → old ≤ new → ((n : ℕ) → Works n → new ≤ old + n)
+      → SpendsSteps Works lacking Ends old new (Ok x)
+  spends_given all rises most =
+      record { exact = all; rises = rises; within = most; memory = λ told. absurd (let bad : ⊥ = cc in bad); same = refl }
+
+  -- where it is refused
+  pub spends_told : (old new : ℕ) (r : Result A E) (told : E) → r ≡ Err told → old ≤ new → ((n : ℕ) → Works n → new ≤ old + n)
+      → (told ≡ lacking → Ends (new - old)) → SpendsSteps Works lacking Ends old new r
+  spends_told old new r told is rises most memory = record {
+    exact = subst (λ (s : Result A E). OnOk s ((n : ℕ) → Works n → new ≡ old + n)) (sym is) tt;
+    rises = rises;
+    within = most;
+    memory = λ wants. memory (let e : told ≡ lacking = cc in e);
+    same = refl;
+  }
+
+-- told by what tells another one's work too
+module _ {A E : Type 0} {Works Others : ℕ → Type 0} {lacking : E} {Ends Places : ℕ → Type 0} where
+  pub spends_by : {old new : ℕ} {r : Result A E} → SpendsSteps Works lacking Ends old new r → ((n : ℕ) → Others n → Works n)
+      → (Ends (new - old) → Places (new - old)) → SpendsSteps Others lacking Places old new r
+  spends_by {old} {new} {r} h less at = record {
+    exact = on_ok_weaker r (λ (all : (n : ℕ) → Works n → new ≡ old + n). λ n work. all n (less n work)) h.exact;
+    rises = h.rises;
+    within = λ n work. h.within n (less n work);
+    memory = λ told. at (h.memory told);
+    same = refl;
+  }
+
+-- ---- where the work is a number
 module _ {A E : Type 0} {lacking : E} {Ends : ℕ → Type 0} where
   -- by what it counted, whatever it answers
   pub spends_so : (n old new : ℕ) (r : Result A E) → OnOk r (new ≡ old + n) → old ≤ new → new ≤ old + n
