@@ -1,9 +1,8 @@
 -- What is counted stays where a curve is shared, and where a value is read as what it means.
-use Rattle.std.proofs.Common.{◌≡◌, ◌+◌, ℕ, arith}
-use Rattle.std.specs.Prelude.{Result, Ok, Err, OnOk}
+use Rattle.std.proofs.Common.{ℕ}
+use Rattle.std.specs.Prelude.{Result, Ok, Err}
 use Rattle.upp_limits.specs.declared.op_kind.OpFault.{OpFault}
 use Rattle.upp_curve.specs.Curve.{SpecCurve}
-use Rattle.outcomes.specs.Stages.{IsEqual}
 use Rattle.outcomes.specs.Spending.{Counts}
 use Rattle.net_cells.specs.Answers.{Answer}
 use Rattle.net_cells.specs.Meanings.{Meaning}
@@ -17,7 +16,7 @@ shared_counts n old new (Ok f) (Err fault) c s = record { exact = tt; least = c.
 shared_counts n old new (Err e) (Ok v) c s = absurd s
 shared_counts n old new (Err e) (Err fault) c s = record { exact = tt; least = c.least; most = c.most }
 
-pub value_counts : {V : Type 0} (meaning : V → Meaning) (r : Result V OpFault) (n old new : ℕ) → OnOk (answer_of meaning r) (new ≡ old + n)
-    → OnOk r ((m : ℕ) → IsEqual n m → new ≡ old + m)
-value_counts meaning (Ok v) n old new e = λ m is. let all : n ≡ m = is in omega (arith, e, all)
-value_counts meaning (Err fault) n old new e = tt
+pub value_counts : {V : Type 0} (meaning : V → Meaning) (r : Result V OpFault) (n old new : ℕ) → Counts n old new (answer_of meaning r)
+    → Counts n old new r
+value_counts meaning (Ok v) n old new c = record { exact = c.exact; least = c.least; most = c.most }
+value_counts meaning (Err fault) n old new c = record { exact = tt; least = c.least; most = c.most }

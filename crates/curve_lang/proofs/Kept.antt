@@ -43,15 +43,15 @@ CloseSpends f old new made = SpendsSteps (IsEqual (fold_work f)) calls.NoMemory 
 
 close_refused : (f : SpecCurve) (fault : OpFault) (old new : ℕ) → CloseAnswer f (Err fault) → CloseSpends f old new (Err fault)
     → CloseFinds f (Err (told_call fault)) old new
-close_refused f calls.TooMany old new h n = (h, n.within (fold_work f) refl)
-close_refused f calls.TooWide old new h n = (h, n.within (fold_work f) refl)
+close_refused f calls.TooMany old new h n = (h, (n.counts (fold_work f) refl).most)
+close_refused f calls.TooWide old new h n = (h, (n.counts (fold_work f) refl).most)
 close_refused f calls.NoMemory old new h n = inl (n.memory refl)
 
 pub close_found : (f : SpecCurve) (made : Result SpecCurve OpFault) (r : Found) (old new : ℕ) → CloseAnswer f made → IfOk made IsCurve
     → IfOk made (λ h. (t : ℚ) → zero_q ≤ℚ t → IsSubadditiveClosure (value_at f) t (value_at h t)) → CloseSpends f old new made → CallKept made r
     → CloseFinds f r old new
-close_found f (Ok h) r old new a kept values n (inl e) = subst (λ s. CloseFinds f s old new) (sym e) (a, kept, values, n.exact (fold_work f) refl)
-close_found f (Ok h) r old new a kept values n (inr e) = subst (λ s. CloseFinds f s old new) (sym e) (inr (h, a, n.exact (fold_work f) refl))
+close_found f (Ok h) r old new a kept values n (inl e) = subst (λ s. CloseFinds f s old new) (sym e) (a, kept, values, (n.counts (fold_work f) refl).exact)
+close_found f (Ok h) r old new a kept values n (inr e) = subst (λ s. CloseFinds f s old new) (sym e) (inr (h, a, (n.counts (fold_work f) refl).exact))
 close_found f (Err fault) r old new a kept values n e = subst (λ s. CloseFinds f s old new) (sym e) (close_refused f fault old new a n)
 
 -- ---- kinds

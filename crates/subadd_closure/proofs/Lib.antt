@@ -21,7 +21,6 @@ pub mod SegmentLimits
 pub mod FoldShapes
 pub mod FoldLists
 pub mod FirstElements
-pub mod Spent
 pub mod FoldMemory
 pub mod QuickLate
 pub mod QuickCurves

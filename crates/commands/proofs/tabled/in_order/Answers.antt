@@ -16,12 +16,12 @@ returns-in-Ok-clause-table g c = record {
 pub returns-in-Ok-clause-exact : goal.returns-in-Ok-clause-exact
 returns-in-Ok-clause-exact g c = λ other o.
     subst (λ xs. c.analyse.new.steps ≡ c.args.steps.now + work_of_cells c.args.net.now xs)
-    (one_order c.args.net.now c.args.order.now other c.requires.order o) (c.in-Ok.ensures.spends.exact _ refl)
+    (one_order c.args.net.now c.args.order.now other c.requires.order o) (c.in-Ok.ensures.spends.counts _ refl).exact
 
 pub returns-in-Ok-clause-cells : goal.returns-in-Ok-clause-cells
 returns-in-Ok-clause-cells g c =
     by_order c.args.net.now c.args.order.now 5 c.args.steps.now c.analyse.new.steps
-    c.requires.accepted c.requires.order c.analyse.ensures.spends.rises (c.analyse.ensures.spends.within _ refl)
+    c.requires.accepted c.requires.order c.analyse.ensures.spends.rises (c.analyse.ensures.spends.counts _ refl).most
     (λ is. absurd (no_report 5 (λ e. absurd (cc)) (λ e. absurd (cc)) is))
 
 pub returns-in-Err-TooMany-clause-stopped : goal.returns-in-Err-TooMany-clause-stopped
@@ -38,7 +38,7 @@ returns-in-Err-TooMany-clause-stopped g c =
 pub returns-in-Err-TooMany-clause-cells : goal.returns-in-Err-TooMany-clause-cells
 returns-in-Err-TooMany-clause-cells g c =
     by_order c.args.net.now c.args.order.now 5 c.args.steps.now c.analyse.new.steps
-    c.requires.accepted c.requires.order c.analyse.ensures.spends.rises (c.analyse.ensures.spends.within _ refl)
+    c.requires.accepted c.requires.order c.analyse.ensures.spends.rises (c.analyse.ensures.spends.counts _ refl).most
     (λ is. absurd (no_report 5 (λ e. absurd (cc)) (λ e. absurd (cc)) is))
 
 pub returns-in-Err-TooWide-clause-stopped : goal.returns-in-Err-TooWide-clause-stopped
@@ -55,11 +55,11 @@ returns-in-Err-TooWide-clause-stopped g c =
 pub returns-in-Err-TooWide-clause-cells : goal.returns-in-Err-TooWide-clause-cells
 returns-in-Err-TooWide-clause-cells g c =
     by_order c.args.net.now c.args.order.now 5 c.args.steps.now c.analyse.new.steps
-    c.requires.accepted c.requires.order c.analyse.ensures.spends.rises (c.analyse.ensures.spends.within _ refl)
+    c.requires.accepted c.requires.order c.analyse.ensures.spends.rises (c.analyse.ensures.spends.counts _ refl).most
     (λ is. absurd (no_report 5 (λ e. absurd (cc)) (λ e. absurd (cc)) is))
 
 pub returns-in-Err-NoMemory-clause-cells : goal.returns-in-Err-NoMemory-clause-cells
 returns-in-Err-NoMemory-clause-cells g c =
     by_order c.args.net.now c.args.order.now 5 c.args.steps.now c.analyse.new.steps
-    c.requires.accepted c.requires.order c.analyse.ensures.spends.rises (c.analyse.ensures.spends.within _ refl)
+    c.requires.accepted c.requires.order c.analyse.ensures.spends.rises (c.analyse.ensures.spends.counts _ refl).most
     (λ is. absurd (no_report 5 (λ e. absurd (cc)) (λ e. absurd (cc)) is))

@@ -1,7 +1,7 @@
 use Rattle.std.specs.String.{string_bytes}
 use Rattle.std.proofs.Common.{◌-◌, Err, refl, sym, ap}
 use Rattle.std.proofs.lemmas.Result.{err_from_is_err_and}
-use Rattle.outcomes.proofs.Spending.{spends_nothing, spends_stopped}
+use Rattle.outcomes.proofs.Spending.{spends_nothing, spends_stopped, spends_by}
 use Rattle.net_draft.specs.CurveTexts.{text_of}
 use Rattle.net_text.specs.Becoming.{IsCurveOf}
 use Rattle.net_text.proofs.FoldSteps.{fold_is, open_is}
@@ -9,7 +9,6 @@ use Rattle.net_text.proofs.Wanting.{closure_wants, open_wants}
 use Rattle.net_text.proofs.ClosedArrivals.{made_is, arrival_stands, closed_ok, closed_err, limit_is_told}
 use Rattle.net_text.specs.FoldLimits.{OverFold}
 use Rattle.subadd_closure.specs.FoldWork.{fold_work}
-use Rattle.subadd_closure.proofs.Spent.{spends_by}
 use Rattle.net_text.proofs.arrivals.arrival_of.Goals as goal
 
 pub closure_of-requires-clause-finite : goal.closure_of-requires-clause-finite

@@ -1,7 +1,7 @@
 use Rattle.std.specs.Option.{option_map}
 use Rattle.std.proofs.Common.{◌≡◌, ◌+◌, ◌-◌, ◌≤◌, [], ◌∷◌, ◌++◌, map, take, drop, Some, Err, refl, sym, ap, ◌∙◌, subst, arith}
 use Rattle.std.proofs.lemmas.List.{map_push, take_all}
-use Rattle.outcomes.proofs.Spending.{spends_stopped}
+use Rattle.outcomes.proofs.Spending.{spends_stopped, spends_given, spends_told}
 use Rattle.std.proofs.lemmas.Result.{err_from_is_err_and}
 use Rattle.net_model.specs.Views.{flow_of}
 use Rattle.net_draft.specs.declared.flow_draft.FlowDraft.{FlowDraft}
@@ -16,7 +16,6 @@ use Rattle.net_text.proofs.Wanting.{between_flows, in_flow}
 use Rattle.net_text.proofs.Zips.{zip_more, zip_whole}
 use Rattle.net_text.specs.FoldLimits.{OverFold}
 use Rattle.subadd_closure.specs.FoldWork.{fold_work}
-use Rattle.subadd_closure.proofs.Spent.{spends_given, spends_told}
 use Rattle.net_text.proofs.flows.flows_of.Goals as goal
 
 pub flow_of-requires : goal.flow_of-requires
@@ -49,9 +48,9 @@ loop-number-preserved g c =
       rises = let more : c.loop-number.steps ≤ c.flow_of.new.steps = c.in_ok-flow.ensures.spends.rises in
           omega (arith, c.loop-number.invariant.rises, more);
       taken = taken_more fold_work ds i d (flow_of f).arrival c.args.steps.now c.loop-number.steps c.flow_of.new.steps c.loop-number-test.true c.index-drafts-number.is c.loop-number.invariant.taken
-          c.in_ok-flow.ensures.built.arrival c.in_ok-flow.ensures.spends.exact;
+          c.in_ok-flow.ensures.built.arrival (λ n work. (c.in_ok-flow.ensures.spends.counts n work).exact);
       left = leaves_more fold_work (map flow_text ds) (map flow_text (drop i ds)) (flow_text d) (map flow_text (drop (i + 1) ds)) c.args.steps.now c.loop-number.steps c.flow_of.new.steps
-          (texts_more ds i d c.loop-number-test.true c.index-drafts-number.is) c.in_ok-flow.ensures.spends.within c.loop-number.invariant.left;
+          (texts_more ds i d c.loop-number-test.true c.index-drafts-number.is) (λ n work. (c.in_ok-flow.ensures.spends.counts n work).most) c.loop-number.invariant.left;
     }
 
 pub returns-clause-built : goal.returns-clause-built
@@ -78,7 +77,7 @@ returns-in_err-flow-clause-spends g c =
     let before : old ≤ mid = c.loop-number.invariant.rises in
     let rises : mid ≤ new = spends.rises in
     let left = leaves_more fold_work (map flow_text ds) (map flow_text (drop i ds)) (flow_text d) (map flow_text (drop (i + 1) ds)) old mid new
-    (texts_more ds i d c.loop-number-test.true c.index-drafts-number.is) spends.within c.loop-number.invariant.left in
+    (texts_more ds i d c.loop-number-test.true c.index-drafts-number.is) (λ n work. (spends.counts n work).most) c.loop-number.invariant.left in
     spends_told old new r.result p.0 p.1 (omega (arith, before, rises)) (at_most_all fold_work (map flow_text ds) (map flow_text (drop (i + 1) ds)) old new left)
     (λ lack. in_flow ds i d (map (option_map flow_of) c.loop-number.flows.items) (mid - old) (new - mid) (new - old) c.loop-number-test.true c.index-drafts-number.is
     c.loop-number.invariant.built (folds_taken fold_work (map flow_text (take i ds)) old mid c.loop-number.invariant.taken) (omega (arith, before, rises))
@@ -101,9 +100,9 @@ returns-in_err-push-clause-spends g c =
     let rises : mid ≤ new = spends.rises in
     let live : IsLiveFlowOf OverFold (flow_text d) (Some (flow_of f)) = record { flow = flow_of f; live = refl; is = c.in_ok-flow.ensures.built } in
     let left = leaves_more fold_work (map flow_text ds) (map flow_text (drop i ds)) (flow_text d) (map flow_text (drop (i + 1) ds)) old mid new
-    (texts_more ds i d c.loop-number-test.true c.index-drafts-number.is) spends.within c.loop-number.invariant.left in
+    (texts_more ds i d c.loop-number-test.true c.index-drafts-number.is) (λ n work. (spends.counts n work).most) c.loop-number.invariant.left in
     let taken = taken_more fold_work ds i d (flow_of f).arrival old mid new c.loop-number-test.true c.index-drafts-number.is c.loop-number.invariant.taken
-    c.in_ok-flow.ensures.built.arrival spends.exact in
+    c.in_ok-flow.ensures.built.arrival (λ n work. (spends.counts n work).exact) in
     spends_told old new r.result p.0 p.1 (omega (arith, before, rises)) (at_most_all fold_work (map flow_text ds) (map flow_text (drop (i + 1) ds)) old new left)
     (λ lack. between_flows ds (i + 1) (map (option_map flow_of) xs ++ Some (flow_of f) ∷ []) (new - old)
     (zip_more (IsLiveFlowOf OverFold) flow_text ds i d (map (option_map flow_of) xs) (Some (flow_of f)) c.loop-number-test.true c.index-drafts-number.is c.loop-number.invariant.built live)
@@ -118,4 +117,3 @@ returns-clause-spends g c =
     (λ n work. let same = one_folds fold_work (map flow_text ds) n taken.count work (subst (λ fs. FoldsOf fold_work fs taken.count) whole taken.folds) in
     omega (arith, same, taken.sum))
     c.loop-number.invariant.rises
-    (at_most_all fold_work (map flow_text ds) (map flow_text (drop c.loop-number.number ds)) c.args.steps.now c.loop-number.steps c.loop-number.invariant.left)

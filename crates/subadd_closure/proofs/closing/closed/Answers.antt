@@ -6,13 +6,13 @@ use Rattle.rational.specs.Extended.{◌≤ₑ◌}
 use Rattle.rational.specs.declared.Extended.TheVariants.{Fin}
 use Rattle.rational.proofs.Laws.{le_refl}
 use Rattle.min_plus.specs.Functions.{zero_q}
+use Rattle.outcomes.proofs.Spending.{counts_all, spends_so, spends_part}
 use Rattle.subadd_closure.specs.CurveParts.{part_of}
 use Rattle.subadd_closure.specs.FoldWork.{part_work, parts_work, fold_work}
 use Rattle.subadd_closure.specs.SegmentLimits.{IsElementOf}
 use Rattle.subadd_closure.proofs.FoldMemory.{then_wants}
-use Rattle.subadd_closure.proofs.Spent.{spends_so, spends_part}
 use Rattle.subadd_closure.proofs.FirstElements.{two_elements}
-use Rattle.subadd_closure.proofs.FoldSteps.{early_refusal, last_refusal, last_part, always}
+use Rattle.subadd_closure.proofs.FoldSteps.{early_refusal, last_refusal, last_part}
 use Rattle.subadd_closure.proofs.FoldLists.{all_elements, split_parts, work_front, work_up_to}
 use Rattle.subadd_closure.proofs.LastElements.{is_last, last_curves, last_wants, last_work}
 use Rattle.subadd_closure.proofs.closing.closed.Goals as goal
@@ -110,7 +110,7 @@ returns-in_err-star-clause-spends g c =
     let new = c.element_star.new.steps in
     let spends = c.in_err-star.ensures.spends in
     let rises : mid ≤ new = spends.rises in
-    let count : mid ≡ old + parts_work before = c.in_ok-sofar.ensures.spends.exact (parts_work before) refl in
+    let count : mid ≡ old + parts_work before = (c.in_ok-sofar.ensures.spends.counts (parts_work before) refl).exact in
     let all = ap parts_work L.are in
     let work = work_up_to before (part_of f.tail e) [] L.some in
     spends_part count spends (fold_work f) (omega (arith, all, work)) r.result p.0 p.1 (λ told. sym p.2 ∙ told)
@@ -126,12 +126,11 @@ returns-clause-spends g c =
     let old = c.args.steps.now in
     let mid = c.folded.new.steps in
     let new = c.started_from.new.steps in
-    let count : mid ≡ old + parts_work before = c.in_ok-sofar.ensures.spends.exact (parts_work before) refl in
-    let star : c.element_star.new.steps ≡ mid + part_work (part_of f.tail e) = c.in_ok-star.ensures.spends.exact (part_work (part_of f.tail e)) refl in
+    let count : mid ≡ old + parts_work before = (c.in_ok-sofar.ensures.spends.counts (parts_work before) refl).exact in
+    let star : c.element_star.new.steps ≡ mid + part_work (part_of f.tail e) = (c.in_ok-star.ensures.spends.counts (part_work (part_of f.tail e)) refl).exact in
     let last : new ≡ c.element_star.new.steps + 1 = c.started_from.ensures.count in
     let all = last_work f c.args.es.now e L old mid c.element_star.new.steps new count star last in
-    spends_so (fold_work f) old new c.started_from.result (always (new ≡ old + fold_work f) c.started_from.result all)
-    (omega (arith, all)) (omega (arith, all))
+    spends_so (fold_work f) old new c.started_from.result (counts_all (fold_work f) old new c.started_from.result all)
     (λ is. last_wants f c.args.es.now e L c.in_ok-sofar.sofar (new - mid) (new - old) c.in_ok-sofar.ensures.answer
     (omega (arith, count, star, last))
     (inr record {

@@ -1,13 +1,13 @@
 use Rattle.std.specs.Prelude.{[], ◌∷◌, Ok, Err}
 use Rattle.std.proofs.Common.{◌≡◌, ◌+◌, ◌-◌, ◌≤◌, map, take, drop, refl, sym, ◌∙◌, ap, subst, arith}
 use Rattle.std.proofs.lemmas.Result.{err_from_is_err_and}
+use Rattle.outcomes.proofs.Spending.{spends_made, spends_part}
 use Rattle.subadd_closure.specs.CurveParts.{part_of}
 use Rattle.subadd_closure.specs.Folds.{PartsAnswer}
 use Rattle.subadd_closure.specs.FoldWork.{part_work, parts_work}
 use Rattle.subadd_closure.specs.SegmentLimits.{IsElementOf}
 use Rattle.subadd_closure.proofs.FoldThins.{sofar_subadditive}
 use Rattle.subadd_closure.proofs.FoldMemory.{after_parts, second_within, later_within}
-use Rattle.subadd_closure.proofs.Spent.{spends_made, spends_part}
 use Rattle.subadd_closure.proofs.FoldSteps.{first_part, first_stops, next_part, next_stops}
 use Rattle.subadd_closure.proofs.FoldLists.{one_more, split_at, split_front, all_elements}
 use Rattle.subadd_closure.proofs.FoldLists.{work_one, work_front, work_more, work_up_to, some_taken}
@@ -44,7 +44,7 @@ loop-i-init g c =
     let high = c.requires.inside in
     let one = one_more f.tail es 0 e (omega (arith, low, high)) c.index-es-0.is in
     let all : c.element_star.new.steps ≡ c.args.steps.now + part_work (part_of f.tail e) =
-    c.in_ok-sofar.ensures.spends.exact (part_work (part_of f.tail e)) refl in
+    (c.in_ok-sofar.ensures.spends.counts (part_work (part_of f.tail e)) refl).exact in
     let work = ap parts_work one in
     let alone = work_one (part_of f.tail e) in
     record {
@@ -99,7 +99,7 @@ loop-i-preserved g c =
     let before = map (part_of f.tail) (take i es) in
     let count = c.loop-i.invariant.count in
     let all : c.with_star.new.steps ≡ c.loop-i.steps + (part_work (part_of f.tail e) + 1) =
-    c.in_ok-sofar-2.ensures.spends.exact (part_work (part_of f.tail e) + 1) refl in
+    (c.in_ok-sofar-2.ensures.spends.counts (part_work (part_of f.tail e) + 1) refl).exact in
     let one = one_more f.tail es i e (omega (arith, c.loop-i-test.true, c.requires.inside)) c.index-es-i.is in
     let more = ap parts_work one in
     let work = work_more before (part_of f.tail e)

@@ -3,11 +3,11 @@ use Rattle.std.proofs.lemmas.Result.{err_from_is_err_and}
 use Rattle.upp_limits.specs.declared.op_kind.OpKind.TheVariants.{Convolve}
 use Rattle.outcomes.specs.Calls.{goes_on, stops}
 use Rattle.curve_call.proofs.Applied.{applied_seen}
+use Rattle.outcomes.proofs.Spending.{spends_made, spends_part, spends_last}
 use Rattle.subadd_closure.specs.CurveParts.{part_of}
 use Rattle.subadd_closure.specs.FoldWork.{part_work}
 use Rattle.subadd_closure.proofs.FoldThins.{next_thinnable}
 use Rattle.subadd_closure.proofs.FoldMemory.{call_wants, made_wants}
-use Rattle.subadd_closure.proofs.Spent.{spends_made, spends_part, spends_last}
 use Rattle.subadd_closure.proofs.closing.with_star.Goals as goal
 
 pub returns-in_err-star-clause-answer : goal.returns-in_err-star-clause-answer
@@ -24,13 +24,13 @@ returns-clause-answer g c =
 pub returns-in_err-star-clause-next : goal.returns-in_err-star-clause-next
 returns-in_err-star-clause-next g c is counted =
     let work = part_work (part_of c.args.f.now.tail c.args.e.now) in
-    let most : c.element_star.new.steps ≤ c.args.steps.now + work = c.in_err-star.ensures.spends.within work refl in
+    let most : c.element_star.new.steps ≤ c.args.steps.now + work = (c.in_err-star.ensures.spends.counts work refl).most in
     absurd (omega (arith, most, counted))
 
 pub returns-clause-next : goal.returns-clause-next
 returns-clause-next g c is counted =
     let work = part_work (part_of c.args.f.now.tail c.args.e.now) in
-    let first : c.element_star.new.steps ≡ c.args.steps.now + work = c.in_ok-star.ensures.spends.exact work refl in
+    let first : c.element_star.new.steps ≡ c.args.steps.now + work = (c.in_ok-star.ensures.spends.counts work refl).exact in
     elim (c.convolve_counted.ensures.spends.memory (sym c.intact.ensures.same ∙ is)) [
       | inl last ↦ last.0
       | inr same ↦ absurd (omega (arith, first, same, counted))
@@ -70,7 +70,7 @@ returns-clause-spends g c =
     let mid = c.element_star.new.steps in
     let new = call.new.steps in
     let spends = call.ensures.spends in
-    let first : mid ≡ old + part_work part = c.in_ok-star.ensures.spends.exact (part_work part) refl in
+    let first : mid ≡ old + part_work part = (c.in_ok-star.ensures.spends.counts (part_work part) refl).exact in
     let rises : mid ≤ new = spends.rises in
     spends_last first spends c.intact.ensures.same (part_work part + 1) refl
     (λ told ends. elim ends [

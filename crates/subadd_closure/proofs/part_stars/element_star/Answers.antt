@@ -1,7 +1,7 @@
 use Rattle.std.proofs.Common.{◌≡◌, ◌+◌, ◌-◌, ◌≤◌, refl, sym, ap, ◌∙◌, subst, arith}
 use Rattle.std.proofs.lemmas.Result.{err_from_is_err_and}
 use Rattle.upp_curve.specs.declared.affine_segment.element.Element.TheVariants.{Point, Open}
-use Rattle.outcomes.proofs.Spending.{spends_stopped}
+use Rattle.outcomes.proofs.Spending.{spends_stopped, spends_as}
 use Rattle.subadd_closure.specs.CurveParts.{copies_of, part_of}
 use Rattle.subadd_closure.specs.FoldWork.{part_work}
 use Rattle.subadd_closure.specs.PartStars.{turn_of}
@@ -11,7 +11,6 @@ use Rattle.subadd_closure.proofs.FoldMemory.{part_wants, segment_wants}
 use Rattle.subadd_closure.proofs.ElementFits.{point_start, point_low, segment_late}
 use Rattle.subadd_closure.proofs.ElementFits.{segment_reads, part_turns, turn_works}
 use Rattle.subadd_closure.proofs.PartStars.{star_is_part, part_refused}
-use Rattle.subadd_closure.proofs.Spent.{spends_as}
 use Rattle.subadd_closure.proofs.part_stars.element_star.Goals as goal
 
 pub point_star-requires-clause-time : goal.point_star-requires-clause-time
@@ -86,7 +85,7 @@ returns-in-Point-clause-spends g c =
     let old = c.args.steps.now in
     let turn = c.turn_of-turn.ensures ∙ ap (λ t. turn_of (copies_of t e)) c.tail.ensures.tail in
     let work : turn_work c.turn_of-turn.result ≡ part_work (part_of f.tail e) = ap turn_work turn ∙ turn_works (copies_of f.tail e) in
-    let most : call.new.steps ≤ old + turn_work c.turn_of-turn.result = call.ensures.spends.within (turn_work c.turn_of-turn.result) refl in
+    let most : call.new.steps ≤ old + turn_work c.turn_of-turn.result = (call.ensures.spends.counts (turn_work c.turn_of-turn.result) refl).most in
     spends_as call.ensures.spends (part_work (part_of f.tail e)) work
     (λ told. part_wants f e (Point c.in-Point.x c.in-Point.v) c.turn_of-turn.result (call.new.steps - old) c.in-Point.is turn (omega (arith, work, most)) tt)
 
@@ -106,6 +105,6 @@ returns-in_ok-m-in-Open-clause-spends g c =
     let old = c.args.steps.now in
     let turn = c.turn_of-turn.ensures ∙ ap (λ t. turn_of (copies_of t e)) c.tail.ensures.tail in
     let work : turn_work c.turn_of-turn.result ≡ part_work (part_of f.tail e) = ap turn_work turn ∙ turn_works (copies_of f.tail e) in
-    let most : call.new.steps ≤ old + turn_work c.turn_of-turn.result = call.ensures.spends.within (turn_work c.turn_of-turn.result) refl in
+    let most : call.new.steps ≤ old + turn_work c.turn_of-turn.result = (call.ensures.spends.counts (turn_work c.turn_of-turn.result) refl).most in
     spends_as call.ensures.spends (part_work (part_of f.tail e)) work
     (λ told. part_wants f e (Open c.in-Open.from c.in-Open.to c.in-Open.line) c.turn_of-turn.result (call.new.steps - old) c.in-Open.is turn (omega (arith, work, most)) c.in_ok-m-in-Open.ensures.within.within)

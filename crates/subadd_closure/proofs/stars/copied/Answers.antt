@@ -2,12 +2,10 @@ use Rattle.std.proofs.Common.{◌≡◌, ◌+◌, arith, subst}
 use Rattle.std.proofs.lemmas.Result.{err_from_is_err_and}
 use Rattle.upp_limits.specs.declared.op_kind.OpKind.TheVariants.{Convolve}
 use Rattle.upp_limits.specs.Outcome.{KeepsLimits}
-use Rattle.outcomes.proofs.Spending.{spends_stopped}
+use Rattle.outcomes.proofs.Spending.{counts_all, spends_stopped, spends_so}
 use Rattle.subadd_closure.specs.Lattices.{lattice_curve}
 use Rattle.subadd_closure.proofs.FoldMemory.{call_wants}
-use Rattle.subadd_closure.proofs.FoldSteps.{always}
 use Rattle.subadd_closure.proofs.FoldThins.{copies_thinnable}
-use Rattle.subadd_closure.proofs.Spent.{spends_so}
 use Rattle.subadd_closure.proofs.stars.copied.Goals as goal
 
 pub convolve_stars-requires : goal.convolve_stars-requires
@@ -24,7 +22,6 @@ pub returns-clause-spends : goal.returns-clause-spends
 returns-clause-spends g c =
     let call = c.convolve_stars in
     let one : call.new.steps ≡ c.args.steps.now + 1 = call.ensures.count in
-    spends_so 1 c.args.steps.now call.new.steps c.intact.result (always (call.new.steps ≡ c.args.steps.now + 1) c.intact.result one)
-    (omega (arith, one)) (omega (arith, one))
+    spends_so 1 c.args.steps.now call.new.steps c.intact.result (counts_all 1 c.args.steps.now call.new.steps c.intact.result one)
     (λ is counted. call_wants Convolve c.args.c.now (lattice_curve c.args.turn.0 c.args.turn.1) call.result c.intact.result c.intact.ensures.same
     (subst (λ z. KeepsLimits Convolve c.args.c.now z call.result) c.in_ok-points.ensures call.ensures.limits) is)

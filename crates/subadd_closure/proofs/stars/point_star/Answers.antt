@@ -1,12 +1,11 @@
 use Rattle.std.proofs.Common.{◌-◌, refl}
 use Rattle.std.proofs.lemmas.Result.{err_from_is_err_and}
 use Rattle.upp_curve.specs.declared.affine_segment.element.Element.TheVariants.{Point}
-use Rattle.outcomes.proofs.Spending.{spends_stopped}
+use Rattle.outcomes.proofs.Spending.{spends_stopped, spends_as}
 use Rattle.subadd_closure.specs.Stars.{turn_work}
 use Rattle.subadd_closure.proofs.FoldThins.{element_subadditive}
 use Rattle.subadd_closure.proofs.FoldMemory.{no_call, closure_wants}
 use Rattle.subadd_closure.proofs.ElementStars.{refused_star, made_star}
-use Rattle.subadd_closure.proofs.Spent.{spends_as}
 use Rattle.subadd_closure.proofs.stars.point_star.Goals as goal
 
 pub returns-in_err-c-clause-answer : goal.returns-in_err-c-clause-answer

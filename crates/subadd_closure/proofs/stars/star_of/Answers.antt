@@ -3,10 +3,10 @@ use Rattle.std.proofs.lemmas.Result.{err_from_is_err_and}
 use Rattle.upp_limits.specs.declared.op_kind.OpFault.TheVariants.{NoMemory}
 use Rattle.outcomes.specs.Stages.{IsEqual}
 use Rattle.outcomes.specs.Spending.{SpendsSteps}
+use Rattle.outcomes.proofs.Spending.{spends_part, spends_last}
 use Rattle.subadd_closure.specs.Stars.{StarWants, turn_work}
 use Rattle.subadd_closure.proofs.FoldMemory.{first_wants, second_wants}
 use Rattle.subadd_closure.proofs.ElementStars.{some_stops, some_goes_on}
-use Rattle.subadd_closure.proofs.Spent.{spends_part, spends_last}
 use Rattle.subadd_closure.proofs.stars.star_of.Goals as goal
 
 pub returns-in_err-all-in-Some-clause-answer : goal.returns-in_err-all-in-Some-clause-answer
@@ -33,7 +33,7 @@ returns-in_err-all-in-Some-clause-spends g c =
     let old = c.args.steps.now in
     let new = c.copied.new.steps in
     let spends = c.in_err-all-in-Some.ensures.spends in
-    let most : new ≤ old + 1 = spends.within 1 refl in
+    let most : new ≤ old + 1 = (spends.counts 1 refl).most in
     let none : old ≡ old + 0 = omega arith in
     let two : turn_work c.args.turn ≡ 2 = ap turn_work c.in-Some.is in
     spends_part none spends (turn_work c.args.turn) (omega (arith, two)) r.result p.0 p.1 (λ told. sym p.2 ∙ told)
@@ -45,7 +45,7 @@ returns-in_ok-all-in-Some-clause-spends g c =
     let mid = c.copied.new.steps in
     let new = c.lowered-in-Some.new.steps in
     let spends = c.lowered-in-Some.ensures.spends in
-    let one : mid ≡ old + 1 = c.in_ok-all-in-Some.ensures.spends.exact 1 refl in
+    let one : mid ≡ old + 1 = (c.in_ok-all-in-Some.ensures.spends.counts 1 refl).exact in
     let rises : mid ≤ new = spends.rises in
     let two : turn_work c.args.turn ≡ 2 = ap turn_work c.in-Some.is in
     spends_last one spends refl (turn_work c.args.turn) (omega (arith, two))

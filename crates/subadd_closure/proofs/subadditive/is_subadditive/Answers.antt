@@ -4,9 +4,9 @@ use Rattle.upp_limits.specs.declared.op_kind.OpKind.TheVariants.{Min, Convolve}
 use Rattle.upp_curve.specs.Curve.{value_at}
 use Rattle.outcomes.specs.Calls.{goes_on, stops}
 use Rattle.curve_call.proofs.Applied.{applied_seen}
+use Rattle.outcomes.proofs.Spending.{spends_made, spends_fault}
 use Rattle.subadd_closure.proofs.FoldMemory.{call_wants}
 use Rattle.subadd_closure.proofs.SameConvolution.{subadditive_where_same, same_where_subadditive}
-use Rattle.subadd_closure.proofs.Spent.{spends_made, spends_fault}
 use Rattle.subadd_closure.proofs.subadditive.is_subadditive.Goals as goal
 
 pub returns-in_err-twice-clause-limits : goal.returns-in_err-twice-clause-limits

@@ -65,7 +65,7 @@ loop-cell-preserved g c =
       answers = subst (λ (xs : List Cell). AnswersAll net next xs) (sym longer) all;
       nothing = subst (λ (xs : List Cell). HasNothingElse next xs) (sym longer) none;
       cost = let more = sum_by_more (work net) cells i no_cell (omega arith) in
-          omega (arith, more, c.in-Ok.ensures.spends.exact (work net (cell_at cells i)) refl, c.loop-cell.invariant.cost);
+          omega (arith, more, (c.in-Ok.ensures.spends.counts (work net (cell_at cells i)) refl).exact, c.loop-cell.invariant.cost);
       same = c.in-Ok.ensures.spends.same ∙ c.loop-cell.invariant.same;
     }
 
@@ -94,7 +94,7 @@ returns-in-Err-clause-spends g c =
     let new = g.E.Evaluator.count c.eval.new.self in
     let cost = c.loop-cell.invariant.cost in
     let rises = c.in-Err.ensures.spends.rises in
-    let most = c.in-Err.ensures.spends.within (work net (cell_at cells i)) refl in
+    let most = (c.in-Err.ensures.spends.counts (work net (cell_at cells i)) refl).most in
     let more = sum_by_more_le (work net) cells i no_cell (omega arith) in
     spends_refused (sum_by (work net) cells) c.refusal.result (omega (arith, cost, rises)) (omega (arith, cost, most, more))
     (λ lack. ends_here net cells at i (new - mid) (new - g.E.Evaluator.count c.args.eval.now) (omega arith) c.loop-cell.invariant.answers
@@ -109,7 +109,7 @@ returns-in-Err-put-clause-spends g c =
     let i = c.loop-cell.cell-index in
     let at : CellTable = held g.V.CellValue.meaning c.loop-cell.table.rows.items in
     let cost = c.loop-cell.invariant.cost in
-    let exact = c.in-Ok.ensures.spends.exact (work net (cell_at cells i)) refl in
+    let exact = (c.in-Ok.ensures.spends.counts (work net (cell_at cells i)) refl).exact in
     let more = sum_by_more_le (work net) cells i no_cell (omega arith) in
     spends_refused (sum_by (work net) cells) NoMemory (omega (arith, cost, exact)) (omega (arith, cost, exact, more))
     (λ lack. ends_here net cells at i (work net (cell_at cells i)) (g.E.Evaluator.count c.eval.new.self - g.E.Evaluator.count c.args.eval.now)

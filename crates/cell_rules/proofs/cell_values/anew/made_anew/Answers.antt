@@ -60,7 +60,7 @@ returns-in-Err-clause-spends g c =
     let next = next_of c.requires within c.loop-cell.invariant.others (c.loop-cell.invariant.reached c.requires) in
     let cost = c.loop-cell.invariant.cost in
     let rises = c.in-Err.ensures.spends.rises in
-    let most = c.in-Err.ensures.spends.within (work net (cell_at touched i)) refl in
+    let most = (c.in-Err.ensures.spends.counts (work net (cell_at touched i)) refl).most in
     let more = sum_by_more_le (work net) touched i no_cell within in
     let mid = g.E.Evaluator.count c.loop-cell.eval in
     let new = g.E.Evaluator.count c.eval.new.self in
@@ -84,7 +84,7 @@ not_kept g c =
     let at : CellTable = placed g.V.CellValue.meaning c.loop-cell.values.versions.newest in
     let value = g.V.CellValue.meaning c.in-Ok.value in
     let cost = c.loop-cell.invariant.cost in
-    let exact = c.in-Ok.ensures.spends.exact (work net next) refl in
+    let exact = (c.in-Ok.ensures.spends.counts (work net next) refl).exact in
     let within : i < length touched = omega arith in
     let more = sum_by_more_le (work net) touched i no_cell within in
     spends_refused (sum_by (work net) touched) NoMemory (omega (arith, cost, exact)) (omega (arith, cost, exact, more))
@@ -131,7 +131,7 @@ loop-cell-preserved g c =
       others = still_others touched i before at next within c.loop-cell.invariant.others c.in_default-put.ensures.others;
       before = c.put.ensures.before ∙ c.loop-cell.invariant.before;
       cost = let more = sum_by_more (work net) touched i no_cell (omega arith) in
-          omega (arith, more, c.in-Ok.ensures.spends.exact (work net (cell_at touched i)) refl, c.loop-cell.invariant.cost);
+          omega (arith, more, (c.in-Ok.ensures.spends.counts (work net (cell_at touched i)) refl).exact, c.loop-cell.invariant.cost);
       same = c.in-Ok.ensures.spends.same ∙ c.loop-cell.invariant.same;
     }
 

@@ -19,10 +19,10 @@ pub returns-clause-least : goal.returns-clause-least
 returns-clause-least g c = λ count done is taken.
     at_least c.args.store.now c.apply-answer.new.self c.args.edit.now (g.E.Evaluator.count c.args.eval.now)
     (g.E.Evaluator.count c.apply-answer.new.eval) count c.apply-answer.result done c.apply-answer.ensures.kept
-    c.apply-answer.ensures.spends.exact c.apply-answer.ensures.spends.rises is taken
+    (c.apply-answer.ensures.spends.counts count is) taken
 
 pub returns-clause-most : goal.returns-clause-most
-returns-clause-most g c = c.apply-answer.ensures.spends.within
+returns-clause-most g c = λ count is. (c.apply-answer.ensures.spends.counts count is).most
 
 pub returns-clause-rises : goal.returns-clause-rises
 returns-clause-rises g c = c.apply-answer.ensures.spends.rises
