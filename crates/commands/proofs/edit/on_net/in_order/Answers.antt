@@ -39,10 +39,10 @@ returns-in-Ok-clause-counts g c =
     by_order net edits order (status_of c.reported.result) old mid new c.requires.accepted c.requires.ordered
     ((c.in-Ok.ensures.spends.counts _ refl).exact ∙ ap (λ (n : Net). old + work_of_cells n order) same)
     (record {
-      rises = c.reported.ensures.rises;
-      most = λ all done w. c.reported.ensures.most all done
+      rises = c.reported.ensures.counts.rises;
+      most = λ all done w. c.reported.ensures.counts.most all done
           (subst (λ (n : Net). WorkOfEdits (begun n) edits all done) (sym present) w);
-      least = λ zero all done w. at_zero c.reported.result _ c.reported.ensures.least zero all done
+      least = λ zero all done w. at_zero c.reported.result _ c.reported.ensures.counts.least zero all done
           (subst (λ (n : Net). WorkOfEdits (begun n) edits all done) (sym present) w);
     })
 
