@@ -27,7 +27,7 @@ pub returns-in_err-arrival-clause-spends : goal.returns-in_err-arrival-clause-sp
 returns-in_err-arrival-clause-spends g c =
     let r = c.from_residual-in_err-arrival in
     let p = err_from_is_err_and r.result r.ensures.1 in
-    spends_refusal c.in_err-arrival.ensures.spends r.result p.0 p.1 (λ n is. is) (λ told. sym p.2 ∙ told) (λ n. inr)
+    spends_refusal c.in_err-arrival.ensures.spends r.result p.0 p.1 (λ n is. is) (λ told. sym p.2 ∙ told) (λ n ends. inr ends)
 
 pub returns-clause-spends : goal.returns-clause-spends
 returns-clause-spends g c = spends_answer c.in_ok-arrival.ensures.spends (λ n is. is)

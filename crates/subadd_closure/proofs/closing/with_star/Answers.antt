@@ -58,7 +58,7 @@ returns-in_err-star-clause-spends g c =
     let p = err_from_is_err_and r.result r.ensures.1 in
     let none : c.args.steps.now ≡ c.args.steps.now + 0 = omega arith in
     spends_part none c.in_err-star.ensures.spends (part_work (part_of c.args.f.now.tail c.args.e.now) + 1) (omega arith) r.result p.0 p.1
-    (λ told. sym p.2 ∙ told) (λ lack. inl)
+    (λ told. sym p.2 ∙ told) (λ lack ends. inl ends)
 
 pub returns-clause-spends : goal.returns-clause-spends
 returns-clause-spends g c =
