@@ -39,7 +39,7 @@ module _ {A E S : Type 0} {count counter : S → ℕ} {lacking : E} {Ends : ℕ 
       → Spends count counter (IsEqual n) lacking Ends old new (Ok x)
   spends_all {x} n exact same = record {
     counts = λ m is.
-        subst (λ (k : ℕ). Counts k (count old) (count new) (Ok x)) is (counts_all n (count old) (count new) (Ok x) exact);
+        subst (λ (k : ℕ). Counts {E = E} k (count old) (count new) (Ok x)) is (counts_all n (count old) (count new) (Ok x) exact);
     rises = omega (arith, exact);
     memory = λ told. absurd (let bad : ⊥ = cc in bad);
     same = same;
@@ -153,10 +153,10 @@ module _ {A E : Type 0} {lacking : E} {Ends : ℕ → Type 0} where
 -- ---- after k operators that are counted
 -- refused by a call that is refused
 module _ {A B E F : Type 0} {lacking : E} {wanting : F} {Ends Places : ℕ → Type 0} where
-  pub spends_part : {k m old mid new : ℕ} {fault : E} → mid ≡ old + k → SpendsSteps {A = A} (IsEqual m) lacking Ends mid new (Err fault)
+  pub spends_part : (k : ℕ) {m old mid new : ℕ} {fault : E} → mid ≡ old + k → SpendsSteps {A = A} (IsEqual m) lacking Ends mid new (Err fault)
       → (n : ℕ) → k + m ≤ n → (r : Result B F) (told : F) → r ≡ Err told → (told ≡ wanting → fault ≡ lacking)
       → (fault ≡ lacking → Ends (new - mid) → Places (new - old)) → SpendsSteps (IsEqual n) wanting Places old new r
-  spends_part {k} {m} {old} {mid} {new} {fault} before h n few r told is to at =
+  spends_part k {m} {old} {mid} {new} {fault} before h n few r told is to at =
       let rises : mid ≤ new = h.rises in
       let most : new ≤ mid + m = (h.counts m refl).most in
       spends_fault n old new r told is (omega (arith, before, rises)) (omega (arith, before, most, few))
@@ -164,9 +164,9 @@ module _ {A B E F : Type 0} {lacking : E} {wanting : F} {Ends Places : ℕ → T
 
 module _ {A E : Type 0} {lacking : E} {Ends Places : ℕ → Type 0} where
   -- answered as its last call is
-  pub spends_last : {k m old mid new : ℕ} {r s : Result A E} → mid ≡ old + k → SpendsSteps (IsEqual m) lacking Ends mid new r → s ≡ r
+  pub spends_last : (k : ℕ) {m old mid new : ℕ} {r s : Result A E} → mid ≡ old + k → SpendsSteps (IsEqual m) lacking Ends mid new r → s ≡ r
       → (n : ℕ) → k + m ≡ n → (r ≡ Err lacking → Ends (new - mid) → Places (new - old)) → SpendsSteps (IsEqual n) lacking Places old new s
-  spends_last {k} {m} {old} {mid} {new} {r} {s} before h same n sum at =
+  spends_last k {m} {old} {mid} {new} {r} {s} before h same n sum at =
       spends_so n old new s
       (subst (λ (z : Result A E). Counts n old new z) (sym same)
       (subst (λ (j : ℕ). Counts j old new r) sum (counts_then k m old mid new r before (h.counts m refl))))
@@ -178,4 +178,4 @@ module _ {A E : Type 0} {lacking : E} {Ends Places : ℕ → Type 0} where
   spends_as {m} {old} {new} {r} h n same at =
       let none : old ≡ old + 0 = omega arith in
       let sum : 0 + m ≡ n = omega (arith, same) in
-      spends_last none h refl n sum at
+      spends_last 0 none h refl n sum at

@@ -94,7 +94,7 @@ returns-in_err-sofar-clause-spends g c =
     let all = ap parts_work (split_parts f es n c.requires.elements) in
     let work = work_front (map (part_of f.tail) (take n es)) (map (part_of f.tail) (drop n es)) in
     let none : c.args.steps.now ≡ c.args.steps.now + 0 = omega arith in
-    spends_part none c.in_err-sofar.ensures.spends (fold_work f) (omega (arith, all, work)) r.result p.0 p.1 (λ told. sym p.2 ∙ told)
+    spends_part 0 none c.in_err-sofar.ensures.spends (fold_work f) (omega (arith, all, work)) r.result p.0 p.1 (λ told. sym p.2 ∙ told)
     (λ lack wants. wants)
 
 pub returns-in_err-star-clause-spends : goal.returns-in_err-star-clause-spends
@@ -113,7 +113,7 @@ returns-in_err-star-clause-spends g c =
     let count : mid ≡ old + parts_work before = (c.in_ok-sofar.ensures.spends.counts (parts_work before) refl).exact in
     let all = ap parts_work L.are in
     let work = work_up_to before (part_of f.tail e) [] L.some in
-    spends_part count spends (fold_work f) (omega (arith, all, work)) r.result p.0 p.1 (λ told. sym p.2 ∙ told)
+    spends_part (parts_work before) count spends (fold_work f) (omega (arith, all, work)) r.result p.0 p.1 (λ told. sym p.2 ∙ told)
     (λ lack wants. last_wants f c.args.es.now e L c.in_ok-sofar.sofar (new - mid) (new - old) c.in_ok-sofar.ensures.answer
     (omega (arith, count, rises)) (inl wants))
 

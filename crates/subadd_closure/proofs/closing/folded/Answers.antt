@@ -134,7 +134,7 @@ returns-in_err-sofar-clause-spends g c =
     let alone = work_one (part_of f.tail e) in
     let work = work_front (part_of f.tail e ∷ []) (map (part_of f.tail) (drop 1 (take n es))) in
     let none : c.args.steps.now ≡ c.args.steps.now + 0 = omega arith in
-    spends_part none c.in_err-sofar.ensures.spends (parts_work (map (part_of f.tail) (take n es))) (omega (arith, all, alone, work))
+    spends_part 0 none c.in_err-sofar.ensures.spends (parts_work (map (part_of f.tail) (take n es))) (omega (arith, all, alone, work))
     r.result p.0 p.1 (λ told. sym p.2 ∙ told)
     (λ lack wants. record {
       before = [];
@@ -168,7 +168,7 @@ returns-in_err-sofar-2-clause-spends g c =
     let work = work_more before (part_of f.tail e) some in
     let r = c.from_residual-in_err-sofar-2 in
     let p = err_from_is_err_and r.result r.ensures.1 in
-    spends_part count spends (parts_work (map (part_of f.tail) (take n es))) (omega (arith, all, room)) r.result p.0 p.1 (λ told. sym p.2 ∙ told)
+    spends_part (parts_work before) count spends (parts_work (map (part_of f.tail) (take n es))) (omega (arith, all, room)) r.result p.0 p.1 (λ told. sym p.2 ∙ told)
     (λ lack stops. record {
       before = before;
       part = part_of f.tail e;

@@ -57,7 +57,7 @@ returns-in_err-star-clause-spends g c =
     let r = c.from_residual in
     let p = err_from_is_err_and r.result r.ensures.1 in
     let none : c.args.steps.now ≡ c.args.steps.now + 0 = omega arith in
-    spends_part none c.in_err-star.ensures.spends (part_work (part_of c.args.f.now.tail c.args.e.now) + 1) (omega arith) r.result p.0 p.1
+    spends_part 0 none c.in_err-star.ensures.spends (part_work (part_of c.args.f.now.tail c.args.e.now) + 1) (omega arith) r.result p.0 p.1
     (λ told. sym p.2 ∙ told) (λ lack ends. inl ends)
 
 pub returns-clause-spends : goal.returns-clause-spends
@@ -72,7 +72,7 @@ returns-clause-spends g c =
     let spends = call.ensures.spends in
     let first : mid ≡ old + part_work part = (c.in_ok-star.ensures.spends.counts (part_work part) refl).exact in
     let rises : mid ≤ new = spends.rises in
-    spends_last first spends c.intact.ensures.same (part_work part + 1) refl
+    spends_last (part_work part) first spends c.intact.ensures.same (part_work part + 1) refl
     (λ told ends. elim ends [
       | inl counted ↦
           let second : new - mid ≡ 1 = counted.1 in

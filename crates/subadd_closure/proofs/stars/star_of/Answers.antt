@@ -36,7 +36,7 @@ returns-in_err-all-in-Some-clause-spends g c =
     let most : new ≤ old + 1 = (spends.counts 1 refl).most in
     let none : old ≡ old + 0 = omega arith in
     let two : turn_work c.args.turn ≡ 2 = ap turn_work c.in-Some.is in
-    spends_part none spends (turn_work c.args.turn) (omega (arith, two)) r.result p.0 p.1 (λ told. sym p.2 ∙ told)
+    spends_part 0 none spends (turn_work c.args.turn) (omega (arith, two)) r.result p.0 p.1 (λ told. sym p.2 ∙ told)
     (λ lack. first_wants c.args.turn c.in-Some.p c.args.c.now (new - old) c.in-Some.is (omega (arith, most)))
 
 pub returns-in_ok-all-in-Some-clause-spends : goal.returns-in_ok-all-in-Some-clause-spends
@@ -48,6 +48,6 @@ returns-in_ok-all-in-Some-clause-spends g c =
     let one : mid ≡ old + 1 = (c.in_ok-all-in-Some.ensures.spends.counts 1 refl).exact in
     let rises : mid ≤ new = spends.rises in
     let two : turn_work c.args.turn ≡ 2 = ap turn_work c.in-Some.is in
-    spends_last one spends refl (turn_work c.args.turn) (omega (arith, two))
+    spends_last 1 one spends refl (turn_work c.args.turn) (omega (arith, two))
     (λ told. second_wants c.args.turn c.in-Some.p c.args.c.now c.in_ok-all-in-Some.all (new - mid) (new - old) c.in-Some.is
     (omega (arith, one, rises)) c.in_ok-all-in-Some.ensures.answer)
