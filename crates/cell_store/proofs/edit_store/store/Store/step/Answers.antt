@@ -5,6 +5,7 @@ use Rattle.outcomes.proofs.Spending.{spends_answer, spends_refusal, spends_stopp
 use Rattle.net_model.specs.Networks.{Net}
 use Rattle.net_cells.specs.declared.cell.Cell.{Cell}
 use Rattle.net_cells.specs.Work.{work}
+use Rattle.net_edits.specs.Changed.{changed}
 use Rattle.net_edits.specs.Edited.{edited}
 use Rattle.net_edits.specs.Replies.{IsOverNone}
 use Rattle.net_edits.specs.declared.fault.EditFault.{EditFault}
@@ -57,6 +58,13 @@ returns-in_err-net-clause-kept g c = in_any c.from_residual.result _ refl
 
 pub advance-requires-clause-back : goal.advance-requires-clause-back
 advance-requires-clause-back g c = c.in_ok-net.ensures.back ∙ ap (λ s. s.present) c.self.view_is
+
+pub advance-requires-clause-change : goal.advance-requires-clause-change
+advance-requires-clause-change g c =
+    ap (λ s. changed c.in_ok-net.field-0.change s.present) (sym c.self.view_is) ∙ c.in_ok-net.ensures.change
+
+pub advance-requires-clause-spared : goal.advance-requires-clause-spared
+advance-requires-clause-spared g c = c.in_ok-net.ensures.spared ∙ ap (λ s. s.present) c.self.view_is
 
 pub advance-requires-clause-gone : goal.advance-requires-clause-gone
 advance-requires-clause-gone g c =
