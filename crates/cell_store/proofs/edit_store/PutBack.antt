@@ -1,6 +1,7 @@
 -- What edits replaced, put back one after the other, gives the networks before.
 use Rattle.std.proofs.Common.{◌≡◌, ◌≢◌, suc, ◌+◌, ◌-◌, List, [], ◌∷◌, ◌++◌, length, take, Option, Some, None, refl, sym, ap, ap₂, ◌∙◌, subst, arith}
-use Rattle.std.specs.Prelude.{slice_get, All, MatchOption, Result, Ok, Err, IfOk, result_ok}
+use Rattle.std.specs.Prelude.{slice_get, All, MatchOption, Result, Ok, Err, IfOk}
+use Rattle.std.specs.Result.{result_ok}
 use Rattle.std.proofs.lemmas.List.{take_all, take_more, length_push}
 use Rattle.std.proofs.lemmas.Option.{get_or_from_slice_get, slice_get_within}
 use Rattle.std.proofs.lemmas.List.Elements.{All-push, All-pop, All-nil}
@@ -56,7 +57,7 @@ pub is_present : (spare : Option Net) (present net : Net) → IsSameAs spare pre
 is_present None present net same e = absurd (let bad : ⊥ = cc in bad)
 is_present (Some other) present net same e = let one : other ≡ net = cc in sym one ∙ same
 
-pub same_if_made : (made : Result Net AllocError) (present : Net) → IfOk made (λ n. n ≡ present) → IsSameAs (result_ok made) present
+pub same_if_made : {E : Type 0} (made : Result Net E) (present : Net) → IfOk made (λ n. n ≡ present) → IsSameAs (result_ok made) present
 same_if_made (Ok net) present same = same
 same_if_made (Err lack) present same = tt
 
