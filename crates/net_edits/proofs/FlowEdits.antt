@@ -1,5 +1,5 @@
 -- What edits of one flow give.
-use Rattle.std.proofs.Common.{◌≡◌, ℕ, ◌<◌, ◌≤◌, List, length, ◌^◌, cond, Option, Some, None, Bool, true, false, refl, sym, ap, ◌∙◌, subst, inl, inr}
+use Rattle.std.proofs.Common.{◌≡◌, ℕ, ◌≤◌, List, length, ◌^◌, cond, Option, Some, None, Bool, true, false, refl, sym, ap, ◌∙◌, subst, inl, inr}
 use Rattle.std.specs.Prelude.{Ok, Err, pos, negsuc, ℤ, nat_le, slice_get, slice_index, is_some, IsSome, ◌&&◌, not}
 use Rattle.std.proofs.lemmas.Bool.{cases_lt, and_parts, and_from, not_from_false, leb-true}
 use Rattle.std.proofs.lemmas.List.{get_or_past, length-map}

@@ -1,5 +1,5 @@
 -- What edits of one server give.
-use Rattle.std.proofs.Common.{◌≡◌, ℕ, List, Option, Some, None, Bool, true, false, refl, sym, ap, ◌∙◌}
+use Rattle.std.proofs.Common.{◌≡◌, ℕ, List, Option, Some, None, Bool, true, false, refl, ap, ◌∙◌}
 use Rattle.std.specs.Prelude.{Ok, Err, slice_get, ℤ, not, ◌&&◌}
 use Rattle.std.proofs.lemmas.Bool.{and_from, not_from_false}
 use Rattle.rational.specs.Rational.{ℚ, ◌≤ℚ◌, ◌<ℚ◌}

@@ -8,7 +8,7 @@ use Rattle.net_model.specs.declared.flow.Flow.{Flow}
 use Rattle.net_model.specs.declared.server.Server.{Server}
 use Rattle.net_model.specs.Networks.{Net, NetServer, NetFlow}
 use Rattle.net_model.specs.Accepted.{IsAccepted}
-use Rattle.net_model.specs.Views.{server_of, flow_of, servers_of, flows_of, net_of}
+use Rattle.net_model.specs.Views.{flow_of, servers_of, flows_of, net_of}
 use Rattle.net_cells.proofs.Lists.{contains_has}
 use Rattle.net_edits.specs.Changed as change
 use Rattle.cell_rules.specs.edit_sites.Replaced.{without_last, IsServerChanged, IsFlowChanged, IsFlowAdded}

@@ -1,4 +1,4 @@
-use Rattle.std.proofs.Common.{◌∙◌, sym, ap, subst}
+use Rattle.std.proofs.Common.{◌∙◌, sym, subst}
 use Rattle.net_model.specs.Accepted.{IsAccepted}
 use Rattle.cell_store.proofs.edit_store.spare.Spare.go_back.Goals as goal
 
