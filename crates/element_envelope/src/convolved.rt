@@ -7,6 +7,7 @@ ghost use Rattle.element_envelope.specs.Copies.{LowAtStarts};
 ghost use Rattle.element_envelope.specs.CopyWindows.{CopyRoom, IsCopyWindow};
 ghost use Rattle.element_envelope.specs.Turnings.{AreCopies};
 ghost use Rattle.element_envelope.specs.OneSide.{IsOneSided};
+ghost use Rattle.element_envelope.specs.RunningLines.{IsOneLine};
 
 use crate::copies::{copy_window, least_copies};
 use crate::cutting::cut;
@@ -14,12 +15,13 @@ use crate::least::{MadePieces, envelope};
 use crate::near::{lowest, near_starts};
 use crate::one_side::starts_of_one_side;
 use crate::pace::pace_of;
+use crate::running::{only_line, running_lines};
 use crate::starts::{are_low_at_starts, turning_starts};
 use curve_call::window_lower;
 use fraction128::Frac;
 use rational::Extended;
 use std::alloc::{AllocError, Global};
-use upp_curve::affine_segment::Piece;
+use upp_curve::affine_segment::{Line, Piece};
 
 // The least of the copies of g at some starts, of which those are left out that are so far above an earlier one that their
 // copies are nowhere below its copy.
@@ -138,11 +140,45 @@ fn by_pairs(alloc: Global, f: &[Piece], g: &[Piece], from: Frac, end: Frac) -> M
     envelope(alloc, &xs, &ys, end)
 }
 
+// With g of one line: by the lowest of that at the starts of f, and the copy of f at its start.
+fn by_line(
+    alloc: Global,
+    f: &[Piece],
+    g: &[Piece],
+    line: &Line,
+    from: Frac,
+    end: Frac,
+) -> MadePieces
+    requires windows { WindowsFrom from end f.now g.now }
+    requires line { IsOneLine line.now g.now }
+    ensures { IfOk result (λ v. IsConvolutionFrom f.now g.now from end v.items) }
+{
+    let lines = running_lines(alloc, line, f)?;
+    let own = copy_window(alloc, &g[0], f, from, end)?;
+    window_lower(alloc, &lines, &own, end)
+}
+
+// The same with f of one line.
+fn by_other_line(
+    alloc: Global,
+    f: &[Piece],
+    g: &[Piece],
+    line: &Line,
+    from: Frac,
+    end: Frac,
+) -> MadePieces
+    requires windows { WindowsFrom from end f.now g.now }
+    requires line { IsOneLine line.now f.now }
+    ensures { IfOk result (λ v. IsConvolutionFrom f.now g.now from end v.items) }
+{
+    by_line(alloc, g, f, line, from, end)
+}
+
 /// The convolution of two windows, at each time from `from` on and before `end`, as pieces. Are both nowhere above the
 /// limits beside a start, then it is made from the copies of each at the starts of the other at which that does not bend
 /// downwards, and of these the pieces that are over before `from` are left out; at those of one of both alone, where the
 /// other never falls and gains no more than the first one's lines rise that rise. Else it is made from all pairs of their
-/// elements. Only a lack of memory is an error.
+/// elements. Is one of both a line from its start on, it is made in one pass. Only a lack of memory is an error.
 pub fn window_convolution_from(
     alloc: Global,
     f: &[Piece],
@@ -153,6 +189,12 @@ pub fn window_convolution_from(
     requires { WindowsFrom from end f.now g.now }
     ensures { IfOk result (λ v. IsConvolutionFrom f.now g.now from end v.items) }
 {
+    if let Some(line) = only_line(g) {
+        return by_line(alloc, f, g, &line, from, end);
+    }
+    if let Some(line) = only_line(f) {
+        return by_other_line(alloc, f, g, &line, from, end);
+    }
     if !are_low_at_starts(f) {
         return by_pairs(alloc, f, g, from, end);
     }
