@@ -241,8 +241,8 @@ running_end l low before left old all d h = sym (append-nil old) ∙ ap (λ z. o
 pub piece_is : (g : List Piece) (l : Line) (a : Piece) → (O : IsOneLine l g) → a ≡ get_or g 0 a → O.piece ≡ a
 piece_is g l a O e = sym (e ∙ ap (λ z. get_or z 0 a) O.is)
 
-pub starts_below : (p : Piece) (o : Option Line) → p.at ≤ₑ line_value p.line p.x → IfSome p.line (λ l. StartsBelow l p)
-starts_below p o h = by p.line refl
+pub starts_below : (p : Piece) → p.at ≤ₑ line_value p.line p.x → IfSome p.line (λ l. StartsBelow l p)
+starts_below p h = by p.line refl
   where
     by : (o : Option Line) → p.line ≡ o → IfSome o (λ l. StartsBelow l p)
     by None e = tt
