@@ -41,13 +41,13 @@ fn line_from(slope: Frac, at: Ext) -> Option<Line>
 }
 
 // The lowest at the start of a piece.
-fn reached(line: &Line, low: Ext, before: Option<Line>, q: &Piece) -> Ext
-    requires { (end : ℚ) × StepRoom end line.now low before q.now }
-    ensures { result ≡ reached line.now low before q.now }
+fn reached(line: &Line, low: &Ext, before: &Option<Line>, q: &Piece) -> Ext
+    requires { (end : ℚ) × StepRoom end line.now low.now before.now q.now }
+    ensures { result ≡ reached line.now low.now before.now q.now }
 {
-    let limit = moved_to(line, q.x, line_value(before, q.x));
+    let limit = moved_to(line, q.x, line_value(*before, q.x));
     let at = moved_to(line, q.x, q.at);
-    lesser_value(low, lesser_value(limit, at))
+    lesser_value(*low, lesser_value(limit, at))
 }
 
 // The lowest after it.
@@ -80,7 +80,7 @@ pub(crate) fn running_lines(alloc: Global, line: &Line, pieces: &[Piece]) -> Mad
     let mut low = Extended::Inf;
     let mut before = None;
     for q in pieces {
-        let here = reached(line, low, before, q);
+        let here = reached(line, &low, &before, q);
         let past = passed(line, here, q);
         lines.push(running_piece(line, here, past, q))?;
         low = past;

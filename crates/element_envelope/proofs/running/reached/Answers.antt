@@ -4,11 +4,11 @@ use Rattle.element_envelope.proofs.RunningWindows.{limit_moves, value_moves, bef
 use Rattle.element_envelope.proofs.running.reached.Goals as goal
 
 pub line_value-requires : goal.line_value-requires
-line_value-requires c = before_fits c.requires.0 c.args.line.now c.args.low c.args.before c.args.q.now c.requires.1
+line_value-requires c = before_fits c.requires.0 c.args.line.now c.args.low.now c.args.before.now c.args.q.now c.requires.1
 
 pub moved_to-requires : goal.moved_to-requires
 moved_to-requires c =
-    subst (MovesTo c.args.line.now c.args.q.now.x) (sym c.line_value.ensures) (limit_moves c.requires.0 c.args.line.now c.args.low c.args.before c.args.q.now c.requires.1)
+    subst (MovesTo c.args.line.now c.args.q.now.x) (sym c.line_value.ensures) (limit_moves c.requires.0 c.args.line.now c.args.low.now c.args.before.now c.args.q.now c.requires.1)
 
 pub moved_to-requires-2 : goal.moved_to-requires-2
-moved_to-requires-2 c = value_moves c.requires.0 c.args.line.now c.args.low c.args.before c.args.q.now c.requires.1
+moved_to-requires-2 c = value_moves c.requires.0 c.args.line.now c.args.low.now c.args.before.now c.args.q.now c.requires.1
