@@ -16,7 +16,7 @@ ghost use Rattle.net_cells.specs.CellFormulas.{sum_of_cells};
 ghost use Rattle.net_cells.specs.cell_table.Gives.{Gives};
 ghost use Rattle.net_cells.specs.cell_table.Values.{answer_of, meaning_of};
 ghost use Rattle.cell_numbers.specs.Chosen.{chosen, all_chosen, visit_list};
-ghost use Rattle.cell_eval.specs.Partial.{IsPartial, IsReady, IsSumOf, IsSummed, Adds, partial_of, as_partial, in_place, sum_made};
+ghost use Rattle.cell_eval.specs.Partial.{IsPartial, IsReady, IsSumOf, IsSummed, Adds, added_curve, partial_of, added_made, in_place, sum_made};
 ghost use Rattle.cell_numbers.specs.TableValues.{IsCurveAt};
 
 use crate::sharing::{again, shared};
@@ -44,14 +44,20 @@ pub enum Partial {
     Made(Curve),
 }
 
-/// A sum that grows: of no cell, of one, or of more. Of curves of one line each it is kept as its numbers alone, while these
-/// are small, so that no curve is made but the last.
+/// The sum of two cells or more. Of curves of one line each it is kept as its numbers alone, while these are small, so that
+/// no curve is made but the last.
+#[derive(Drop)]
+pub(crate) enum Added {
+    Lines(Straight),
+    Whole(Curve),
+}
+
+/// A sum that grows: of no cell, of one, or of more.
 #[derive(Drop)]
 pub(crate) enum Growing {
     Empty,
     Single(Cell),
-    Lines(Straight),
-    Whole(Curve),
+    More(Added),
 }
 
 /// The curve that is 0 at each time.
@@ -100,12 +106,11 @@ fn line_total(so_far: &Curve, next: &Curve) -> Option<Straight>
 }
 
 // A sum of which the curve was made.
-fn whole(made: Result<Curve, OpFault>) -> Result<Growing, OpFault>
-    ensures made { as_partial result ≡ sum_made made }
-    ensures ready { (at : CellTable) → IfOk (as_partial result) (IsReady at) }
+fn as_whole(made: Result<Curve, OpFault>) -> Result<Added, OpFault>
+    ensures { added_made result ≡ sum_made made }
 {
     match made {
-        Ok(curve) => Ok(Growing::Whole(curve)),
+        Ok(curve) => Ok(Added::Whole(curve)),
         Err(fault) => Err(fault),
     }
 }
@@ -117,18 +122,17 @@ fn after_curve<T: Table<Value>, L: Ledger>(
     table: &T,
     cell: Cell,
     steps: &mut Steps<L>,
-) -> Result<Growing, OpFault>
+) -> Result<Added, OpFault>
     requires { IsCurveAt (T.at table.now) cell }
-    ensures sum { (cells : List Cell) → IsSummed (T.at table.now) cells so_far.now →
-        Adds (T.at table.now) cells (cell ∷ []) steps.old steps.new (as_partial result) }
-    ensures ready { (at : CellTable) → IfOk (as_partial result) (IsReady at) }
+    ensures { (cells : List Cell) → IsSummed (T.at table.now) cells so_far.now →
+        Adds (T.at table.now) cells (cell ∷ []) steps.old steps.new (added_made result) }
 {
     match line_total(so_far, curve_at(table, cell)) {
         Some(total) => {
             steps.tick();
-            Ok(Growing::Lines(total))
+            Ok(Added::Lines(total))
         }
-        None => whole(with_cell(alloc, so_far, table, cell, steps)),
+        None => as_whole(with_cell(alloc, so_far, table, cell, steps)),
     }
 }
 
@@ -149,14 +153,13 @@ fn after_made<T: Table<Value>, L: Ledger>(
     table: &T,
     cell: Cell,
     steps: &mut Steps<L>,
-) -> Result<Growing, OpFault>
+) -> Result<Added, OpFault>
     requires { IsCurveAt (T.at table.now) cell }
-    ensures sum { (cells : List Cell) → IsSumOf (T.at table.now) cells (straight_curve so_far.now) →
-        Adds (T.at table.now) cells (cell ∷ []) steps.old steps.new (as_partial result) }
-    ensures ready { (at : CellTable) → IfOk (as_partial result) (IsReady at) }
+    ensures { (cells : List Cell) → IsSumOf (T.at table.now) cells (straight_curve so_far.now) →
+        Adds (T.at table.now) cells (cell ∷ []) steps.old steps.new (added_made result) }
 {
     match made_of_lines(alloc, so_far) {
-        Ok(made) => whole(with_cell(alloc, &made, table, cell, steps)),
+        Ok(made) => as_whole(with_cell(alloc, &made, table, cell, steps)),
         Err(fault) => Err(fault),
     }
 }
@@ -168,30 +171,46 @@ fn after_lines<T: Table<Value>, L: Ledger>(
     table: &T,
     cell: Cell,
     steps: &mut Steps<L>,
-) -> Result<Growing, OpFault>
+) -> Result<Added, OpFault>
     requires { IsCurveAt (T.at table.now) cell }
-    ensures sum { (cells : List Cell) → IsSumOf (T.at table.now) cells (straight_curve so_far.now) →
-        Adds (T.at table.now) cells (cell ∷ []) steps.old steps.new (as_partial result) }
-    ensures ready { (at : CellTable) → IfOk (as_partial result) (IsReady at) }
+    ensures { (cells : List Cell) → IsSumOf (T.at table.now) cells (straight_curve so_far.now) →
+        Adds (T.at table.now) cells (cell ∷ []) steps.old steps.new (added_made result) }
 {
     match line_more(so_far, curve_at(table, cell)) {
         Some(total) => {
             steps.tick();
-            Ok(Growing::Lines(total))
+            Ok(Added::Lines(total))
         }
         None => after_made(alloc, so_far, table, cell, steps),
     }
 }
 
-// A sum in place of the one before it; where it was refused that one stays.
-fn replace(so_far: &mut Growing, made: Result<Growing, OpFault>) -> Result<(), OpFault>
-    ensures made { in_place (partial_of so_far.new) result ≡ as_partial made }
-    ensures ready { (at : CellTable) → IfOk (as_partial made) (IsReady at) →
-        OnOk result (IsReady at (partial_of so_far.new)) }
+// A cell's curve more after a sum of two cells or more.
+fn after_added<T: Table<Value>, L: Ledger>(
+    alloc: Global,
+    so_far: &Added,
+    table: &T,
+    cell: Cell,
+    steps: &mut Steps<L>,
+) -> Result<Added, OpFault>
+    requires { IsCurveAt (T.at table.now) cell }
+    ensures { (cells : List Cell) → IsSumOf (T.at table.now) cells (added_curve so_far.now) →
+        Adds (T.at table.now) cells (cell ∷ []) steps.old steps.new (added_made result) }
+{
+    match so_far {
+        Added::Lines(lines) => after_lines(alloc, lines, table, cell, steps),
+        Added::Whole(curve) => after_curve(alloc, curve, table, cell, steps),
+    }
+}
+
+// A sum that was made, in place of the one before it; where it was refused that one stays.
+fn replace(so_far: &mut Growing, made: Result<Added, OpFault>) -> Result<(), OpFault>
+    ensures made { in_place (partial_of so_far.new) result ≡ added_made made }
+    ensures ready { (at : CellTable) → OnOk result (IsReady at (partial_of so_far.new)) }
 {
     match made {
-        Ok(next) => {
-            *so_far = next;
+        Ok(added) => {
+            *so_far = Growing::More(added);
             Ok(())
         }
         Err(fault) => Err(fault),
@@ -221,14 +240,20 @@ fn add<T: Table<Value>, L: Ledger>(
             let made = after_curve(alloc, curve_at(table, *first), table, cell, steps);
             replace(so_far, made)
         }
-        Growing::Lines(lines) => {
-            let made = after_lines(alloc, lines, table, cell, steps);
+        Growing::More(first) => {
+            let made = after_added(alloc, first, table, cell, steps);
             replace(so_far, made)
         }
-        Growing::Whole(first) => {
-            let made = after_curve(alloc, first, table, cell, steps);
-            replace(so_far, made)
-        }
+    }
+}
+
+// The curve of a sum of two cells or more.
+fn curve_made(alloc: Global, whole: Added) -> Result<Curve, OpFault>
+    ensures { IsAgain (added_curve whole) result }
+{
+    match whole {
+        Added::Lines(lines) => made_of_lines(alloc, &lines),
+        Added::Whole(made) => Ok(made),
     }
 }
 
@@ -241,11 +266,10 @@ fn grown(alloc: Global, so_far: Growing) -> Result<Partial, OpFault>
     match so_far {
         Growing::Empty => Ok(Partial::Nothing),
         Growing::Single(cell) => Ok(Partial::One(cell)),
-        Growing::Lines(lines) => match made_of_lines(alloc, &lines) {
+        Growing::More(whole) => match curve_made(alloc, whole) {
             Ok(made) => Ok(Partial::Made(made)),
             Err(fault) => Err(fault),
         },
-        Growing::Whole(made) => Ok(Partial::Made(made)),
     }
 }
 

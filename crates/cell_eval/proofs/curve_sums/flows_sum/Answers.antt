@@ -61,3 +61,6 @@ returns-clause-sum g c =
     c.grown.ensures.sum at (map (at_visit In) (all_chosen net c.args.server c.args.pick c.args.except (length net.flows))) c.args.steps.now c.loop-flow.steps
     (subst (λ n. Adds at [] (map (at_visit In) (all_chosen net c.args.server c.args.pick c.args.except n)) c.args.steps.now c.loop-flow.steps (Ok (partial_of c.loop-flow.so_far)))
     last c.loop-flow.invariant.sum)
+
+pub returns-clause-ready : goal.returns-clause-ready
+returns-clause-ready g c = c.grown.ensures.ready (g.T.Table.at c.args.table.now) c.loop-flow.invariant.ready

@@ -55,3 +55,6 @@ returns-clause-sum g c =
     c.grown.ensures.sum at (map (cell_of Total c.args.server) (range_with_len 0 c.args.queues)) c.args.steps.now c.loop-queue.steps
     (subst (λ n. Adds at [] (map (cell_of Total c.args.server) (range_with_len 0 n)) c.args.steps.now c.loop-queue.steps (Ok (partial_of c.loop-queue.so_far)))
     last c.loop-queue.invariant.sum)
+
+pub returns-clause-ready : goal.returns-clause-ready
+returns-clause-ready g c = c.grown.ensures.ready (g.T.Table.at c.args.table.now) c.loop-queue.invariant.ready
