@@ -19,6 +19,7 @@ ghost use Rattle.cell_numbers.specs.Chosen.{chosen, all_chosen, visit_list};
 ghost use Rattle.cell_eval.specs.Partial.{IsPartial, IsReady, IsSumOf, IsSummed, Adds, added_curve, partial_of, added_made, in_place, sum_made};
 ghost use Rattle.cell_numbers.specs.TableValues.{IsCurveAt};
 
+use crate::inputs::Inputs;
 use crate::sharing::{again, shared};
 use cell_numbers::{Pick, chosen_at, curve_at};
 use curve_call::intact;
@@ -26,7 +27,6 @@ use curve_library::bucket;
 use fraction128::Frac;
 use net_cells::cell_table::{Table, Value};
 use net_cells::{Cell, Kind};
-use net_model::Network;
 use outcomes::Steps;
 use plain_operators::pointwise::{Straight, line_curve, small_total, straight_of};
 use plain_operators::running::sum;
@@ -72,17 +72,16 @@ pub(crate) fn nothing(alloc: Global) -> Result<Curve, OpFault>
 
 // The sum of a curve and a cell's.
 fn with_cell<T: Table<Value>, L: Ledger>(
-    alloc: Global,
+    inputs: &Inputs<'_, T>,
     so_far: &Curve,
-    table: &T,
     cell: Cell,
     steps: &mut Steps<L>,
 ) -> Result<Curve, OpFault>
-    requires { IsCurveAt (T.at table.now) cell }
-    ensures { (cells : List Cell) → IsSummed (T.at table.now) cells so_far.now →
-        Adds (T.at table.now) cells (cell ∷ []) steps.old steps.new (sum_made result) }
+    requires { IsCurveAt (T.at inputs.now.table.now) cell }
+    ensures { (cells : List Cell) → IsSummed (T.at inputs.now.table.now) cells so_far.now →
+        Adds (T.at inputs.now.table.now) cells (cell ∷ []) steps.old steps.new (sum_made result) }
 {
-    intact(sum(alloc, so_far, curve_at(table, cell), steps))
+    intact(sum(inputs.alloc, so_far, curve_at(inputs.table, cell), steps))
 }
 
 // The numbers of a sum and a curve more, where both are lines of small numbers.
@@ -117,22 +116,21 @@ fn as_whole(made: Result<Curve, OpFault>) -> Result<Added, OpFault>
 
 // A cell's curve more after a curve.
 fn after_curve<T: Table<Value>, L: Ledger>(
-    alloc: Global,
+    inputs: &Inputs<'_, T>,
     so_far: &Curve,
-    table: &T,
     cell: Cell,
     steps: &mut Steps<L>,
 ) -> Result<Added, OpFault>
-    requires { IsCurveAt (T.at table.now) cell }
-    ensures { (cells : List Cell) → IsSummed (T.at table.now) cells so_far.now →
-        Adds (T.at table.now) cells (cell ∷ []) steps.old steps.new (added_made result) }
+    requires { IsCurveAt (T.at inputs.now.table.now) cell }
+    ensures { (cells : List Cell) → IsSummed (T.at inputs.now.table.now) cells so_far.now →
+        Adds (T.at inputs.now.table.now) cells (cell ∷ []) steps.old steps.new (added_made result) }
 {
-    match line_total(so_far, curve_at(table, cell)) {
+    match line_total(so_far, curve_at(inputs.table, cell)) {
         Some(total) => {
             steps.tick();
             Ok(Added::Lines(total))
         }
-        None => as_whole(with_cell(alloc, so_far, table, cell, steps)),
+        None => as_whole(with_cell(inputs, so_far, cell, steps)),
     }
 }
 
@@ -148,58 +146,55 @@ fn made_of_lines(alloc: Global, lines: &Straight) -> Result<Curve, OpFault>
 
 // A cell's curve more after a sum whose curve has to be made first.
 fn after_made<T: Table<Value>, L: Ledger>(
-    alloc: Global,
+    inputs: &Inputs<'_, T>,
     so_far: &Straight,
-    table: &T,
     cell: Cell,
     steps: &mut Steps<L>,
 ) -> Result<Added, OpFault>
-    requires { IsCurveAt (T.at table.now) cell }
-    ensures { (cells : List Cell) → IsSumOf (T.at table.now) cells (straight_curve so_far.now) →
-        Adds (T.at table.now) cells (cell ∷ []) steps.old steps.new (added_made result) }
+    requires { IsCurveAt (T.at inputs.now.table.now) cell }
+    ensures { (cells : List Cell) → IsSumOf (T.at inputs.now.table.now) cells (straight_curve so_far.now) →
+        Adds (T.at inputs.now.table.now) cells (cell ∷ []) steps.old steps.new (added_made result) }
 {
-    match made_of_lines(alloc, so_far) {
-        Ok(made) => as_whole(with_cell(alloc, &made, table, cell, steps)),
+    match made_of_lines(inputs.alloc, so_far) {
+        Ok(made) => as_whole(with_cell(inputs, &made, cell, steps)),
         Err(fault) => Err(fault),
     }
 }
 
 // A cell's curve more after a sum that is kept as its numbers.
 fn after_lines<T: Table<Value>, L: Ledger>(
-    alloc: Global,
+    inputs: &Inputs<'_, T>,
     so_far: &Straight,
-    table: &T,
     cell: Cell,
     steps: &mut Steps<L>,
 ) -> Result<Added, OpFault>
-    requires { IsCurveAt (T.at table.now) cell }
-    ensures { (cells : List Cell) → IsSumOf (T.at table.now) cells (straight_curve so_far.now) →
-        Adds (T.at table.now) cells (cell ∷ []) steps.old steps.new (added_made result) }
+    requires { IsCurveAt (T.at inputs.now.table.now) cell }
+    ensures { (cells : List Cell) → IsSumOf (T.at inputs.now.table.now) cells (straight_curve so_far.now) →
+        Adds (T.at inputs.now.table.now) cells (cell ∷ []) steps.old steps.new (added_made result) }
 {
-    match line_more(so_far, curve_at(table, cell)) {
+    match line_more(so_far, curve_at(inputs.table, cell)) {
         Some(total) => {
             steps.tick();
             Ok(Added::Lines(total))
         }
-        None => after_made(alloc, so_far, table, cell, steps),
+        None => after_made(inputs, so_far, cell, steps),
     }
 }
 
 // A cell's curve more after a sum of two cells or more.
 fn after_added<T: Table<Value>, L: Ledger>(
-    alloc: Global,
+    inputs: &Inputs<'_, T>,
     so_far: &Added,
-    table: &T,
     cell: Cell,
     steps: &mut Steps<L>,
 ) -> Result<Added, OpFault>
-    requires { IsCurveAt (T.at table.now) cell }
-    ensures { (cells : List Cell) → IsSumOf (T.at table.now) cells (added_curve so_far.now) →
-        Adds (T.at table.now) cells (cell ∷ []) steps.old steps.new (added_made result) }
+    requires { IsCurveAt (T.at inputs.now.table.now) cell }
+    ensures { (cells : List Cell) → IsSumOf (T.at inputs.now.table.now) cells (added_curve so_far.now) →
+        Adds (T.at inputs.now.table.now) cells (cell ∷ []) steps.old steps.new (added_made result) }
 {
     match so_far {
-        Added::Lines(lines) => after_lines(alloc, lines, table, cell, steps),
-        Added::Whole(curve) => after_curve(alloc, curve, table, cell, steps),
+        Added::Lines(lines) => after_lines(inputs, lines, cell, steps),
+        Added::Whole(curve) => after_curve(inputs, curve, cell, steps),
     }
 }
 
@@ -219,17 +214,16 @@ fn replace(so_far: &mut Growing, made: Result<Added, OpFault>) -> Result<(), OpF
 
 // A cell more in a sum.
 fn add<T: Table<Value>, L: Ledger>(
-    alloc: Global,
+    inputs: &Inputs<'_, T>,
     so_far: &mut Growing,
-    table: &T,
     cell: Cell,
     steps: &mut Steps<L>,
 ) -> Result<(), OpFault>
-    requires cell { IsCurveAt (T.at table.now) cell }
-    requires ready { IsReady (T.at table.now) (partial_of so_far.old) }
-    ensures sum { (cells : List Cell) → IsPartial (T.at table.now) cells (partial_of so_far.old) →
-        Adds (T.at table.now) cells (cell ∷ []) steps.old steps.new (in_place (partial_of so_far.new) result) }
-    ensures ready { OnOk result (IsReady (T.at table.now) (partial_of so_far.new)) }
+    requires cell { IsCurveAt (T.at inputs.now.table.now) cell }
+    requires ready { IsReady (T.at inputs.now.table.now) (partial_of so_far.old) }
+    ensures sum { (cells : List Cell) → IsPartial (T.at inputs.now.table.now) cells (partial_of so_far.old) →
+        Adds (T.at inputs.now.table.now) cells (cell ∷ []) steps.old steps.new (in_place (partial_of so_far.new) result) }
+    ensures ready { OnOk result (IsReady (T.at inputs.now.table.now) (partial_of so_far.new)) }
 {
     match so_far {
         Growing::Empty => {
@@ -237,11 +231,11 @@ fn add<T: Table<Value>, L: Ledger>(
             Ok(())
         }
         Growing::Single(first) => {
-            let made = after_curve(alloc, curve_at(table, *first), table, cell, steps);
+            let made = after_curve(inputs, curve_at(inputs.table, *first), cell, steps);
             replace(so_far, made)
         }
         Growing::More(first) => {
-            let made = after_added(alloc, first, table, cell, steps);
+            let made = after_added(inputs, first, cell, steps);
             replace(so_far, made)
         }
     }
@@ -288,85 +282,70 @@ pub fn finished<T: Table<Value>>(alloc: Global, table: &T, whole: Partial) -> Re
 
 // The flow's curve at its hop that is meant more in a sum, if there is one.
 fn add_flow<T: Table<Value>, L: Ledger>(
-    alloc: Global,
+    inputs: &Inputs<'_, T>,
     so_far: &mut Growing,
-    table: &T,
-    net: &Network,
     server: u32,
     pick: Pick,
     except: Option<u32>,
     flow: u32,
     steps: &mut Steps<L>,
 ) -> Result<(), OpFault>
-    requires curves { (k : ℕ) → chosen net.now server pick except flow ≡ visit_list flow (Some k) →
-        IsCurveAt (T.at table.now) (cell_of In flow k) }
-    requires ready { IsReady (T.at table.now) (partial_of so_far.old) }
-    ensures sum { (cells : List Cell) → IsPartial (T.at table.now) cells (partial_of so_far.old) → Adds (T.at table.now) cells
-        (map (at_visit In) (chosen net.now server pick except flow)) steps.old steps.new (in_place (partial_of so_far.new) result) }
-    ensures ready { OnOk result (IsReady (T.at table.now) (partial_of so_far.new)) }
+    requires curves { (k : ℕ) → chosen inputs.now.net.now server pick except flow ≡ visit_list flow (Some k) →
+        IsCurveAt (T.at inputs.now.table.now) (cell_of In flow k) }
+    requires ready { IsReady (T.at inputs.now.table.now) (partial_of so_far.old) }
+    ensures sum { (cells : List Cell) → IsPartial (T.at inputs.now.table.now) cells (partial_of so_far.old) → Adds (T.at inputs.now.table.now) cells
+        (map (at_visit In) (chosen inputs.now.net.now server pick except flow)) steps.old steps.new (in_place (partial_of so_far.new) result) }
+    ensures ready { OnOk result (IsReady (T.at inputs.now.table.now) (partial_of so_far.new)) }
 {
-    match chosen_at(net, flow, server, pick, except) {
+    match chosen_at(inputs.net, flow, server, pick, except) {
         Some(hop) => {
             let cell = Cell {
                 kind: Kind::In,
                 a: flow,
                 b: hop,
             };
-            add(alloc, so_far, table, cell, steps)
+            add(inputs, so_far, cell, steps)
         }
         None => Ok(()),
     }
 }
 
 /// The sum of the curves with which flows come to the hops at a server that are meant, one flow left out.
-pub fn flows_sum<T: Table<Value>, L: Ledger>(
-    alloc: Global,
-    table: &T,
-    net: &Network,
+pub(crate) fn flows_sum<T: Table<Value>, L: Ledger>(
+    inputs: &Inputs<'_, T>,
     server: u32,
     pick: Pick,
     except: Option<u32>,
     steps: &mut Steps<L>,
 ) -> Result<Partial, OpFault>
-    requires { (i k : ℕ) → chosen net.now server pick except i ≡ visit_list i (Some k) →
-        IsCurveAt (T.at table.now) (cell_of In i k) }
-    ensures sum { Adds (T.at table.now) [] (map (at_visit In)
-        (all_chosen net.now server pick except (length net.now.flows))) steps.old steps.new result }
-    ensures ready { IfOk result (IsReady (T.at table.now)) }
+    requires { (i k : ℕ) → chosen inputs.now.net.now server pick except i ≡ visit_list i (Some k) →
+        IsCurveAt (T.at inputs.now.table.now) (cell_of In i k) }
+    ensures sum { Adds (T.at inputs.now.table.now) [] (map (at_visit In)
+        (all_chosen inputs.now.net.now server pick except (length inputs.now.net.now.flows))) steps.old steps.new result }
+    ensures ready { IfOk result (IsReady (T.at inputs.now.table.now)) }
 {
-    let count = net.flows().len() as u32;
+    let count = inputs.net.flows().len() as u32;
     let mut so_far = Growing::Empty;
     for flow in 0..count {
-        match add_flow(
-            alloc,
-            &mut so_far,
-            table,
-            net,
-            server,
-            pick,
-            except,
-            flow,
-            steps,
-        ) {
+        match add_flow(inputs, &mut so_far, server, pick, except, flow, steps) {
             Ok(()) => {}
             Err(fault) => return Err(fault),
         }
     }
-    grown(alloc, so_far)
+    grown(inputs.alloc, so_far)
 }
 
 /// The sum of the curves of the first queues of a server.
-pub fn queues_sum<T: Table<Value>, L: Ledger>(
-    alloc: Global,
-    table: &T,
+pub(crate) fn queues_sum<T: Table<Value>, L: Ledger>(
+    inputs: &Inputs<'_, T>,
     server: u32,
     queues: u32,
     steps: &mut Steps<L>,
 ) -> Result<Partial, OpFault>
-    requires { (q : ℕ) → q < queues → IsCurveAt (T.at table.now) (cell_of Total server q) }
-    ensures sum { Adds (T.at table.now) []
+    requires { (q : ℕ) → q < queues → IsCurveAt (T.at inputs.now.table.now) (cell_of Total server q) }
+    ensures sum { Adds (T.at inputs.now.table.now) []
         (map (cell_of Total server) (range_with_len 0 queues)) steps.old steps.new result }
-    ensures ready { IfOk result (IsReady (T.at table.now)) }
+    ensures ready { IfOk result (IsReady (T.at inputs.now.table.now)) }
 {
     let mut so_far = Growing::Empty;
     for queue in 0..queues {
@@ -375,10 +354,10 @@ pub fn queues_sum<T: Table<Value>, L: Ledger>(
             a: server,
             b: queue,
         };
-        match add(alloc, &mut so_far, table, cell, steps) {
+        match add(inputs, &mut so_far, cell, steps) {
             Ok(()) => {}
             Err(fault) => return Err(fault),
         }
     }
-    grown(alloc, so_far)
+    grown(inputs.alloc, so_far)
 }

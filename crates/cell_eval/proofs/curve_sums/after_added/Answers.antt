@@ -5,10 +5,10 @@ use Rattle.cell_eval.proofs.curve_sums.after_added.Goals as goal
 
 pub returns-in-Lines : goal.returns-in-Lines
 returns-in-Lines g c = λ cells h.
-    let at = g.T.Table.at c.args.table.now in
+    let at = g.T.Table.at c.args.inputs.now.table.now in
     c.after_lines.ensures cells (subst (λ a. IsSumOf at cells (added_curve a)) c.in-Lines.is h)
 
 pub returns-in-Whole : goal.returns-in-Whole
 returns-in-Whole g c = λ cells h.
-    let at = g.T.Table.at c.args.table.now in
+    let at = g.T.Table.at c.args.inputs.now.table.now in
     c.after_curve.ensures cells (made_summed at cells c.in-Whole.curve (subst (λ a. IsSumOf at cells (added_curve a)) c.in-Whole.is h))

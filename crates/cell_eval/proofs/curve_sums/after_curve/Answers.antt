@@ -7,10 +7,10 @@ use Rattle.cell_eval.proofs.curve_sums.after_curve.Goals as goal
 
 pub returns-in-Some : goal.returns-in-Some
 returns-in-Some g c = λ cells h.
-    adds_line (g.T.Table.at c.args.table.now) cells c.args.so_far.now c.deref.result.now c.in-Some.total c.args.cell c.args.steps.now _ h
+    adds_line (g.T.Table.at c.args.inputs.now.table.now) cells c.args.so_far.now c.deref.result.now c.in-Some.total c.args.cell c.args.steps.now _ h
     (c.curve_at.ensures ∙ ap (λ f. Some (curve f)) (sym c.deref.ensures)) c.in-Some.ensures c.tick.ensures
 
 pub returns-in-None : goal.returns-in-None
 returns-in-None g c = λ cells h.
-    subst (Adds (g.T.Table.at c.args.table.now) cells (c.args.cell ∷ []) c.args.steps.now c.with_cell.new.steps) (sym c.as_whole.ensures)
+    subst (Adds (g.T.Table.at c.args.inputs.now.table.now) cells (c.args.cell ∷ []) c.args.steps.now c.with_cell.new.steps) (sym c.as_whole.ensures)
     (c.with_cell.ensures cells h)

@@ -7,7 +7,7 @@ use Rattle.cell_eval.proofs.curve_sums.after_lines.Goals as goal
 
 pub returns-in-Some : goal.returns-in-Some
 returns-in-Some g c = λ cells h.
-    let at = g.T.Table.at c.args.table.now in
+    let at = g.T.Table.at c.args.inputs.now.table.now in
     let f = straight_curve c.args.so_far.now in
     adds_line at cells f c.deref.result.now c.in-Some.total c.args.cell c.args.steps.now _ (made_summed at cells f h)
     (c.curve_at.ensures ∙ ap (λ f. Some (curve f)) (sym c.deref.ensures)) c.in-Some.ensures c.tick.ensures

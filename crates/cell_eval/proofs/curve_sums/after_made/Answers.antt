@@ -7,12 +7,12 @@ use Rattle.cell_eval.proofs.curve_sums.after_made.Goals as goal
 
 pub returns-in-Ok : goal.returns-in-Ok
 returns-in-Ok g c = λ cells h.
-    let at = g.T.Table.at c.args.table.now in
+    let at = g.T.Table.at c.args.inputs.now.table.now in
     subst (Adds at cells (c.args.cell ∷ []) c.args.steps.now c.with_cell.new.steps) (sym c.as_whole.ensures)
     (c.with_cell.ensures cells (made_summed at cells c.in-Ok.made (subst (IsSumOf at cells) (sym c.in-Ok.ensures) h)))
 
 pub returns-in-Err : goal.returns-in-Err
 returns-in-Err g c = λ cells h.
-    let at = g.T.Table.at c.args.table.now in
+    let at = g.T.Table.at c.args.inputs.now.table.now in
     subst (λ e. Adds at cells (c.args.cell ∷ []) c.args.steps.now c.args.steps.now (Err e)) (sym c.in-Err.ensures)
     (adds_unmade at cells (straight_curve c.args.so_far.now) c.args.cell c.args.steps.now h)

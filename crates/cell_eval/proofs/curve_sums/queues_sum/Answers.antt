@@ -15,11 +15,11 @@ use Rattle.cell_eval.proofs.curve_sums.queues_sum.Goals as goal
 
 -- the sum with the queue's total, as if made at once
 one_more : (g : Over) (c : After-add g) (r : Result Partial OpFault) → in_place (partial_of c.add.new.so_far) c.add.result ≡ r
-    → Adds (g.T.Table.at c.args.table.now) []
+    → Adds (g.T.Table.at c.args.inputs.now.table.now) []
     (map (cell_of Total c.args.server) (range_with_len 0 c.loop-queue.queue) ++ cell_of Total c.args.server c.loop-queue.queue ∷ [])
     c.args.steps.now c.add.new.steps r
 one_more g c r is =
-    let at = g.T.Table.at c.args.table.now in
+    let at = g.T.Table.at c.args.inputs.now.table.now in
     let next = cell_of Total c.args.server c.loop-queue.queue ∷ [] in
     let all = map (cell_of Total c.args.server) (range_with_len 0 c.loop-queue.queue) in
     let sum = c.loop-queue.invariant.sum in
@@ -29,17 +29,18 @@ one_more g c r is =
 pub loop-queue-preserved : goal.loop-queue-preserved
 loop-queue-preserved g c =
     let n = c.loop-queue.queue in
-    let both = one_more g (goal.at.loop-queue-preserved g c).After-add (Ok (partial_of c.add.new.so_far)) (ap (in_place (partial_of c.add.new.so_far)) c.in-Ok.is) in
+    let made = partial_of c.add.new.so_far in
+    let both = one_more g (goal.at.loop-queue-preserved g c).After-add (Ok made) (ap (in_place made) c.in-Ok.is) in
     record {
       sum =
-          subst (λ zs. Adds (g.T.Table.at c.args.table.now) [] zs c.args.steps.now c.add.new.steps (Ok (partial_of c.add.new.so_far)))
+          subst (λ zs. Adds (g.T.Table.at c.args.inputs.now.table.now) [] zs c.args.steps.now c.add.new.steps (Ok made))
           (sym (map-range_with_len_more (cell_of Total c.args.server) 0 n n (omega arith))) both;
       ready = search rules;
     }
 
 pub returns-in-Err-clause-sum : goal.returns-in-Err-clause-sum
 returns-in-Err-clause-sum g c =
-    let at = g.T.Table.at c.args.table.now in
+    let at = g.T.Table.at c.args.inputs.now.table.now in
     let f = cell_of Total c.args.server in
     let n = c.loop-queue.queue in
     let both = one_more g (goal.at.returns-in-Err-clause-sum g c).After-add (Err c.in-Err.fault) (ap (in_place (partial_of c.add.new.so_far)) c.in-Err.is) in
@@ -50,11 +51,11 @@ returns-in-Err-clause-sum g c =
 
 pub returns-clause-sum : goal.returns-clause-sum
 returns-clause-sum g c =
-    let at = g.T.Table.at c.args.table.now in
+    let at = g.T.Table.at c.args.inputs.now.table.now in
     let last : c.loop-queue.queue ≡ c.args.queues = omega (arith, c.loop-queue-test.false, c.loop-queue.auto.queue-end) in
     c.grown.ensures.sum at (map (cell_of Total c.args.server) (range_with_len 0 c.args.queues)) c.args.steps.now c.loop-queue.steps
     (subst (λ n. Adds at [] (map (cell_of Total c.args.server) (range_with_len 0 n)) c.args.steps.now c.loop-queue.steps (Ok (partial_of c.loop-queue.so_far)))
     last c.loop-queue.invariant.sum)
 
 pub returns-clause-ready : goal.returns-clause-ready
-returns-clause-ready g c = c.grown.ensures.ready (g.T.Table.at c.args.table.now) c.loop-queue.invariant.ready
+returns-clause-ready g c = c.grown.ensures.ready (g.T.Table.at c.args.inputs.now.table.now) c.loop-queue.invariant.ready
