@@ -144,24 +144,7 @@ fn made_of_lines(alloc: Global, lines: &Straight) -> Result<Curve, OpFault>
     }
 }
 
-// A cell's curve more after a sum whose curve has to be made first.
-fn after_made<T: Table<Value>, L: Ledger>(
-    inputs: &Inputs<'_, T>,
-    so_far: &Straight,
-    cell: Cell,
-    steps: &mut Steps<L>,
-) -> Result<Added, OpFault>
-    requires { IsCurveAt (T.at inputs.now.table.now) cell }
-    ensures { (cells : List Cell) → IsSumOf (T.at inputs.now.table.now) cells (straight_curve so_far.now) →
-        Adds (T.at inputs.now.table.now) cells (cell ∷ []) steps.old steps.new (added_made result) }
-{
-    match made_of_lines(inputs.alloc, so_far) {
-        Ok(made) => as_whole(with_cell(inputs, &made, cell, steps)),
-        Err(fault) => Err(fault),
-    }
-}
-
-// A cell's curve more after a sum that is kept as its numbers.
+// A cell's curve more after a sum that is kept as its numbers: where it is no such curve, that of the sum is made first.
 fn after_lines<T: Table<Value>, L: Ledger>(
     inputs: &Inputs<'_, T>,
     so_far: &Straight,
@@ -177,7 +160,10 @@ fn after_lines<T: Table<Value>, L: Ledger>(
             steps.tick();
             Ok(Added::Lines(total))
         }
-        None => after_made(inputs, so_far, cell, steps),
+        None => match made_of_lines(inputs.alloc, so_far) {
+            Ok(made) => as_whole(with_cell(inputs, &made, cell, steps)),
+            Err(fault) => Err(fault),
+        },
     }
 }
 
