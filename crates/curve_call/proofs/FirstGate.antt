@@ -40,7 +40,7 @@ number_grows Horizontal k m i j h l = omega arith
 number_grows Vertical k m i j h l = omega arith
 number_grows Itself k m i j h l = omega arith
 
-second_is : (op : OpKind) (g : SpecCurve) → IsCurve g → SecondIsCurve op g
+pub second_is : (op : OpKind) (g : SpecCurve) → IsCurve g → SecondIsCurve op g
 second_is (PosMinus v) g h = tt
 second_is (Scale q) g h = tt
 second_is (Shift x) g h = tt

@@ -1,8 +1,12 @@
 -- What a frame of a call gives: sizes of its window that hold the operands' numbers, and where its start and its period stand.
-use Rattle.std.specs.Prelude.{◌≡◌, ℕ}
-use Rattle.std.proofs.Common.{sym, subst}
+use Rattle.std.specs.Prelude.{◌≡◌, ℕ, ◌<◌, ◌≤◌, ◌^◌, Bool, true, false, IsTrue}
+use Rattle.std.proofs.Common.{arith, sym, ◌∙◌, subst, inl, inr, true≢false}
+use Rattle.std.proofs.lemmas.Bool.{cases_lt}
+use Rattle.rational.specs.Rational.{ℚ}
 use Rattle.rational.proofs.Laws.{le_trans}
 use Rattle.upp_limits.specs.declared.op_kind.OpKind.{OpKind}
+use Rattle.upp_limits.specs.declared.op_kind.OpFault.{OpFault}
+use Rattle.upp_limits.specs.declared.op_kind.OpFault.TheVariants.{TooMany, TooWide, NoMemory}
 use Rattle.upp_curve.specs.Curve.{SpecCurve}
 use Rattle.upp_limits.specs.Windows.{window_at}
 use Rattle.upp_limits.specs.Limits.{Sizes}
@@ -13,7 +17,7 @@ use Rattle.upp_limits.proofs.CurveStands.{are_sizes}
 use Rattle.upp_limits.proofs.Stands.{sizes_stand}
 use Rattle.curve_call.specs.declared.frame.Frame.{Frame}
 use Rattle.curve_call.specs.CallWindows.{IsForward, start_of}
-use Rattle.curve_call.specs.Frames.{IsFrame, sizes_at}
+use Rattle.curve_call.specs.Frames.{IsFrame, IsRefusedAt, IsWideOver, sizes_at}
 use Rattle.curve_call.proofs.CurveTimes.{IsPeriod}
 use Rattle.curve_call.proofs.CallTimes.{IsCall, IsStart, period_on, start_on}
 use Rattle.curve_call.proofs.CallFits.{Early, call_early}
@@ -50,3 +54,15 @@ frame_facts op f g k m r forward h =
       period = subst (IsPeriod z.dt) (sym h.period) (period_on op f g z end call);
       early = subst (λ e. Early r.start r.period e) (sym h.end) (subst (λ s. Early s r.period end) (sym h.start) (subst (λ p. Early (start_of op f g) p end) (sym h.period) early));
     }
+
+-- ---- over a limit
+pub wide_at : (op : OpKind) (f g : SpecCurve) (k m : ℕ) (end : ℚ) (fault : OpFault) → end ≡ window_at op f g k m → IsWideOver op f g end fault → IsRefusedAt op f g k m fault
+wide_at op f g k m end TooMany is h = absurd h
+wide_at op f g k m end TooWide is h = subst (λ x. 2 ^ 120 ≤ gauge_over op f g x) is h
+wide_at op f g k m end NoMemory is h = absurd h
+
+pub not_few : (n : ℕ) (b : Bool) → (n ≤ 2 ^ 20 → IsTrue b) → b ≡ false → 2 ^ 20 < n
+not_few n b few no = elim (cases_lt (2 ^ 20) n) [
+  | inl h ↦ h
+  | inr h ↦ absurd (true≢false (sym (few h) ∙ no))
+]

@@ -1,11 +1,11 @@
 //! The limits of a call.
 
 ghost use Rattle.std.specs.Prelude.{ℕ, IfOk, IfErr};
-ghost use Rattle.curve_call.specs.CallWindows.{IsForward};
+ghost use Rattle.curve_call.specs.CallWindows.{IsForward, IsWindow};
 ghost use Rattle.curve_call.specs.Frames.{IsFrame, IsRefusedAt, IsWideOver};
 ghost use Rattle.upp_limits.specs.Covered.{AreNarrowGrids};
 
-use crate::windows::call_window;
+use crate::windows::{CallWindow, call_window};
 use fraction128::Frac;
 use upp_curve::Curve;
 use upp_limits::{CallGrids, OpFault, OpKind, is_few, narrow_grids};
@@ -36,17 +36,18 @@ fn narrow_numbers(op: &OpKind, f: &Curve, g: &Curve, end: Frac) -> Result<CallGr
     }
 }
 
-/// A call with k periods, and for the horizontal deviation with a second number m of them, within both limits.
-/// Refused with TooWide exactly where the gauge is 2^120 or more, with TooMany exactly where it is less and the tally
-/// is above 2^20, and with nothing else. No memory is taken.
-pub fn within_both(op: &OpKind, f: &Curve, g: &Curve, k: u128, m: u128) -> Result<Frame, OpFault>
-    requires { IsForward op.now }
-    ensures frame { IfOk result (IsFrame op.now f.now g.now k m) }
-    ensures refused { IfErr result (IsRefusedAt op.now f.now g.now k m) }
+/// A call whose window is known, within both limits; refused as `within_both`. No memory is taken.
+pub fn within_window(
+    op: &OpKind,
+    f: &Curve,
+    g: &Curve,
+    window: &CallWindow,
+) -> Result<Frame, OpFault>
+    ensures frame { (k m : ℕ) → IsWindow op.now f.now g.now k m window.now → IfOk result (IsFrame op.now f.now g.now k m) }
+    ensures refused { (k m : ℕ) → IsWindow op.now f.now g.now k m window.now → IfErr result (IsRefusedAt op.now f.now g.now k m) }
 {
-    let Some(window) = call_window(op, f, g, k, m) else {
-        return Err(OpFault::TooWide);
-    };
+    f.keeps();
+    g.keeps();
     let grids = narrow_numbers(op, f, g, window.end)?;
     if !is_few(op, f, g, window.end) {
         return Err(OpFault::TooMany);
@@ -58,6 +59,20 @@ pub fn within_both(op: &OpKind, f: &Curve, g: &Curve, k: u128, m: u128) -> Resul
         times: grids.times,
         values: grids.values,
     })
+}
+
+/// A call with k periods, and for the horizontal deviation with a second number m of them, within both limits.
+/// Refused with TooWide exactly where the gauge is 2^120 or more, with TooMany exactly where it is less and the tally
+/// is above 2^20, and with nothing else. No memory is taken.
+pub fn within_both(op: &OpKind, f: &Curve, g: &Curve, k: u128, m: u128) -> Result<Frame, OpFault>
+    requires { IsForward op.now }
+    ensures frame { IfOk result (IsFrame op.now f.now g.now k m) }
+    ensures refused { IfErr result (IsRefusedAt op.now f.now g.now k m) }
+{
+    let Some(window) = call_window(op, f, g, k, m) else {
+        return Err(OpFault::TooWide);
+    };
+    within_window(op, f, g, &window)
 }
 
 /// A call with k periods within both limits, as `within_both` of k and 0.

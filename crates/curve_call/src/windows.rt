@@ -91,3 +91,29 @@ pub fn call_window(op: &OpKind, f: &Curve, g: &Curve, k: u128, m: u128) -> Optio
     let end = periods_after(start, number(op, k, m), period)?;
     Some(CallWindow { start, period, end })
 }
+
+/// The window of a call with k and m periods, by one with other numbers of them, which tells when its periods begin and how
+/// long they are. None only where the gauge is 2^128 or more.
+pub fn other_window(
+    op: &OpKind,
+    f: &Curve,
+    g: &Curve,
+    known: &CallWindow,
+    k: u128,
+    m: u128,
+) -> Option<CallWindow>
+    requires forward { IsForward op.now }
+    requires start { known.now.start ≡ start_of op.now f.now g.now }
+    requires period { known.now.period ≡ period_in op.now f.now g.now }
+    ensures value { IfSome result (IsWindow op.now f.now g.now k m) }
+    ensures fits { gauge_at op.now f.now g.now k m < 2 ^ 128 → IsSome result }
+{
+    f.keeps();
+    g.keeps();
+    let end = periods_after(known.start, number(op, k, m), known.period)?;
+    Some(CallWindow {
+        start: known.start,
+        period: known.period,
+        end,
+    })
+}

@@ -16,9 +16,11 @@ ghost use Rattle.curve_deviation.specs.Stages.{AreFinite, IsNarrowWindow, IsWide
 
 use crate::guesses::{Guess, likely_numbers};
 use crate::known::is_known;
-use crate::search::{Stage, has_left, is_below, known_window, least_past, narrow_window, value_in};
+use crate::search::{
+    Stage, has_left, is_below, known_window, least_past, narrow_window, value_in, window_by,
+};
 use crate::walks::longest_lag;
-use curve_call::{CallWindow, Frame, within_both};
+use curve_call::{CallWindow, Frame, other_window, within_both, within_window};
 use fraction128::{Ext, Frac, difference};
 use outcomes::Steps;
 use rational::Extended;
@@ -232,7 +234,7 @@ fn leaves_at(f: &Curve, g: &Curve, level: Frac, numbers: &Guess, window: &CallWi
     if first == 0 {
         return true;
     }
-    let before = known_window(f, g, first - 1, 0);
+    let before = window_by(f, g, window, first - 1, 0);
     if has_left(f, g, level, &before) {
         false
     } else {
@@ -276,7 +278,7 @@ fn reaches_at(f: &Curve, g: &Curve, level: Frac, numbers: &Guess, window: &CallW
     if second == 0 {
         return true;
     }
-    let before = known_window(f, g, numbers.first, second - 1);
+    let before = window_by(f, g, window, numbers.first, second - 1);
     if is_below(f, g, level, &before) {
         true
     } else {
@@ -294,7 +296,7 @@ fn settled_window(f: &Curve, g: &Curve, numbers: &Guess) -> CallWindow
     if first == 0 {
         return numbers.window;
     }
-    known_window(f, g, first, 0)
+    window_by(f, g, &numbers.window, first, 0)
 }
 
 /// A call within both limits whose numbers of periods are as guessed; None where they are not, or the call is over a
@@ -306,7 +308,9 @@ fn guessed_call(f: &Curve, g: &Curve) -> Option<FoundCall>
     f.keeps();
     g.keeps();
     let numbers = likely_numbers(f, g)?;
-    let Ok(frame) = within_both(&OpKind::Horizontal, f, g, numbers.first, numbers.second) else {
+    let op = OpKind::Horizontal;
+    let whole = other_window(&op, f, g, &numbers.window, numbers.first, numbers.second)?;
+    let Ok(frame) = within_window(&op, f, g, &whole) else {
         return None;
     };
     let settled = settled_window(f, g, &numbers);
@@ -314,11 +318,6 @@ fn guessed_call(f: &Curve, g: &Curve) -> Option<FoundCall>
         return None;
     }
     let turn = turn_in(f, g, &settled);
-    let whole = CallWindow {
-        start: frame.start,
-        period: frame.period,
-        end: frame.end,
-    };
     if !reaches_at(f, g, turn.level, &numbers, &whole) {
         return None;
     }

@@ -9,11 +9,12 @@ ghost use Rattle.upp_curve.specs.Curves.{IsCurve};
 ghost use Rattle.upp_limits.specs.Limits.{Sizes};
 ghost use Rattle.upp_normal.specs.Ahead.{IsTimeIn};
 ghost use Rattle.upp_limits.specs.Gauges.{gauge_at};
+ghost use Rattle.curve_call.specs.CallWindows.{start_of, period_in};
 ghost use Rattle.curve_deviation.specs.Parts.{IsFiniteInSizes};
 ghost use Rattle.curve_deviation.specs.Stages.{IsNarrowWindow, AreFinite, HasLeft, HasReached, Meets, stage_gauge, IsBefore, IsPast};
 
 use crate::parts::part_at;
-use curve_call::{CallWindow, call_window};
+use curve_call::{CallWindow, call_window, other_window};
 use fraction128::{Frac, difference, is_less};
 use rational::Extended;
 use upp_curve::Curve;
@@ -55,6 +56,19 @@ pub(crate) fn known_window(f: &Curve, g: &Curve, k: u128, m: u128) -> CallWindow
             period: Frac::zero(),
             end: Frac::zero(),
         },
+    }
+}
+
+/// The same by a window with other numbers of periods.
+pub(crate) fn window_by(f: &Curve, g: &Curve, known: &CallWindow, k: u128, m: u128) -> CallWindow
+    requires narrow { gauge_at OpKind.Horizontal f.now g.now k m < 2 ^ 120 }
+    requires start { known.now.start ≡ start_of OpKind.Horizontal f.now g.now }
+    requires period { known.now.period ≡ period_in OpKind.Horizontal f.now g.now }
+    ensures { IsNarrowWindow f.now g.now k m result }
+{
+    match other_window(&OpKind::Horizontal, f, g, known, k, m) {
+        Some(window) => window,
+        None => *known,
     }
 }
 

@@ -13,3 +13,9 @@ returns-then-first-eq0 c =
     let none = c.if-first-eq0.true in
     subst (λ k. IsNarrowWindow f g k 0 n.window) (sym none)
     record { window = c.requires.window; gauge = subst (λ k. gauge_at Horizontal f g k 0 < 2 ^ 120) none c.requires.narrow }
+
+pub window_by-requires-clause-start : goal.window_by-requires-clause-start
+window_by-requires-clause-start c = c.requires.window.start
+
+pub window_by-requires-clause-period : goal.window_by-requires-clause-period
+window_by-requires-clause-period c = c.requires.window.period
