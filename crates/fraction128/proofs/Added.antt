@@ -1,9 +1,10 @@
 -- The sum of two fractions in lowest terms over the least common denominator: what it still has in common with
 -- that denominator divides what the two denominators have in common.
 use Rattle.std.specs.Prelude.{◌≡◌, Option, Some, None, MatchOption, ℕ, suc, ◌+◌, ◌*◌, ◌-◌, ◌/◌, ◌<◌, ◌≤◌, ◌^◌, ℤ, pos, negsuc, ◌+ℤ◌, ◌*ℤ◌, unsigned_abs}
-use Rattle.std.proofs.Common.{arith, sym, ap, ap₂, ◌∙◌, subst, refl, ◌⊎◌, inl, inr}
+use Rattle.std.proofs.Common.{arith, sym, ap, ap₂, ◌∙◌, subst, refl, ◌⊎◌, inl, inr, SFits, to_z}
 use Rattle.std.proofs.lemmas.Bool.{cases_lt}
-use Rattle.std.proofs.lemmas.Int.{ints, unsigned_abs-mul}
+use Rattle.std.proofs.lemmas.Int.{ints, unsigned_abs-mul, to_z_pos, fits_signed_from_abs}
+use mir.Syntax.{w128}
 use Prim.Native.Nat.{◌∣◌}
 use native.Mathlib.Nat.{div-mul_cancel, mul-pos, mul_assoc, dvd_trans, dvd-mul_left, dvd_refl, dvd-add, dvd-sub, div-le_self, mul-le-mul_left, mul-le-mul_right, mul-div_cancel}
 use Rattle.rational.specs.Gcd.{gcd}
@@ -149,13 +150,29 @@ abs_sum (negsuc m) (pos n) k p q = elim (cases_lt m n) [
 ]
 abs_sum (negsuc m) (negsuc n) k p q = omega (arith, ints, p, q)
 
-pub short_parts_small : (a b : ℤ) (v u : ℕ) → unsigned_abs a < 2 ^ 63 → v < 2 ^ 63 → unsigned_abs b < 2 ^ 63 → u < 2 ^ 63
-    → (unsigned_abs (a *ℤ pos v) < 2 ^ 126) × (unsigned_abs (b *ℤ pos u) < 2 ^ 126) × (unsigned_abs (a *ℤ pos v +ℤ b *ℤ pos u) < 2 ^ 127)
-short_parts_small a b v u p q r s =
+-- each of them is the number itself in 128 bits
+pub record CrossFits (a b : ℤ) (v u : ℕ) : Type 0 where
+  pub left_factor : to_z w128 v ≡ pos v
+  pub right_factor : to_z w128 u ≡ pos u
+  pub left : SFits w128 (a *ℤ pos v)
+  pub right : SFits w128 (b *ℤ pos u)
+  pub sum : SFits w128 (a *ℤ pos v +ℤ b *ℤ pos u)
+  pub size : unsigned_abs (a *ℤ pos v +ℤ b *ℤ pos u) < 2 ^ 127
+
+pub cross_fits : (a b : ℤ) (v u : ℕ) → unsigned_abs a < 2 ^ 63 → v < 2 ^ 63 → unsigned_abs b < 2 ^ 63 → u < 2 ^ 63 → CrossFits a b v u
+cross_fits a b v u p q r s =
     let x = times_small a v p q in
     let y = times_small b u r s in
     let sum = abs_sum (a *ℤ pos v) (b *ℤ pos u) (2 ^ 126) x y in
-    (x, y, omega (arith, sum))
+    let size : unsigned_abs (a *ℤ pos v +ℤ b *ℤ pos u) < 2 ^ 127 = omega (arith, sum) in
+    record {
+      left_factor = to_z_pos w128 v (omega arith);
+      right_factor = to_z_pos w128 u (omega arith);
+      left = fits_signed_from_abs w128 (a *ℤ pos v) (omega (arith, x));
+      right = fits_signed_from_abs w128 (b *ℤ pos u) (omega (arith, y));
+      sum = fits_signed_from_abs w128 _ size;
+      size = size;
+    }
 
 -- the sum of the cross products is too wide
 pub sum_wide : (a b left right sum : ℤ) (d e common share other : ℕ) → common ≡ gcd d e → share ≡ d / common → other ≡ e / common

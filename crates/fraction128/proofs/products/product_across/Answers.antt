@@ -16,13 +16,11 @@ lowest c =
 
 pub from_lowest-requires : goal.from_lowest-requires
 from_lowest-requires c =
-    let a = c.args.a in let b = c.args.b in let d = c.args.d in let e = c.args.e in
-    let fa = c.ranges.a in
-    let fb = c.ranges.b in
+    let fa = c.ranges.a in let fb = c.ranges.b in
     let fz : SFits w128 c.with_sign.result = search rules in
     let is = lowest (goal.at.from_lowest-requires c).After-short_parts-size in
     let size = c.short_parts-size.ensures in
-    simp to_z-of_z (product_as_lowest a b d e _ _ c.with_sign.result is size.top_size size.bottom_size (simp to_z-of_z at c.with_sign.ensures))
+    simp to_z-of_z (product_as_lowest c.args.a c.args.b c.args.d c.args.e _ _ c.with_sign.result is size.top_size size.bottom_size (simp to_z-of_z at c.with_sign.ensures))
 
 pub returns-then-e-lt-SHORT : goal.returns-then-e-lt-SHORT
 returns-then-e-lt-SHORT c =
