@@ -1,5 +1,5 @@
 -- The least height of the steps is the backlog.
-use Rattle.std.specs.Prelude.{◌≡◌, ℕ, ◌+◌, ◌*◌, ◌<◌, ◌≤◌, min, List, length, get_or}
+use Rattle.std.specs.Prelude.{◌≡◌, ℕ, ◌+◌, ◌*◌, ◌<◌, ◌≤◌, List, length, get_or}
 use Rattle.std.proofs.Common.{arith, sym, ap, ◌∙◌, refl, subst, inl, inr}
 use Rattle.std.specs.Int.{div_ceil}
 use Rattle.std.proofs.lemmas.Grind.{div_ceil_times}
@@ -23,7 +23,7 @@ use Rattle.arrival_lines.proofs.Units.{bits_add, bits_le, bits_whole, bits_nonne
 
 -- ---- quotients rounded up, in bits
 -- so many grains, in bits, rounded up
-in_bits_covers : (n b : ℕ) → b ≡ div_ceil n 1024 → bits n ≤ℚ whole b
+pub in_bits_covers : (n b : ℕ) → b ≡ div_ceil n 1024 → bits n ≤ℚ whole b
 in_bits_covers n b e = subst (λ z. bits n ≤ℚ z) (bits_whole b) (bits_le n (1024 * b) (up_covers n 1024 b (omega arith) e))
 
 up_near : (n d q : ℕ) → 0 < d → q ≡ div_ceil n d → q * d + 1 ≤ n + d

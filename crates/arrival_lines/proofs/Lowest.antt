@@ -6,12 +6,12 @@ use Rattle.std.proofs.lemmas.Grind.{div_ceil_times}
 use Rattle.std.proofs.lemmas.Bool.{cases_lt}
 use Rattle.std.proofs.lemmas.List.{get_or_default}
 use Rattle.rational.specs.Rational.{ℚ, ◌+ℚ◌, ◌*ℚ◌, ◌≤ℚ◌, ◌<ℚ◌}
-use Rattle.rational.proofs.Laws.{le_of_mul, lt_of_mul, mul_comm, mul_assoc, mul_le_mul, mul_lt_mul_right, add_mul, le_of_lt}
-use Rattle.rational.proofs.Linear.{with2, with3, with4, with5, with6, with7, with8}
+use Rattle.rational.proofs.Laws.{le_of_mul, lt_of_mul, mul_comm, mul_assoc, mul_le_mul, mul_lt_mul_right, add_mul}
+use Rattle.rational.proofs.Linear.{with2, with3, with5, with6}
 use Rattle.min_plus.specs.Functions.{zero_q}
 use Rattle.arrival_lines.specs.Grid.{bits, speed, line_value, parts_value}
-use Rattle.arrival_lines.specs.Steps.{IsAbove, IsStep, AreSteps}
-use Rattle.arrival_lines.specs.Backlogs.{Falls, IsLowest, IsSlow, IsLeastHeight, height_of}
+use Rattle.arrival_lines.specs.Steps.{AreSteps}
+use Rattle.arrival_lines.specs.Backlogs.{Falls, IsLowest, IsLeastHeight, height_of}
 use Rattle.arrival_lines.specs.declared.grid.Line.{Line}
 use Rattle.arrival_lines.specs.declared.grid.Part.{Part}
 use Rattle.arrival_lines.specs.declared.grid.Service.{Service}

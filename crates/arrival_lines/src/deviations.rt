@@ -25,7 +25,7 @@ fn cut(fast: Line, slow: Line, rate: u64) -> u64
 }
 
 /// How many steps are faster than the rate: these come first.
-fn count_faster(steps: &[Line], rate: u64) -> usize
+pub fn count_faster(steps: &[Line], rate: u64) -> usize
     requires { AreSlowing steps.now }
     ensures inside { result ≤ length steps.now }
     ensures faster { (k : ℕ) (d : Line) → k < result → rate < (get_or steps.now k d).rate }

@@ -1,5 +1,4 @@
-use Rattle.std.proofs.Common.{ℕ, ◌≡◌, arith, subst, sym}
-use Rattle.arrival_lines.specs.Backlogs.{IsLowest}
+use Rattle.std.proofs.Common.{ℕ, ◌≡◌, arith, subst}
 use Rattle.arrival_lines.proofs.Lowest.{IsBetween, lowest_is}
 use Rattle.arrival_lines.proofs.deviations.lowest.Goals as goal
 

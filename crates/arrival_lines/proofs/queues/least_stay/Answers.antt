@@ -5,7 +5,7 @@ use Rattle.arrival_lines.proofs.queues.least_stay.Goals as goal
 
 pub loop-service-preserved : goal.loop-service-preserved
 loop-service-preserved c = λ parts are.
-    subst (λ (found : Option Stay). Known parts c.args.services.now c.args.longest (c.loop-service.service-index + 1) found) (sym c.lesser-least.ensures)
+    subst (λ (found : Option Stay). Known parts c.args.services.now c.args.longest (c.loop-service.service-index + 1) found) (sym c.lesser_stay-least.ensures)
     (more_known parts c.args.services.now c.args.longest c.loop-service.service-index _ c.loop-service.least c.stay_at.result c.loop-service-test.true (c.stay_at.ensures parts are) (c.loop-service.invariant parts are))
 
 pub returns : goal.returns
