@@ -1,15 +1,15 @@
 -- The lesser of two lines, before and after they meet.
 use Rattle.std.specs.Prelude.{◌≡◌, ◌⊎◌, ◌+◌, ◌-◌, ◌<◌, ◌≤◌, [], ◌∷◌, Option, Some, None, MatchOption}
-use Rattle.std.proofs.Common.{arith, sym, ap, ◌∙◌, refl, inl, inr}
+use Rattle.std.proofs.Common.{arith, sym, ap, ◌∙◌, inl, inr}
 use Rattle.rational.specs.Rational.{ℚ, ◌+ℚ◌, ◌*ℚ◌, ◌≤ℚ◌}
-use Rattle.rational.specs.MinMax.{min_q}
 use Rattle.rational.proofs.Laws.{add_mul, mul_le_mul_right}
 use Rattle.rational.proofs.MinMax.{min_q_left, min_q_is_right, min_q_comm}
 use Rattle.rational.proofs.Linear.{with4, with6}
-use Rattle.arrival_lines.specs.Grid.{bits, speed, line_value, lesser}
+use Rattle.arrival_lines.specs.Grid.{bits, speed, line_value}
 use Rattle.arrival_lines.specs.Steps.{burst_with, rate_with}
 use Rattle.arrival_lines.specs.declared.grid.Line.{Line}
 use Rattle.arrival_lines.specs.declared.grid.Part.{Part}
+use Rattle.arrival_lines.proofs.Turned.{alone, paced}
 use Rattle.arrival_lines.proofs.Units.{bits_add, bits_le, speed_add, speed_le}
 use Rattle.arrival_heights.specs.Heights.{AreSmall, IsMoment}
 use Rattle.arrival_heights.specs.Bends.{IsBentAt, IsOneLine, StaysOn, GoesOver, IsUnbent, IsBend}
@@ -83,14 +83,6 @@ same_bend f g at e bent = record {
   before = λ t on early. sym (e t) ∙ bent.before t on early;
   after = λ t on late. sym (e t) ∙ bent.after t on late;
 }
-
-alone : (sum : Line) (pace : Option Line) (t : ℚ) → pace ≡ None → lesser sum pace t ≡ line_value sum t
-alone sum None t e = refl
-alone sum (Some p) t e = cc
-
-paced : (sum : Line) (pace : Option Line) (p : Line) (t : ℚ) → pace ≡ Some p → lesser sum pace t ≡ min_q (line_value sum t) (line_value p t)
-paced sum None p t e = cc
-paced sum (Some q) p t e = cc
 
 pub no_pace : (part : Part) → part.pace ≡ None → IsUnbent part
 no_pace part e = record { line = part.sum; is = λ t on. alone part.sum part.pace t e }

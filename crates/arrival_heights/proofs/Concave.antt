@@ -2,7 +2,6 @@
 use Rattle.std.specs.Prelude.{◌≡◌, ℕ, zero, suc, ◌+◌, ◌-◌, ◌*◌, ◌^◌, ◌<◌, ◌≤◌, List, length, get_or, nat_lt, true}
 use Rattle.std.proofs.Common.{arith, ap, ◌∙◌, refl, subst, inl, inr}
 use Rattle.std.proofs.lemmas.Bool.{cases_lt}
-use Rattle.std.proofs.lemmas.Bool.Decides.{nat_tests}
 use Rattle.rational.specs.Rational.{ℚ, ◌+ℚ◌, ◌*ℚ◌, ◌≤ℚ◌}
 use Rattle.rational.proofs.Laws.{add_mul, le_refl, le_trans, le_total}
 use Rattle.rational.proofs.Linear.{with6}
@@ -13,7 +12,7 @@ use Rattle.arrival_lines.specs.Steps.{AreSteps}
 use Rattle.arrival_lines.specs.declared.grid.Line.{Line}
 use Rattle.arrival_lines.specs.declared.grid.Part.{Part}
 use Rattle.arrival_lines.proofs.Excesses.{parted}
-use Rattle.arrival_lines.proofs.InOrder.{is_less}
+use Rattle.arrival_lines.proofs.InOrder.{is_less, less_is}
 use Rattle.arrival_lines.proofs.Units.{bits_add, bits_nonneg, speed_add, speed_le, speed_some, micros_nonneg}
 use Rattle.arrival_heights.specs.Greatest.{IsBelow}
 use Rattle.arrival_heights.specs.Meetings.{IsWithin, MeetAfter}
@@ -52,15 +51,12 @@ record IsTurn (steps : List Line) (rate m n : ℕ) : Type 0 where
   fast : rate < (nth steps at).rate
   slow : (nth steps (suc at)).rate ≤ rate
 
-to_test : (a b : ℕ) → a < b → nat_lt a b ≡ true
-to_test a b h = grind (arith, nat_tests)
-
 module _ (parts : List Part) (steps : List Line) (are : AreSteps parts steps) where
   falls : (i j : ℕ) → i ≤ j → j < length steps → (nth steps j).rate ≤ (nth steps i).rate
   falls i j h inside = elim (cases_lt (nth steps i).rate (nth steps j).rate) [
     | inr no_more ↦ no_more
     | inl more ↦
-        let same : nat_lt (nth steps i).rate (nth steps i).rate ≡ true = parted steps (nth steps i).rate are.slowing i j no_line h inside (to_test (nth steps i).rate (nth steps j).rate more) in
+        let same : nat_lt (nth steps i).rate (nth steps i).rate ≡ true = parted steps (nth steps i).rate are.slowing i j no_line h inside (less_is (nth steps i).rate (nth steps j).rate more) in
         let l = is_less (nth steps i).rate (nth steps i).rate same in
         absurd (omega (arith, l))
   ]

@@ -68,12 +68,6 @@ at_le_out a m o u s t one other h = elim (cases_lt (o * m) (a * u)) [
       absurd (lt_irrefl (bits (m * o)) (lt_le_trans (bits_lt (m * o) (u * a) (omega (arith, l))) n))
 ]
 
-pub at_lt_out : (a m o u : ℕ) (s t : ℚ) → IsAt a m s → IsAt o u t → s <ℚ t → a * u < o * m
-at_lt_out a m o u s t one other h = elim (cases_lt (a * u) (o * m)) [
-  | inl l ↦ l
-  | inr l ↦ absurd (lt_irrefl s (lt_le_trans h (at_le o u a m t s other one l)))
-]
-
 pub at_lt : (a m o u : ℕ) (s t : ℚ) → IsAt a m s → IsAt o u t → a * u < o * m → s <ℚ t
 at_lt a m o u s t one other h = elim (le_or_lt t s) [
   | inr l ↦ l

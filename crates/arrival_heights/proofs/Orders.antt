@@ -2,10 +2,9 @@
 use Rattle.std.specs.Prelude.{◌≡◌, ℕ, ◌*◌, ◌<◌, ◌≤◌, max, Bool, false, nat_lt}
 use Rattle.std.proofs.Common.{arith, subst, inl, inr}
 use Rattle.std.proofs.lemmas.Bool.{cases_lt}
-use Rattle.std.proofs.lemmas.Bool.Decides.{nat_tests}
 use Rattle.std.specs.Cmp.{IsStrictWeakOrder}
 use Rattle.std.proofs.Math.Nat.{le_of_mul-le-mul_right, mul-le-mul_right}
-use Rattle.arrival_lines.proofs.InOrder.{is_less, not_less}
+use Rattle.arrival_lines.proofs.InOrder.{is_less, is_not_less, not_less}
 use Rattle.arrival_heights.specs.Heights.{IsMoment}
 use Rattle.arrival_heights.specs.declared.heights.Moment.{Moment}
 
@@ -37,9 +36,6 @@ apart at = max at.under 1
 
 abbrev pub sooner : Moment → Moment → Bool
 sooner x y = nat_lt (x.over * apart y) (y.over * apart x)
-
-is_not_less : (a b : ℕ) → b ≤ a → nat_lt a b ≡ false
-is_not_less a b h = grind (arith, nat_tests)
 
 pub sooner_order : IsStrictWeakOrder sooner
 sooner_order = record {

@@ -5,13 +5,14 @@ use Rattle.std.specs.Int.{div_ceil}
 use Rattle.std.proofs.lemmas.Bool.{cases_lt}
 use Rattle.std.proofs.lemmas.List.{get_or_default}
 use Rattle.std.proofs.lemmas.List.Elements.{All-head, All-tail}
-use Rattle.std.proofs.Common.{arith, sym, ap, ◌∙◌, refl, subst, inl, inr}
+use Rattle.std.proofs.Common.{arith, sym, ap, ◌∙◌, subst, inl, inr}
 use Rattle.rational.specs.Rational.{ℚ, ◌+ℚ◌, ◌-ℚ◌, ◌*ℚ◌, ◌/ℚ◌, ◌≤ℚ◌}
 use Rattle.rational.proofs.Laws.{add_zero, add_assoc, add_comm, zero_mul, add_mul, mul_sub, le_refl, le_trans, le_total, le_of_mul, mul_le_mul, mul_le_mul_right, mul_comm, div_mul, not_zero}
 use Rattle.rational.proofs.Linear.{with2, with4, with7, with8}
 use Rattle.min_plus.specs.Functions.{zero_q}
 use Rattle.arrival_lines.specs.Grid.{bits, speed, micros, part_value, parts_value}
 use Rattle.arrival_lines.specs.declared.grid.Part.{Part}
+use Rattle.arrival_lines.proofs.Stepped.{more_value, no_value}
 use Rattle.arrival_lines.proofs.Units.{bits_le, speed_nonneg, speed_some, micros_le, micros_nonneg, brings, brings_less}
 use Rattle.arrival_heights.specs.Heights.{heights}
 use Rattle.arrival_heights.specs.Bends.{IsUnbent, IsBend}
@@ -105,21 +106,13 @@ each_kinked (p ∷ ps) from to B all = (
   each_kinked ps from to B (All-tail (λ q. IsStraightOrKinked (part_value q) from to B) p ps all),
 )
 
-no_parts : (t : ℚ) → parts_value [] t ≡ zero_q
-unfolding parts_value
-no_parts t = refl
-
-more_parts : (p : Part) (ps : List Part) (t : ℚ) → parts_value (p ∷ ps) t ≡ part_value p t +ℚ parts_value ps t
-unfolding parts_value
-more_parts p ps t = refl
-
 module _ (f : ℚ → ℚ) (rate x : ℕ) where
   -- f is the sum of one function, which is a line, and of parts that are lines or bend
   split_off : (parts : List Part) (g : ℚ → ℚ) (from to t : ℚ) → IsStraight g from to → AreKinked parts from to (IsBelow f rate x)
       → ((s : ℚ) → f s ≡ g s +ℚ parts_value parts s) → IsBelow f rate x from → IsBelow f rate x to → from ≤ℚ t → t ≤ℚ to → IsBelow f rate x t
   split_off [] g from to t straight kinks is first last h k =
       let on : from ≤ℚ to = le_trans h k in
-      let line = λ (s : ℚ) (l : from ≤ℚ s) (m : s ≤ℚ to). is s ∙ ap (λ z. g s +ℚ z) (no_parts s) ∙ add_zero (g s) ∙ straight.is s l m in
+      let line = λ (s : ℚ) (l : from ≤ℚ s) (m : s ≤ℚ to). is s ∙ ap (λ z. g s +ℚ z) (no_value s) ∙ add_zero (g s) ∙ straight.is s l m in
       subst (λ y. y ≤ℚ bits x +ℚ speed rate *ℚ t) (sym (line t h k))
       (at_ends straight.base straight.slope (bits x) (speed rate) from to t h k
       (subst (λ y. y ≤ℚ bits x +ℚ speed rate *ℚ from) (line from (le_refl from) on) first)
@@ -139,7 +132,7 @@ module _ (f : ℚ → ℚ) (rate x : ℕ) where
   ]
     where
       moved : (s : ℚ) → f s ≡ (g s +ℚ part_value p s) +ℚ parts_value ps s
-      moved s = is s ∙ ap (λ z. g s +ℚ z) (more_parts p ps s) ∙ sym (add_assoc (g s) (part_value p s) (parts_value ps s))
+      moved s = is s ∙ ap (λ z. g s +ℚ z) (more_value p ps s) ∙ sym (add_assoc (g s) (part_value p s) (parts_value ps s))
 
 pub split : (parts : List Part) (rate x : ℕ) (from to t : ℚ) → All (λ p. IsStraightOrKinked (part_value p) from to (IsBelow (parts_value parts) rate x)) parts
     → IsBelow (parts_value parts) rate x from → IsBelow (parts_value parts) rate x to → from ≤ℚ t → t ≤ℚ to → IsBelow (parts_value parts) rate x t

@@ -15,4 +15,4 @@ pub use heights::{
     jump_time, sooner, times,
 };
 pub use peaks::{Peaks, peaks_of};
-pub use slow::{count_faster, slow_burst};
+pub use slow::slow_burst;
