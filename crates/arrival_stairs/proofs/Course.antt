@@ -169,8 +169,11 @@ some_rate (suc r) to x h = omega arith
 module _ (b : Bundle) (end begin to level : ℕ) (base old new js : List Turn) (line next : Line) (until : to ≤ end) (fits : level < 2 ^ 62)
     (reached : level ≤ bundle_level end b) (small : IfSome b.pace IsSmallLine) (stays : (n : ℕ) → begin ≤ n → n < to → bundle_level n b ≡ level) (order : begin ≤ to)
     (was : old ≡ base ++ js) (so_far : IsTurning (bundle_height b) (burst_until end b) (rate_until end b) end begin (10 ^ 12) js line) where
-  on_level : IsFlat level b.pace line begin (10 ^ 12) → IsBelowUntil line level to old new next → IsSettledTo b end begin to level base new next
-  on_level flat late = record {
+  -- without a turn
+  no_turn : IsBelowUntil line level to old new next → IsWithinMost (burst_until end b) (rate_until end b) line → IsSmallLine line
+      → ((p q : ℕ) → 0 < q → begin * q ≤ p * 10 ^ 12 → p * 10 ^ 12 ≤ to * q → lesser_height p q (flat_line level) b.pace ≡ line_height line p q)
+      → IsSettledTo b end begin to level base new next
+  no_turn late within small_line stands = record {
     more = js;
     is = late.none ∙ was;
     o = begin;
@@ -178,32 +181,30 @@ module _ (b : Bundle) (end begin to level : ℕ) (base old new js : List Turn) (
     some = omega arith;
     begins = omega arith;
     order = omega (arith, order);
-    most = subst (λ (l : Line). IsWithinMost (burst_until end b) (rate_until end b) l) (sym (late.same ∙ flat.is)) (level_within b level end reached);
-    small = subst IsSmallLine (sym (late.same ∙ flat.is)) record { burst = fits; rate = omega arith };
+    most = subst (λ (l : Line). IsWithinMost (burst_until end b) (rate_until end b) l) (sym late.same) within;
+    small = subst IsSmallLine (sym late.same) small_line;
     so_far = subst (λ (l : Line). IsTurning (bundle_height b) (burst_until end b) (rate_until end b) end begin (10 ^ 12) js l) (sym late.same) so_far;
-    still = λ p q some h l.
-        let e : level * q ≡ line_height (flat_line level) p q = omega arith in
-        flat.lower p q some h ∙ e ∙ ap (λ (m : Line). line_height m p q) (sym (late.same ∙ flat.is));
+    still = λ p q some h l. stands p q some h l ∙ ap (λ (m : Line). line_height m p q) (sym late.same);
   }
 
+  on_level : IsFlat level b.pace line begin (10 ^ 12) → IsBelowUntil line level to old new next → IsSettledTo b end begin to level base new next
+  on_level flat late =
+      let flat_small : IsSmallLine (flat_line level) = record { burst = fits; rate = omega arith } in
+      no_turn late
+      (subst (λ (l : Line). IsWithinMost (burst_until end b) (rate_until end b) l) (sym flat.is) (level_within b level end reached))
+      (subst IsSmallLine (sym flat.is) flat_small)
+      (λ p q some h l.
+      let e : level * q ≡ line_height (flat_line level) p q = omega arith in
+      flat.lower p q some h ∙ e ∙ ap (λ (m : Line). line_height m p q) (sym flat.is))
+
   on_pace : IsPaced level b.pace line begin (10 ^ 12) → IsBelowUntil line level to old new next → IsSettledTo b end begin to level base new next
-  on_pace paced late = record {
-    more = js;
-    is = late.none ∙ was;
-    o = begin;
-    u = 10 ^ 12;
-    some = omega arith;
-    begins = omega arith;
-    order = omega (arith, order);
-    most = subst (λ (l : Line). IsWithinMost (burst_until end b) (rate_until end b) l) (sym late.same) (pace_within b end line paced.is);
-    small = subst IsSmallLine (sym late.same) (small_pace b.pace line paced.is small);
-    so_far = subst (λ (l : Line). IsTurning (bundle_height b) (burst_until end b) (rate_until end b) end begin (10 ^ 12) js l) (sym late.same) so_far;
-    still = λ p q some h l.
-        let k = begins_below level begin (10 ^ 12) b.pace line (omega arith) (inr paced) in
-        let e : level ≡ line.burst + (level - line.burst) = omega (arith, k) in
-        let m = before_it level line.burst line.rate (level - line.burst) p q e (late_before line.rate (level - line.burst) to p q late.late l) in
-        lesser_pace level p q b.pace line paced.is m ∙ ap (λ (i : Line). line_height i p q) (sym late.same);
-  }
+  on_pace paced late =
+      no_turn late (pace_within b end line paced.is) (small_pace b.pace line paced.is small)
+      (λ p q some h l.
+      let k = begins_below level begin (10 ^ 12) b.pace line (omega arith) (inr paced) in
+      let e : level ≡ line.burst + (level - line.burst) = omega (arith, k) in
+      let m = before_it level line.burst line.rate (level - line.burst) p q e (late_before line.rate (level - line.burst) to p q late.late l) in
+      lesser_pace level p q b.pace line paced.is m)
 
   -- the pace reaches the level
   reaches : IsPaced level b.pace line begin (10 ^ 12) → Reaches line level to old new next → IsSettledTo b end begin to level base new next

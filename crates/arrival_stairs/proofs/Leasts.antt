@@ -5,16 +5,17 @@ use Rattle.std.specs.Int.{div_ceil}
 use Rattle.std.proofs.lemmas.Bool.{cases_lt}
 use Rattle.std.proofs.lemmas.List.{get_or_default}
 use Rattle.arrival_lines.specs.Queues as of_lines
+use Rattle.arrival_lines.specs.Queues.{lesser_stay}
 use Rattle.arrival_lines.specs.declared.grid.Queue.{Queue}
 use Rattle.arrival_lines.specs.declared.grid.Service.{Service}
+use Rattle.arrival_lines.specs.declared.queues.Stay.{Stay}
 use Rattle.arrival_lines.proofs.InOrder.{is_less, not_less}
 use Rattle.arrival_stairs.specs.BelowLines.{line_parts}
 use Rattle.arrival_stairs.specs.declared.stairs.Bundle.{Bundle}
 use Rattle.arrival_stairs.specs.Views.{bunches}
 use Rattle.arrival_stairs.proofs.OneExcess.{excess_is_one}
-use Rattle.arrival_stairs.specs.Stays.{IsStay, IsStayAt, HasNoStay, lesser_stay, as_stay, as_queue}
+use Rattle.arrival_stairs.specs.Stays.{IsStay, IsStayAt, HasNoStay, as_stay, as_queue}
 use Rattle.arrival_stairs.specs.Queues.{IsStayOf, IsSomeDelay, IsSomeBacklog, IsAtMost, IsStairQueue, IsNone, AreLong, IsLeastOfBoth, IsNothing, IsSoFar, IsLeastSoFar}
-use Rattle.arrival_stairs.specs.declared.stays.Stay.{Stay}
 
 -- ---- one at a service
 pub stay_is_one : (one other : List Bundle) (s : Service) (longest d b e c : ℕ) → bunches one ≡ bunches other → IsStay one s longest d b → IsStay other s longest e c

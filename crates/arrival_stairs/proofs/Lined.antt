@@ -21,8 +21,9 @@ use Rattle.arrival_lines.specs.Queues as queues
 use Rattle.arrival_lines.specs.declared.grid.Part.{Part}
 use Rattle.arrival_lines.specs.declared.grid.Queue.{Queue}
 use Rattle.arrival_lines.specs.declared.grid.Service.{Service}
+use Rattle.arrival_lines.proofs.Heights.{in_bits_covers}
 use Rattle.arrival_lines.proofs.Promised.{delay_serves, backlog_holds}
-use Rattle.arrival_lines.proofs.Units.{bits_add, bits_le, bits_whole, bits_nonneg, grain_some, one_grain, speed_some, up_covers}
+use Rattle.arrival_lines.proofs.Units.{bits_add, bits_le, bits_whole, bits_nonneg, grain_some, one_grain, speed_some}
 use Rattle.arrival_stairs.specs.Stairs.{bundles_at, AreBundles}
 use Rattle.arrival_stairs.specs.BelowLines.{line_parts}
 use Rattle.arrival_stairs.specs.declared.stairs.Bundle.{Bundle}
@@ -52,9 +53,6 @@ line_excess x rate = record {
     more y h = let g = grain in with2 y g (λ c. omega (arith, c.le, c.lt, c.same))
 
 -- so many grains, in bits, rounded up
-in_bits_covers : (n b : ℕ) → b ≡ div_ceil n 1024 → bits n ≤ℚ whole b
-in_bits_covers n b e = subst (λ z. bits n ≤ℚ z) (bits_whole b) (bits_le n (1024 * b) (up_covers n 1024 b (omega arith) e))
-
 in_bits_near : (n b : ℕ) → b ≡ div_ceil n 1024 → whole b +ℚ grain ≤ℚ bits n +ℚ whole 1
 in_bits_near n b e =
     let k : b * 1024 < n + 1024 = subst (λ x. x * 1024 < n + 1024) (sym e) (div_ceil_times n 1024 (omega arith)).1 in

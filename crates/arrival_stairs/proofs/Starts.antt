@@ -6,16 +6,13 @@ use Rattle.std.proofs.lemmas.List.{get_or-map, length-map}
 use Rattle.std.proofs.lemmas.List.Sums.{sum_by_more_le, get_or-le-sum_by}
 use Rattle.arrival_lines.specs.Steps.{burst_with, most_burst}
 use Rattle.arrival_lines.specs.declared.grid.Line.{Line}
-use Rattle.arrival_lines.specs.declared.grid.Part.{Part}
+use Rattle.arrival_heights.proofs.Small.{no_part}
 use Rattle.arrival_stairs.specs.Stairs.{stair_level, bundle_level, bundle_part, levels_at, AreBundles}
 use Rattle.arrival_stairs.specs.declared.stairs.Bundle.{Bundle}
 use Rattle.arrival_stairs.specs.declared.stairs.Stair.{Stair}
 
 abbrev pub no_stair : Stair
 no_stair = record { frame = 0; gap = 0; jitter = 0 }
-
-abbrev pub no_part : Part
-no_part = record { sum = record { burst = 0; rate = 0 }; pace = None }
 
 -- where there is a bundle there is a first
 pub some_bundle : (bundles : List Bundle) (p : ℕ) → p < length bundles → Bundle

@@ -12,6 +12,7 @@ use Rattle.arrival_lines.specs.Steps.{AreSteps}
 use Rattle.arrival_lines.specs.declared.grid.Line.{Line}
 use Rattle.arrival_lines.specs.declared.grid.Part.{Part}
 use Rattle.arrival_lines.proofs.Units.{bits_add, bits_le, speed_add, speed_nonneg, brings, up_covers}
+use Rattle.arrival_heights.proofs.Concave.{no_line}
 use Rattle.arrival_heights.proofs.Split.{below_more}
 use Rattle.arrival_stairs.specs.Horizon.{IsOneAhead, IsTailOfFirst}
 use Rattle.arrival_heights.specs.Slow.{IsSlowBurst}
@@ -37,9 +38,6 @@ line_tail line rate end x v t slow is later h =
     joined v b x d s u w r h k f g m = with_atoms (v ∷ b ∷ x ∷ d ∷ s ∷ u ∷ w ∷ r ∷ []) (λ c. omega (arith, c.le, c.lt, c.same))
 
 -- a line more
-abbrev pub no_line : Line
-no_line = record { burst = 0; rate = 0 }
-
 one_later : (lines : List Line) (rate end i x : ℕ) → IsOneAhead lines rate end i x → IsOneAhead lines rate end (i + 1) x
 one_later lines rate end i x one =
     record { line = one.line; inside = let h = one.inside in omega (arith, h); slow = one.slow; is = one.is }

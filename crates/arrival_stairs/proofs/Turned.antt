@@ -1,36 +1,30 @@
 -- What is on a line after some turns: one turn more, to the end, and in another order.
-use Rattle.std.specs.Prelude.{◌≡◌, ℕ, ◌+◌, ◌*◌, ◌^◌, ◌<◌, ◌≤◌, nat_lt, Bool, true, false, List, [], ◌∷◌, ◌++◌, All, get_or, take, drop, if◌then◌else◌, IsPermutation}
+use Rattle.std.specs.Prelude.{◌≡◌, ℕ, ◌+◌, ◌*◌, ◌^◌, ◌<◌, ◌≤◌, Bool, true, false, List, [], ◌∷◌, ◌++◌, All, get_or, take, drop, if◌then◌else◌, IsPermutation}
 use Rattle.std.proofs.Common.{arith, ap, refl, inl, inr}
 use Rattle.std.specs.List.{sum_by}
 use Rattle.std.proofs.lemmas.Bool.{cases_lt}
-use Rattle.std.proofs.lemmas.Bool.Decides.{nat_tests}
 use Rattle.std.proofs.lemmas.List.Elements.{All-append, All-cons, All-nil, All-head, All-tail}
 use Rattle.std.proofs.lemmas.List.Sorted.{All-permutation, sum_by-IsPermutation}
 use Rattle.std.proofs.lemmas.List.Sums.{sum_by_push, sum_by-cons, sum_by-append, sum_by-take-drop}
 use Rattle.arrival_lines.specs.declared.grid.Line.{Line}
+use Rattle.arrival_lines.proofs.InOrder.{is_not_less, less_is}
 use Rattle.arrival_heights.specs.Heights.{line_height}
 use Rattle.arrival_stairs.specs.Turns.{sum_if, is_by, is_before, IsOn, IsLineAt, IsLineBefore, IsTurn, AreTurns}
 use Rattle.arrival_stairs.specs.declared.turns.Turn.{Turn}
 use Rattle.arrival_heights.proofs.Orders.{chain, chain_behind}
 
 -- ---- which come by a time, or before it
-less_is : (a b : ℕ) → a < b → nat_lt a b ≡ true
-less_is a b h = grind (arith, nat_tests)
-
-not_less_is : (a b : ℕ) → b ≤ a → nat_lt a b ≡ false
-not_less_is a b h = grind (arith, nat_tests)
-
 pub comes_by : (o u : ℕ) (j : Turn) → j.at.over * u ≤ o * j.at.under → is_by o u j ≡ true
 comes_by o u j h = less_is (j.at.over * u) (o * j.at.under + 1) (omega (arith, h))
 
 pub comes_later : (o u : ℕ) (j : Turn) → o * j.at.under < j.at.over * u → is_by o u j ≡ false
-comes_later o u j h = not_less_is (j.at.over * u) (o * j.at.under + 1) (omega (arith, h))
+comes_later o u j h = is_not_less (j.at.over * u) (o * j.at.under + 1) (omega (arith, h))
 
 pub comes_before : (o u : ℕ) (j : Turn) → j.at.over * u < o * j.at.under → is_before o u j ≡ true
 comes_before o u j h = less_is (j.at.over * u) (o * j.at.under) h
 
 pub comes_not_before : (o u : ℕ) (j : Turn) → o * j.at.under ≤ j.at.over * u → is_before o u j ≡ false
-comes_not_before o u j h = not_less_is (j.at.over * u) (o * j.at.under) h
+comes_not_before o u j h = is_not_less (j.at.over * u) (o * j.at.under) h
 
 -- ---- sums over them
 if_true : (b : Bool) (n : ℕ) → b ≡ true → (if b then n else 0) ≡ n

@@ -4,12 +4,12 @@ use Rattle.std.specs.Prelude.{◌≡◌, ◌⊎◌, ℕ, ◌^◌, ◌<◌, ◌�
 use Rattle.arrival_lines.specs.Queues as of_lines
 use Rattle.arrival_lines.specs.declared.grid.Queue.{Queue}
 use Rattle.arrival_lines.specs.declared.grid.Service.{Service}
+use Rattle.arrival_lines.specs.declared.queues.Stay.{Stay}
 use Rattle.arrival_stairs.specs.BelowLines.{line_parts}
 use Rattle.arrival_stairs.specs.Stairs.{AreBundles}
 use Rattle.arrival_stairs.specs.declared.stairs.Bundle.{Bundle}
 use Rattle.arrival_stairs.specs.Promises.{IsKeptDelay, IsKeptBacklog}
 use Rattle.arrival_stairs.specs.Stays.{IsStay, HasNoStay}
-use Rattle.arrival_stairs.specs.declared.stays.Stay.{Stay}
 
 -- ---- one of them
 -- by the stairs at one of the first i services

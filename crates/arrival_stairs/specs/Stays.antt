@@ -1,13 +1,13 @@
 -- The delay and the backlog of bundles at one service: of the line at its rate that is nowhere below them. (Le Boudec
 -- and Thiran, chapter 1: of an arrival curve and a rate-latency service curve.)
-use Rattle.std.specs.Prelude.{◌≡◌, ℕ, ◌+◌, ◌*◌, ◌^◌, ◌<◌, nat_lt, min, cond, List}
+use Rattle.std.specs.Prelude.{◌≡◌, ℕ, ◌+◌, ◌*◌, ◌^◌, ◌<◌, nat_lt, cond, List}
 use Rattle.std.specs.Prelude.{Option, Some, None, MatchOption}
 use Rattle.std.specs.Int.{div_ceil}
 use Rattle.arrival_lines.specs.declared.grid.Queue.{Queue}
 use Rattle.arrival_lines.specs.declared.grid.Service.{Service}
+use Rattle.arrival_lines.specs.declared.queues.Stay.{Stay}
 use Rattle.arrival_stairs.specs.StairExcess.{IsStairExcess}
 use Rattle.arrival_stairs.specs.declared.stairs.Bundle.{Bundle}
-use Rattle.arrival_stairs.specs.declared.stays.Stay.{Stay}
 
 -- ---- at one service
 -- the time in which the excess and the debt are worked off at the rate, in picoseconds; and the excess, the debt and a
@@ -28,12 +28,6 @@ IsStayAt bundles service longest found = MatchOption found (HasNoStay bundles se
     (λ stay. IsStay bundles service longest stay.delay stay.backlog)
 
 -- ---- as a queue
-abbrev pub lesser_stay : Option Stay → Option Stay → Option Stay
-lesser_stay None other = other
-lesser_stay (Some one) None = Some one
-lesser_stay (Some one) (Some other) =
-    Some record { delay = min one.delay other.delay; backlog = min one.backlog other.backlog }
-
 abbrev pub as_stay : Option Queue → Option Stay
 as_stay None = None
 as_stay (Some queue) = Some record { delay = queue.delay; backlog = queue.backlog }

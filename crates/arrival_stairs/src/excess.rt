@@ -12,8 +12,8 @@ ghost use Rattle.arrival_stairs.specs.StairExcess.{ExcessIsABound, ExcessIsOne, 
 ghost use Rattle.arrival_stairs.specs.declared.stairs.Bundle.{Bundle};
 
 use crate::walks::Walk;
-use arrival_heights::{count_faster, greater};
-use arrival_lines::Line;
+use arrival_heights::greater;
+use arrival_lines::{Line, count_faster};
 
 /// The picoseconds of a second.
 const SECOND: u128 = 1_000_000_000_000;

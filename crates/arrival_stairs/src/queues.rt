@@ -11,9 +11,9 @@ ghost use Rattle.arrival_stairs.specs.declared.stairs.Bundle.{Bundle};
 ghost use Rattle.arrival_stairs.specs.Queues.{IsLeastOfBoth, IsLeastSoFar, LeastOfBothIsKept};
 
 use crate::stairs::Bundle;
-use crate::stays::{Stay, lesser, queue_in, stay_at, stay_in};
+use crate::stays::{queue_in, stay_at, stay_in};
 use crate::walks::{Walk, walk_of};
-use arrival_lines::{Line, Queue, Service, queue_of};
+use arrival_lines::{Line, Queue, Service, Stay, lesser_stay, queue_of};
 use std::alloc::{AllocError, Global};
 
 /// The least delay and the least backlog over the services, by stairs and by lines.
@@ -34,7 +34,7 @@ fn least_stay(
 {
     let mut least = stay_in(by_lines);
     for service in services {
-        least = lesser(least, stay_at(walk, steps, *service, longest));
+        least = lesser_stay(least, stay_at(walk, steps, *service, longest));
     }
     least
 }

@@ -8,26 +8,19 @@ ghost use Rattle.arrival_heights.specs.Heights.{AreMoments};
 ghost use Rattle.arrival_stairs.specs.Horizon.{IsEnd, IsWalk};
 ghost use Rattle.arrival_stairs.specs.Lows.{AreLows};
 ghost use Rattle.arrival_stairs.specs.Stairs.{AreBundles};
-ghost use Rattle.arrival_stairs.specs.Stays.{IsStayAt, lesser_stay, as_stay, as_queue};
+ghost use Rattle.arrival_stairs.specs.Stays.{IsStayAt, as_stay, as_queue};
 ghost use Rattle.arrival_stairs.specs.declared.stairs.Bundle.{Bundle};
 
 use crate::excess::stair_excess;
 use crate::walks::Walk;
 use arrival_heights::slow_burst;
-use arrival_lines::{Line, Queue, Service};
+use arrival_lines::{Line, Queue, Service, Stay};
 
 /// The picoseconds of a second.
 const SECOND: u128 = 1_000_000_000_000;
 
 /// Delays of so many picoseconds are not told.
 const ENDLESS: u128 = 1 << 50;
-
-/// A delay in picoseconds and a backlog in bits.
-#[derive(Clone, Copy)]
-pub(crate) struct Stay {
-    pub(crate) delay: u128,
-    pub(crate) backlog: u64,
-}
 
 /// The time in which so many grains and the debt are served, and the bits that wait when these and a packet do; both
 /// rounded up.
@@ -66,20 +59,6 @@ pub(crate) fn stay_at(walk: &Walk, steps: &[Line], service: Service, longest: u6
             let excess = stair_excess(walk, steps, service.rate, most);
             Some(stay_of(excess, service, longest))
         }
-    }
-}
-
-/// The lesser delay and the lesser backlog of those that there are.
-pub(crate) fn lesser(one: Option<Stay>, other: Option<Stay>) -> Option<Stay>
-    ensures { result ≡ lesser_stay one other }
-{
-    match (one, other) {
-        (None, other) => other,
-        (one, None) => one,
-        (Some(one), Some(other)) => Some(Stay {
-            delay: one.delay.min(other.delay),
-            backlog: one.backlog.min(other.backlog),
-        }),
     }
 }
 

@@ -1,6 +1,6 @@
 use Rattle.std.proofs.Common.{◌≡◌, ◌+◌, ℕ, length, Option, arith, sym, subst}
 use Rattle.arrival_stairs.specs.Queues.{IsLeastSoFar}
-use Rattle.arrival_stairs.specs.declared.stays.Stay.{Stay}
+use Rattle.arrival_lines.specs.declared.queues.Stay.{Stay}
 use Rattle.arrival_stairs.proofs.Leasts.{begun, one_more}
 use Rattle.arrival_stairs.proofs.queues.least_stay.Goals as goal
 
@@ -14,7 +14,7 @@ loop-service-preserved c = λ bundles are steps_are walk.
     let services = c.args.services.now in
     let i = c.loop-service.service-index in
     let stay = c.stay_at.ensures bundles are steps_are walk.is (walk.ends i _ c.loop-service-test.true) in
-    subst (λ (found : Option Stay). IsLeastSoFar bundles services c.args.longest (i + 1) c.args.by_lines found) (sym c.lesser-least.ensures)
+    subst (λ (found : Option Stay). IsLeastSoFar bundles services c.args.longest (i + 1) c.args.by_lines found) (sym c.lesser_stay-least.ensures)
     (one_more bundles services c.args.longest c.args.by_lines i _ c.loop-service-test.true c.loop-service.least c.stay_at.result stay (c.loop-service.invariant bundles are steps_are walk))
 
 pub returns : goal.returns
