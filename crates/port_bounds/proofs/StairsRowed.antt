@@ -7,7 +7,7 @@ use Rattle.std.proofs.lemmas.Bool.{cases_lt}
 use Rattle.std.proofs.lemmas.List.{get_or-map, length-map}
 use Rattle.std.proofs.lemmas.List.Sums.{get_or-le-sum_by}
 use Rattle.std.proofs.Math.Nat.{div-mul-le_self, mul-le-mul_left}
-use Rattle.std.proofs.Common.{arith, sym, ap, ◌∙◌, refl, subst, inl, inr}
+use Rattle.std.proofs.Common.{arith, sym, ap, ◌∙◌, subst, inl, inr}
 use Rattle.arrival_lines.specs.declared.grid.Part.{Part}
 use Rattle.arrival_lines.specs.declared.grid.Queue.{Queue}
 use Rattle.arrival_lines.specs.declared.grid.Service.{Service}
@@ -27,9 +27,6 @@ use Rattle.arrival_stairs.specs.Queues.{IsLeastOfBoth}
 use Rattle.port_bounds.specs.declared.stair_arrivals.StairArrivals.{StairArrivals}
 use Rattle.port_bounds.proofs.StairsHeld.{at_line}
 use Rattle.port_bounds.specs.StairRows.{IsLeastStairRow, IsStairRow, IsStairRowBy}
-
-pub row_empty : (port : Port) (queues : List StairsIn) (q : ℕ) → (stairs_at queues q).longest ≡ 0 → IsStairRow port queues q (Some record { delay = 0; backlog = 0 })
-row_empty port queues q h = subst (λ (l : ℕ). IsStairRowBy port queues q l (stairs_at queues q).bundles (Some record { delay = 0; backlog = 0 })) (sym h) refl
 
 pub row_known : (port : Port) (queues : List StairsIn) (q : ℕ) (bundles : List Bundle) (row : Option Queue) → 0 < (stairs_at queues q).longest
     → (stairs_at queues q).bundles ≡ Some bundles → IsLeastStairRow port queues q bundles row → IsStairRow port queues q row

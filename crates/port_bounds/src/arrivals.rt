@@ -1,6 +1,6 @@
 //! What arrives at the queues of a port.
 
-ghost use Rattle.std.specs.Prelude.{◌≡◌, ◌*◌, ◌++◌, max, IfOk};
+ghost use Rattle.std.specs.Prelude.{◌≡◌, ◌++◌, max, IfOk};
 ghost use Rattle.std.specs.Option.{option_map};
 ghost use Rattle.port_bounds.specs.Incoming.{incoming, joined_parts, longest_frame_of, longest_frames_of, AddsParts};
 ghost use Rattle.port_bounds.specs.Ranges.{AreInRange};
@@ -79,11 +79,4 @@ pub(crate) fn longest_together(queues: &[Arrivals]) -> u64
         sum += queue.longest;
     }
     sum
-}
-
-/// The product.
-pub(crate) fn times(a: u64, b: u64) -> u128
-    ensures { result ≡ a * b }
-{
-    a as u128 * b as u128
 }

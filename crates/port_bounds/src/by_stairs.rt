@@ -2,7 +2,7 @@
 
 ghost use Rattle.std.specs.Prelude.{◌≡◌, ◌<◌, Some, length, IfOk};
 ghost use Rattle.port_bounds.specs.Incoming.{incoming};
-ghost use Rattle.port_bounds.specs.StairsIncoming.{AreStairsInRange, line_incomings, stairs_at, stairs_in};
+ghost use Rattle.port_bounds.specs.StairsIncoming.{AreStairsInRange, ArriveAt, line_incomings, stairs_at, stairs_in};
 ghost use Rattle.port_bounds.specs.StairPromises.{StairRowsAreHeld};
 ghost use Rattle.port_bounds.specs.StairRows.{IsStairRow, AreStairRows};
 ghost use Rattle.tree_network.specs.Networks.{PortIsInRange, queues_of};
@@ -24,11 +24,7 @@ fn known_row(
     q: usize,
     bundles: &[Bundle],
 ) -> Result<Option<Queue>, AllocError>
-    requires port { PortIsInRange port.now }
-    requires count { length queues.now ≡ queues_of port.now.discipline }
-    requires range { AreStairsInRange (stairs_in queues.now) }
-    requires lines { incoming by_lines.now ≡ line_incomings (stairs_in queues.now) }
-    requires same { length by_lines.now ≡ length queues.now }
+    requires arriving { ArriveAt port.now queues.now by_lines.now }
     requires inside { q < length queues.now }
     requires known { (stairs_at (stairs_in queues.now) q).bundles ≡ Some bundles.now }
     requires some { 0 < (stairs_at (stairs_in queues.now) q).longest }
@@ -59,11 +55,7 @@ fn stair_row(
     by_lines: &[Arrivals],
     q: usize,
 ) -> Result<Option<Queue>, AllocError>
-    requires port { PortIsInRange port.now }
-    requires count { length queues.now ≡ queues_of port.now.discipline }
-    requires range { AreStairsInRange (stairs_in queues.now) }
-    requires lines { incoming by_lines.now ≡ line_incomings (stairs_in queues.now) }
-    requires same { length by_lines.now ≡ length queues.now }
+    requires arriving { ArriveAt port.now queues.now by_lines.now }
     requires inside { q < length queues.now }
     ensures { IfOk result (IsStairRow port.now (stairs_in queues.now) q) }
 {

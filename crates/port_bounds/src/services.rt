@@ -7,9 +7,9 @@ ghost use Rattle.port_bounds.specs.Ranges.{AreInRange};
 ghost use Rattle.port_bounds.specs.Services.{AreAll, IsLeft, IsServiceOf, round_robin_share};
 ghost use Rattle.tree_network.specs.Networks.{PortIsInRange, queues_of, longest_frame};
 
-use crate::arrivals::{Arrivals, GRAINS, longest_of, longest_together, times, together};
+use crate::arrivals::{Arrivals, GRAINS, longest_of, longest_together, together};
 use arrival_lines::{
-    Gate, Service, gate_service, late_service, left_services, share_service, steps,
+    Gate, Service, gate_service, late_service, left_services, share_service, steps, times,
 };
 use std::alloc::{AllocError, Global};
 use tree_network::{Discipline, Port};
