@@ -1,35 +1,26 @@
 -- Curves of rounded numbers: a stair of a lesser gap and a greater jitter is nowhere below, a service of a lesser rate, a
 -- greater latency, a greater cycle and a lesser slot nowhere above.
 use Rattle.std.specs.Prelude.{◌≡◌, ℕ, suc, ◌<◌, ◌≤◌, pos, Bool, true, false, cond}
-use Rattle.std.proofs.Common.{arith, refl, sym, ap, ◌∙◌, subst, inl, inr}
+use Rattle.std.proofs.Common.{arith, refl, inl, inr}
 use Rattle.std.proofs.lemmas.Bool.{cases_lt}
 use Rattle.rational.specs.Rational.{ℚ, int, ◌+ℚ◌, ◌-ℚ◌, ◌*ℚ◌, ◌/ℚ◌, ◌≤ℚ◌, ◌<ℚ◌, le_q}
 use Rattle.rational.specs.MinMax.{max_q}
-use Rattle.rational.specs.Extended.{Ext, ◌≤ₑ◌}
+use Rattle.rational.specs.Extended.{◌≤ₑ◌}
 use Rattle.rational.specs.declared.Extended.TheVariants.{Fin}
 use Rattle.rational.specs.Whole.{whole_part}
-use Rattle.rational.proofs.Integers.{nat_le, nat_lt_out, nat_nonneg}
-use Rattle.rational.proofs.Laws.{div_mul, not_zero, le_or_lt, le_of_lt, le_trans, le_lt_trans, le_refl, le_of_mul, mul_zero, mul_sub, mul_le_mul, mul_le_mul_right}
+use Rattle.rational.proofs.Integers.{nat_le, nat_nonneg}
+use Rattle.rational.proofs.Laws.{div_mul, not_zero, le_or_lt, le_of_lt, le_trans, le_refl, le_of_mul, mul_zero, mul_sub, mul_le_mul, mul_le_mul_right}
 use Rattle.rational.proofs.Linear.{with2, with3, with4, with5}
 use Rattle.rational.proofs.MinMax.{max_q_ge_left, max_q_ge_right, max_q_le, max_q_mono}
 use Rattle.rational.proofs.Over.{le_q_in}
 use Rattle.rational.proofs.Quotients.{div_mono, div_nonneg}
-use Rattle.rational.proofs.Whole.{whole_le, whole_gt, whole_small}
+use Rattle.rational.proofs.Whole.{whole_gt}
 use Rattle.min_plus.specs.Formulas.{stair_value, rate_latency_value, gate_value}
 use Rattle.min_plus.specs.Functions.{zero_q}
 use Rattle.min_plus.specs.Pointwise.{excess}
 use Rattle.min_plus.specs.WholeUp.{whole_up}
-
--- ---- whole parts
-whole_rises : (x y : ℚ) → x ≤ℚ y → whole_part x ≤ whole_part y
-whole_rises x y l = elim (le_or_lt (int (pos 0)) x) [
-  | inl on ↦
-      let below = nat_lt_out (whole_part x) (suc (whole_part y)) (le_lt_trans (le_trans (whole_le x on) l) (whole_gt y)) in
-      omega arith
-  | inr under ↦
-      let none = whole_small x (with2 x (int (pos 0)) (λ c. omega (arith, c.le, c.lt, c.same))) in
-      omega arith
-]
+use Rattle.arrival_lines.proofs.StairAndGate.{up_le}
+use Rattle.tree_runs.proofs.Stairs.{whole_rises}
 
 -- over a lesser divisor
 div_more : (x d e : ℚ) → zero_q ≤ℚ x → zero_q <ℚ e → e ≤ℚ d → x /ℚ d ≤ℚ x /ℚ e
@@ -68,13 +59,6 @@ up_over x = of_test (le_q x (int (pos (whole_part x)))) refl
     of_test : (b : Bool) → le_q x (int (pos (whole_part x))) ≡ b → x ≤ℚ int (pos (cond b (whole_part x) (suc (whole_part x))))
     of_test true e = le_q_in x (int (pos (whole_part x))) e
     of_test false e = le_of_lt (whole_gt x)
-
-up_most : (x : ℚ) → whole_up x ≤ suc (whole_part x)
-up_most x = of_test (le_q x (int (pos (whole_part x)))) (whole_part x)
-  where
-    of_test : (b : Bool) (n : ℕ) → cond b n (suc n) ≤ suc n
-    of_test true n = omega arith
-    of_test false n = omega arith
 
 -- how long it is open in a time, at least
 abbrev open_for : (cycle slot t : ℚ) → ℚ
@@ -120,7 +104,7 @@ module _ (cycle slot longer shorter t : ℚ) (some : zero_q <ℚ cycle) (more : 
   -- else its slots are over
   over : j < m → t -ℚ int (pos j) *ℚ (longer -ℚ shorter) ≤ℚ int (pos n) *ℚ slot
   over h =
-      let few : j ≤ n = let most = up_most (t /ℚ cycle) in omega (arith, most, h) in
+      let few : j ≤ n = let most = up_le (t /ℚ cycle) in omega (arith, most, h) in
       let a = mul_le_mul_right longer (le_of_lt longer_some) (up_over (t /ℚ longer)) in
       let b = div_mul t longer (not_zero longer longer_some) in
       let c = mul_sub (int (pos j)) longer shorter in

@@ -2,7 +2,7 @@
 use Rattle.std.specs.Prelude.{Some, None, ◌≡◌, ℕ, zero, suc, ◌<◌, List, [], ◌∷◌, All, length, map, get_or, set}
 use Rattle.std.proofs.Common.{refl, ap, ◌∙◌, subst, arith}
 use Rattle.rational.specs.Rational.{ℚ, ◌<ℚ◌}
-use Rattle.run_laws.specs.Allows.{Allows, MayArrive, MayWork, MayVisit, KeepsPace, next_card, IsComplete}
+use Rattle.run_laws.specs.Allows.{Allows, MayArrive, MayVisit, KeepsPace, next_card, IsComplete}
 use Rattle.run_laws.specs.Cards.{ServerStep, Arrives, Works, Leaves, Visits}
 use Rattle.run_laws.specs.Lawful.{RunState, AllowsInRun, run_start, state_at}
 use Rattle.run_laws.specs.Next.{next}
