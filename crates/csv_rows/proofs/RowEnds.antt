@@ -3,7 +3,7 @@ use Rattle.std.proofs.Common.{◌≡◌, ◌≢◌, ◌≤◌, ◌<◌, ◌+◌,
 use Rattle.std.specs.Prelude.{◌==◌, ◌||◌, IfSome}
 use Rattle.std.proofs.lemmas.Bool.{ne_eqb}
 use Rattle.std.proofs.lemmas.List.{drop_more, drop_all}
-use Rattle.std.proofs.lemmas.List.Sums.{count_by-le-length, sum_by-cons}
+use Rattle.std.proofs.lemmas.List.Sums.{sum_by-cons}
 use Rattle.csv.specs.Machine.{Read, step, is_end, next_record, fields_after, field_after}
 use Rattle.csv.specs.Reading.{default_config, is_bom, strip_bom}
 use Rattle.csv.specs.declared.parser.State.{State}
@@ -226,22 +226,3 @@ leaves_next s left rest rest_after read between same next leaves =
     let reads : next_record default_config st.StartRecord [] [] (from_row rest) ≡ Some read =
     ap (next_record default_config st.StartRecord [] []) same ∙ (sym (next_from s left between) ∙ next) in
     rw reads at leaves
-
--- ---- how many lines
-pub no_more_lines : (text : List ℕ) → length (strip_bom text) ≤ length text
-unfolding strip_bom
-no_more_lines [] = omega arith
-no_more_lines (x ∷ []) = omega arith
-no_more_lines (x ∷ y ∷ []) = omega arith
-no_more_lines (x ∷ y ∷ z ∷ text) = by (is_bom x y z)
-  where
-    by : (b : Bool) → length (cond b text (x ∷ y ∷ z ∷ text)) ≤ length (x ∷ y ∷ z ∷ text)
-    by true = omega arith
-    by false = omega arith
-
--- there are no more ends of lines in a text than bytes
-pub few_lines : (text : List ℕ) → line_ends (strip_bom text) ≤ length text
-few_lines text =
-    let few = count_by-le-length is_line_feed (strip_bom text) in
-    let size = no_more_lines text in
-    omega (arith, few, size)

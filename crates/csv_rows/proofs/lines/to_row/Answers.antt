@@ -14,22 +14,22 @@ returns-in_default-clause-row c =
 pub loop-at-preserved : goal.loop-at-preserved
 loop-at-preserved c =
     let inv = c.loop-at.invariant in
-    let text = c.args.text.now in
-    let at = c.loop-at.at in
-    let within = c.loop-at-test.true in
+    let more = one_more c.args.text.now c.loop-at.at c.loop-at-test.true in
+    let same = none_more c.args.text.now c.loop-at.at c.loop-at-test.true in
+    let over = past_end c.args.text.now c.loop-at.at c.loop-at-test.true in
     elim c.match-text-at.branch [
       | in-10 w ↦
-          let more = one_more text at within (rw w.in-10.is refl) in
+          let ends = more (rw w.in-10.is refl) in
           record {
-            row = inv.row ∙ past_end text at within (rw w.in-10.is refl);
-            counted = rw w.lines-is (omega (arith, more, inv.counted));
+            row = inv.row ∙ over (rw w.in-10.is refl);
+            counted = rw w.lines-is (omega (arith, ends, inv.counted));
             few = rw w.lines-is (omega (arith, inv.few));
           }
       | in-13 w ↦
-          let more = none_more text at within (rw w.in-13.is refl) in
+          let ends = same (rw w.in-13.is refl) in
           record {
-            row = inv.row ∙ past_end text at within (rw w.in-13.is refl);
-            counted = rw w.lines-is (omega (arith, more, inv.counted));
+            row = inv.row ∙ over (rw w.in-13.is refl);
+            counted = rw w.lines-is (omega (arith, ends, inv.counted));
             few = rw w.lines-is (omega (arith, inv.few));
           }
     ]
