@@ -1,8 +1,18 @@
 -- Digits behind the point, and the least count of them that writes a number whole.
-use Rattle.std.proofs.Common.{◌≡◌, ◌≢◌, ◌≤◌, ◌<◌, ◌+◌, ◌-◌, ◌/◌, ◌%◌, ◌++◌, ℕ, zero, suc, Bool, true, false, List, [], ◌∷◌, ap, refl, ◌∙◌, sym, arith, Some, None, Option}
+use Rattle.std.proofs.Common.{◌≡◌, ◌≢◌, ◌≤◌, ◌<◌, ◌+◌, ◌-◌, ◌/◌, ◌%◌, ◌++◌, ℕ, zero, suc, Bool, true, false, ◌∷◌, ap, refl, ◌∙◌, arith, Some, None}
 use Rattle.std.specs.List.{find, range_with_len}
 use Rattle.std.specs.Fmt.{decimal}
-use Rattle.bounds_report.specs.Numbers.{with_digits}
+use Rattle.std.specs.Prelude.{codes}
+use Rattle.bounds_report.specs.Numbers.{thousandths, with_digits}
+
+-- the digits behind the point are those of the rest
+pub digits_of_rest : (n : ℕ) → decimal (n / 1000) ++ (codes "." ++ (decimal (n % 1000 / 100) ++ (decimal (n % 1000 / 10 % 10) ++ decimal (n % 1000 % 10)))) ≡ thousandths n
+unfolding thousandths
+digits_of_rest n =
+    let first : n % 1000 / 100 ≡ n / 100 % 10 = omega arith in
+    let second : n % 1000 / 10 % 10 ≡ n / 10 % 10 = omega arith in
+    let third : n % 1000 % 10 ≡ n % 10 = omega arith in
+    rw (first, second, third) refl
 
 range_next : (from count : ℕ) → 0 < count → range_with_len from count ≡ from ∷ range_with_len (from + 1) (count - 1)
 range_next from zero h = absurd (omega arith)

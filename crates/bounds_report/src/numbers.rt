@@ -11,14 +11,13 @@ use std::alloc::{AllocError, Global};
 use table_cells::Amount;
 
 // Puts so many thousandths behind a text, with three digits behind the point.
-#[tactic(auto, unfolding(crate::specs::Numbers::thousandths))]
+#[tactic(auto, using(crate::proofs::Digits::digits_of_rest))]
 fn add_long(into: &mut String, number: u128) -> Result<(), AllocError>
     ensures { OnOk result (string_bytes into.new ≡ string_bytes into.old ++ spec.thousandths number) }
 {
     let whole = number / 1000;
-    let first = number / 100 % 10;
-    let second = number / 10 % 10;
-    let third = number % 10;
+    let rest = number % 1000;
+    let (first, second, third) = (rest / 100, rest / 10 % 10, rest % 10);
     write!(into, "{whole}.{first}{second}{third}")
 }
 

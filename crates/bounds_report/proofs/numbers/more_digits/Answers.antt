@@ -1,4 +1,4 @@
-use Rattle.std.proofs.Common.{◌≡◌, ◌≤◌, ◌∙◌, sym, arith}
+use Rattle.std.proofs.Common.{◌∙◌, sym, arith}
 use Rattle.bounds_report.specs.Numbers.{is_written}
 use Rattle.bounds_report.proofs.Digits.{found_here, found_later, found_nowhere}
 use Rattle.bounds_report.proofs.numbers.more_digits.Goals as goal
