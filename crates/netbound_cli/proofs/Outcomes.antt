@@ -445,26 +445,6 @@ pub may_reply_text : {I : Type 0} (content : I → Told) (faults : I → ℕ) (l
 may_reply_text content faults last_fault names asked request inputs reply same text =
     inl (ap text_of same ∙ text, sym (append-nil (names inputs)))
 
--- ---- where memory is refused
-pub no_outcome : {I : Type 0} (content : I → Told) (faults : I → ℕ) (last_fault : I → List ℕ) (names : I → List (List ℕ))
-    (asked : Option Request)
-    (before after : I) (status : ℕ) (old new : Output) → status ≡ 5
-    → Outcome content faults last_fault names asked before after status old new
-no_outcome content faults last_fault names asked before after status old new five =
-    record {
-      usage = λ e. absurd (other status 5 2 five (omega arith) e);
-      text = any_told (text_of asked) _ (λ reply. inr (inr five));
-      read_fault = λ e. absurd (other status 5 3 five (omega arith) e);
-      malformed = λ e. absurd (other status 5 1 five (omega arith) e);
-      cycle = λ e. absurd (other status 5 8 five (omega arith) e);
-      missed = λ e. absurd (other status 5 9 five (omega arith) e);
-      done = λ e. absurd (other status 5 0 five (omega arith) e);
-      told = any_told (call_of asked) _ (λ c. any_told (all_told (content before) (files_of c)) _
-          (λ files. inr (inr (inr five))));
-      complete = any_told (call_of asked) _ (λ c. any_told (all_told (content before) (files_of c)) _
-          (λ files fit can. inr (inr (inr (inr five)))));
-    }
-
 -- ---- no reply has the status of a write that failed, or of want of memory
 text_status : (asked : Option Request) (reply : Reply) → text_of asked ≡ Some reply
     → (reply.status ≡ 0) ⊎ (reply.status ≡ 2)

@@ -1,7 +1,10 @@
-use Rattle.std.proofs.Common.{◌≢◌, ℕ, refl, sym, ◌∙◌, subst, inl, arith}
+use Rattle.std.proofs.Common.{◌≢◌, ℕ, refl, sym, ◌∙◌, subst, inl, inr, arith}
 use Rattle.bounds_command.specs.View.{reply_of}
+use Rattle.netbound_cli.specs.Calls.{call_of, files_of, text_of}
 use Rattle.netbound_cli.specs.words.Requests.{request_of, texts}
-use Rattle.netbound_cli.proofs.Outcomes.{known_status, never, no_outcome, not_failed, outcome}
+use Rattle.outside.specs.Files.{all_told}
+use Rattle.replies.proofs.FileLemmas.{any_told}
+use Rattle.netbound_cli.proofs.Outcomes.{known_status, never, not_failed, outcome}
 use Rattle.netbound_cli.specs.Reply.{Gives, IsOnBoth, output}
 use Rattle.netbound_cli.proofs.top_call.run.Goals as goal
 
@@ -54,24 +57,22 @@ returns-in-Ok g c =
 
 pub returns-in-Err : goal.returns-in-Err
 returns-in-Err g c =
-    let all = no_outcome g.I.Inputs.content g.I.Inputs.faults g.I.Inputs.last_fault g.I.Inputs.asked
-    (request_of (texts c.args.words.now))
-    c.args.inputs.now c.answered.new.inputs c.code-in-Err.result (output g.K.Sink.written g.K.Sink.puts c.args.out.now)
-    (output g.K.Sink.written g.K.Sink.puts c.args.out.now) c.code-in-Err.ensures in
+    let content = g.I.Inputs.content c.args.inputs.now in
+    let request = request_of (texts c.args.words.now) in
     let five = c.code-in-Err.ensures in
     record {
       known = inl (omega (arith, five));
-      usage = all.usage;
-      text = all.text;
-      read_fault = all.read_fault;
-      malformed = all.malformed;
-      cycle = all.cycle;
-      missed = all.missed;
-      done = all.done;
+      usage = λ two. absurd (cc);
+      text = any_told (text_of request) _ (λ reply. inr (inr five));
+      read_fault = λ three. absurd (cc);
+      malformed = λ one. absurd (cc);
+      cycle = λ eight. absurd (cc);
+      missed = λ nine. absurd (cc);
+      done = λ zero. absurd (cc);
       write_fault = λ four. absurd (cc);
       no_memory = λ is. refl;
-      told = all.told;
-      complete = all.complete;
+      told = any_told (call_of request) _ (λ call. any_told (all_told content (files_of call)) _ (λ files. inr (inr (inr five))));
+      complete = any_told (call_of request) _ (λ call. any_told (all_told content (files_of call)) _ (λ files fit can. inr (inr (inr (inr five)))));
       answers = λ four no_five. absurd (no_five five);
       asked = c.answered.ensures.asked;
       asked_all = λ both. absurd ((not_failed c.code-in-Err.result both).1 five);
