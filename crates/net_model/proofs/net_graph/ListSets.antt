@@ -1,5 +1,5 @@
 -- Lists of lists: one of them is changed.
-use Rattle.std.proofs.Common.{◌≡◌, ◌≢◌, ℕ, ◌<◌, List, [], length, get_or, set, sym, ◌∙◌, ap, subst, inl, inr, get_or-set_same, get_or-set_other}
+use Rattle.std.proofs.Common.{◌≡◌, ◌≢◌, ℕ, ◌<◌, List, [], length, get_or, set, sym, ◌∙◌, ap, inl, inr, get_or-set_same, get_or-set_other}
 use Rattle.std.specs.declared.vec.Vec.{Vec}
 use Rattle.std.proofs.lemmas.Bool.{cases_eq}
 use Rattle.std.proofs.lemmas.List.{map-set, get_or-map}
@@ -20,11 +20,7 @@ set_elsewhere lists i j xs h = get_or-set_other lists i j xs [] h
 -- what holds of the new list, and of each other one
 pub each_after_set : (P : ℕ → List ℕ → Type 0) (lists : List (List ℕ)) (i : ℕ) (xs : List ℕ) → i < length lists → P i xs
     → ((j : ℕ) → j ≢ i → P j (list_at lists j)) → (j : ℕ) → P j (list_at (set lists i xs) j)
-each_after_set P lists i xs h new others j =
-    let Q : List ℕ → Type 0 = λ l. P j l in
-    elim (cases_eq j i) [
-      | inl e ↦ let S : ℕ → Type 0 = λ k. P k (list_at (set lists i xs) k) in
-          let R : List ℕ → Type 0 = λ l. P i l in
-          subst S (sym e) (subst R (sym (set_at lists i xs h)) new)
-      | inr e ↦ subst Q (sym (set_elsewhere lists i j xs e)) (others j e)
-    ]
+each_after_set P lists i xs h new others j = elim (cases_eq j i) [
+  | inl e ↦ rw (e, set_at lists i xs h) new
+  | inr e ↦ rw (set_elsewhere lists i j xs e) (others j e)
+]
