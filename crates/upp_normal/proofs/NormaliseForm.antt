@@ -19,7 +19,7 @@ use Rattle.upp_curve.specs.Steady.{Repeats, last_line}
 use Rattle.upp_curve.specs.Unrolled.{upto}
 use Rattle.upp_curve.specs.affine_segment.Pieces.{StartsAtZero, Each, HasStart}
 use Rattle.upp_curve.specs.Normal.{NoMerge}
-use Rattle.upp_normal.specs.Normalising.{IsPart, IsMerged, IsTwoPeriods, IsTurning, IsLowest, IsLeast, IsFormOf, IsOneLine, OnGrids, OnGridsUnlessLine, cycle_values, second_copy, ended}
+use Rattle.upp_normal.specs.Normalising.{IsPart, IsMerged, IsTwoPeriods, Turned, IsLowest, IsLeast, IsFormOf, IsOneLine, OnGrids, OnGridsUnlessLine, cycle_values, second_copy, ended}
 use Rattle.upp_curve.proofs.Steady.{cut_past}
 use Rattle.upp_curve.proofs.Unique.{upto_none, upto_some}
 use Rattle.upp_curve.proofs.affine_segment.PieceIn.{value_at_start, value_past, read_one}
@@ -126,56 +126,63 @@ same_rule : (f g : ℚ → Ext) (s p q : ℚ) → ((t : ℚ) → f t ≡ g t) �
 same_rule f g s p q same R = record { rule = λ t h. same (t +ℚ p) ∙ R.rule t h ∙ ap (λ v. v +ₑ Fin q) (sym (same t)) }
 
 -- the tail of a curve whose period begins and ends at a break is not one line
-pub turning_line : (c : Cycle) (f : ℚ → Ext) → IsTurning c f → (l : Option Line) → ¬ ((t : ℚ) → c.rank ≤ℚ t → cycle_values c t ≡ line_value l t)
-turning_line c f T l is =
-    let ps = c.pieces.items in
-    let K = cut_of ps c.rank c.period T.cycle in
-    let P = period_is ps c.rank c.period c.rise T.cycle T.break K in
-    let R = subst (λ x. Repeats (cycle_values c) x c.period c.rise) (sym K.at) (repeated_rule (read ps) c.rank c.period c.rise T.cycle.some) in
-    not_one_line (cycle_values c) c.period c.rise K.first K.rest T.cycle.some P R l (λ t h. is t (subst (λ x. x ≤ℚ t) K.at h))
+pub turning_line : (ps : List Piece) (first : ℕ) (r d c : ℚ) (f : ℚ → Ext) → Turned ps first r d c f → (l : Option Line)
+    → ¬ ((t : ℚ) → r ≤ℚ t → repeated (read ps) r d c t ≡ line_value l t)
+turning_line ps first r d c f T l is =
+    let K = cut_of ps r d T.cycle in
+    let P = period_is ps r d c T.cycle T.break K in
+    let R = subst (λ x. Repeats (repeated (read ps) r d c) x d c) (sym K.at) (repeated_rule (read ps) r d c T.cycle.some) in
+    not_one_line (repeated (read ps) r d c) d c K.first K.rest T.cycle.some P R l (λ t h. is t (subst (λ x. x ≤ℚ t) K.at h))
 
-pub repeating_form : (times values : ℕ) (c m : Cycle) (ps : List Piece) (low d u : ℚ) → IsLeast times values c m → IsLowest m.pieces.items ps low d u m.rank (cycle_values m) → d ≡ m.period → u ≡ m.rise → IsFormOf (periodic ps low d u) (cycle_values c)
-repeating_form times values c m ps low d u L W dm um =
+-- with the least rank: f's rule holds from r on for no fraction of the period, and from there on f is not one line
+pub lowest_form : (given ps : List Piece) (low d u r : ℚ) (f : ℚ → Ext) → IsLowest given ps low d u r f → int (pos 0) ≤ℚ r
+    → ((n : ℕ) → 2 ≤ n → ¬ (Repeats f r (d /ℚ int (pos n)) (u /ℚ int (pos n))))
+    → ((l : Option Line) → ¬ ((t : ℚ) → r ≤ℚ t → f t ≡ line_value l t)) → IsFormOf (periodic ps low d u) f
+lowest_form given ps low d u r f W on shorter bent =
     let g = value_at (periodic ps low d u) in
-    let T = own_turning m (cycle_values c) L.turned in
     let C = W.cycle in
-    -- what g repeats from its rank m repeats from its own
+    -- what g repeats from its rank f repeats from r
     let down = λ (e v : ℚ) (h : int (pos 0) ≤ℚ e) (R : Repeats g low e v).
-    repeats_after (cycle_values m) low m.rank e v W.lower
-    (transfer (cycle_values m) g low e v C.nonneg h (λ t k. sym (periodic_is ps low d u t ∙ W.same t k)) R) in
+    repeats_after f low r e v W.lower (transfer f g low e v C.nonneg h (λ t k. sym (periodic_is ps low d u t ∙ W.same t k)) R) in
     record {
       normal = record {
         raw = record { starts = C.starts; tail = record { nonneg = C.nonneg; some = C.some; starts = C.inside } };
         rank_is_start = C.has;
         no_merge = C.none;
         tail = record {
-          least_period = λ n a R.
-              let some_n : 0 < n = omega arith in
-              let repeats_shorter = down (d /ℚ int (pos n)) (u /ℚ int (pos n)) (le_of_lt (share_some d n some_n C.some)) R in
-              L.least n a (subst (λ x. Repeats (cycle_values m) m.rank (x /ℚ int (pos n)) (m.rise /ℚ int (pos n))) dm (subst (λ y. Repeats (cycle_values m) m.rank (d /ℚ int (pos n)) (y /ℚ int (pos n))) um repeats_shorter));
+          least_period = λ n a R. shorter n a (down (d /ℚ int (pos n)) (u /ℚ int (pos n)) (le_of_lt (share_some d n (omega arith) C.some)) R);
           least_rank =
               each_map (λ p. p.x <ℚ low → ¬ (Repeats (repeated (read ps) low d u) p.x d u)) (λ p. p.x <ℚ low → ¬ (Repeats g p.x d u))
               (λ p h l R. h l (same_rule (repeated (read ps) low d u) g p.x d u (λ t. sym (periodic_is ps low d u t)) R)) ps W.least;
-          not_one_line = λ l is.
-              turning_line m (cycle_values m) T l (λ t h.
-              sym (W.same t (le_trans T.cycle.nonneg h)) ∙ sym (periodic_is ps low d u t) ∙ is t (le_trans W.lower h));
+          not_one_line = λ l is. bent l (λ t h. sym (W.same t (le_trans on h)) ∙ sym (periodic_is ps low d u t) ∙ is t (le_trans W.lower h));
         };
       };
-      same = λ t h. periodic_is ps low d u t ∙ W.same t h ∙ L.turned.same t h;
+      same = λ t h. periodic_is ps low d u t ∙ W.same t h;
     }
 
+pub repeating_form : (times values : ℕ) (c m : Cycle) (ps : List Piece) (low d u : ℚ) → IsLeast times values c m → IsLowest m.pieces.items ps low d u m.rank (cycle_values m) → d ≡ m.period → u ≡ m.rise → IsFormOf (periodic ps low d u) (cycle_values c)
+repeating_form times values c m ps low d u L W dm um =
+    let T = own_turning m (cycle_values c) L.turned in
+    let shorter = λ (n : ℕ) (a : 2 ≤ n) (R : Repeats (cycle_values m) m.rank (d /ℚ int (pos n)) (u /ℚ int (pos n))).
+    L.least n a (subst (λ x. Repeats (cycle_values m) m.rank (x /ℚ int (pos n)) (m.rise /ℚ int (pos n))) dm (subst (λ y. Repeats (cycle_values m) m.rank (d /ℚ int (pos n)) (y /ℚ int (pos n))) um R)) in
+    let form = lowest_form m.pieces.items ps low d u m.rank (cycle_values m) W T.cycle.nonneg shorter
+    (turning_line m.pieces.items m.first m.rank m.period m.rise (cycle_values m) T) in
+    record { normal = form.normal; same = λ t h. form.same t h ∙ L.turned.same t h }
+
 -- ---- the grids of a curve's periods
-pub turning_grids : (times values : ℕ) (f : ℚ → Ext) (r : ℚ) (c : Cycle) → Repeats f r c.period c.rise → r ≤ℚ c.rank → OnGridsUnlessLine times values f r c.period c.rise → IsTurning c f
-    → OnGrids times values (cycle_values c) c.rank c.period c.rise
-turning_grids times values f r c F low G T =
-    let bent : ¬ (IsOneLine f r) = λ (l, is). turning_line c f T l (λ t h. T.same t (le_trans T.cycle.nonneg h) ∙ is t (le_trans low h)) in
+-- where the fractions of f's period from some time on stand on the grids, unless f is one line from there, those of the curve do
+pub turning_grids : (times values : ℕ) (f : ℚ → Ext) (s : ℚ) (ps : List Piece) (first : ℕ) (r d c : ℚ) → Repeats f s d c → s ≤ℚ r
+    → OnGridsUnlessLine times values f s d c → Turned ps first r d c f → OnGrids times values (repeated (read ps) r d c) r d c
+turning_grids times values f s ps first r d c F low G T =
+    let g = repeated (read ps) r d c in
+    let bent : ¬ (IsOneLine f s) = λ (l, is). turning_line ps first r d c f T l (λ t h. T.same t (le_trans T.cycle.nonneg h) ∙ is t (le_trans low h)) in
     let on = G bent in
     let some = T.cycle.some in
-    let up = λ (n : ℕ) (h : 1 ≤ n) (R : Repeats (cycle_values c) c.rank (c.period /ℚ int (pos n)) (c.rise /ℚ int (pos n))).
-    let e = c.period /ℚ int (pos n) in
-    let v = c.rise /ℚ int (pos n) in
-    let e_some = le_of_lt (share_some c.period n h some) in
-    rule_extends f r c.period c.rise c.rank e v F (transfer f (cycle_values c) c.rank e v T.cycle.nonneg e_some (λ t k. sym (T.same t k)) R) some e_some in
+    let up = λ (n : ℕ) (h : 1 ≤ n) (R : Repeats g r (d /ℚ int (pos n)) (c /ℚ int (pos n))).
+    let e = d /ℚ int (pos n) in
+    let v = c /ℚ int (pos n) in
+    let e_some = le_of_lt (share_some d n h some) in
+    rule_extends f s d c r e v F (transfer f g r e v T.cycle.nonneg e_some (λ t k. sym (T.same t k)) R) some e_some in
     record { time = λ n h R. on.time n h (up n h R); value = λ n h R. on.value n h (up n h R) }
 
 -- ---- two periods of a given curve

@@ -207,7 +207,7 @@ pub record Searching (times values : ℕ) (c found : Cycle) (parts rest : ℕ) :
   pub none : (q : ℕ) → 2 ≤ q → q < parts → ¬ (q ∣ rest)
   pub only : (n : ℕ) → 1 ≤ n → Repeats (cycle_values c) c.rank (found.period /ℚ int (pos n)) (found.rise /ℚ int (pos n)) → n ∣ rest
 
-some_pieces_from : (ps : List Piece) (r d : ℚ) → IsCycle ps r d → 0 < length (from r ps)
+pub some_pieces_from : (ps : List Piece) (r d : ℚ) → IsCycle ps r d → 0 < length (from r ps)
 some_pieces_from ps r d C = let K = cut_of ps r d C in longer K.first K.rest (ap length K.from_is)
   where
     longer : (q : Piece) (qs : List Piece) → length (from r ps) ≡ length (q ∷ qs) → 0 < length (from r ps)

@@ -34,7 +34,7 @@ repeating-requires-clause-grids c =
     let f = repeated (read ps) a.rank a.period a.rise in
     let rule = subst (λ d. Repeats f a.rank d k.rise) (sym S.3) (subst (λ u. Repeats f a.rank a.period u) (sym S.4) (repeated_rule (read ps) a.rank a.period a.rise c.requires.two.some)) in
     let grids = subst (λ d. OnGridsUnlessLine a.times a.values f a.rank d k.rise) (sym S.3) (subst (λ u. OnGridsUnlessLine a.times a.values f a.rank a.period u) (sym S.4) c.requires.grids) in
-    turning_grids a.times a.values f a.rank k rule S.1 grids S.5
+    turning_grids a.times a.values f a.rank k.pieces.items k.first k.rank k.period k.rise rule S.1 grids S.5
 
 pub repeating-requires-clause-room : goal.repeating-requires-clause-room
 repeating-requires-clause-room c =
