@@ -1,6 +1,6 @@
 -- Where the simulation gauge is below 2 ^ 120, the numbers of a stated run are small.
 use Rattle.std.proofs.Common.{◌≡◌, ℕ, zero, suc, ◌<◌, ◌≤◌, ◌*◌, ◌-◌, ◌^◌, List, [], ◌∷◌, length, get_or, refl, sym, ap, ◌∙◌, subst, arith, inl, inr, Some, None}
-use Rattle.std.specs.Prelude.{Option, pos, negsuc, ℤ, nat_abs, nat_lt}
+use Rattle.std.specs.Prelude.{Option, pos, nat_abs, nat_lt}
 use Rattle.std.specs.List.{AllByRecursion}
 use Prim.Native.Nat.{◌∣◌}
 use Rattle.std.proofs.lemmas.Bool.{cases_eq, eq-eqb, ne_eqb}
@@ -11,7 +11,7 @@ use Rattle.rational.specs.Fractions.{frac_self, frac-same}
 use Rattle.rational.specs.Grid.{Whole}
 use Rattle.rational.specs.Ratio.{IsSmall}
 use Rattle.rational.proofs.Linear.{with1, with2, with4, with5}
-use Rattle.rational.proofs.Laws.{le_trans, le_of_lt, lt_le_trans, mul_le_mul, mul_le_mul_right, mul_nonneg, mul_comm, one_mul, not_zero, num_some}
+use Rattle.rational.proofs.Laws.{le_trans, le_of_lt, lt_le_trans, mul_le_mul, mul_le_mul_right, mul_nonneg, mul_comm, one_mul, not_zero}
 use Rattle.rational.proofs.Quotients.{div_nonneg, div_mono}
 use Rattle.rational.proofs.Integers.{mul_whole, int_mul, nat_le}
 use Rattle.rational.proofs.Multiples.{lcm_left, lcm_right, lcm_pos}
@@ -19,6 +19,7 @@ use Rattle.rational.proofs.Grid.{whole_int, whole_mul, whole_div, within_nonneg}
 use Rattle.rational.proofs.Sizes.{largest_part, small_on_grid}
 use Rattle.rational.proofs.MinMax.{max_q_ge_left, max_q_ge_right}
 use Rattle.upp_limits.specs.Limits.{Sizes, gauge_of}
+use Rattle.upp_limits.proofs.WholeCounts.{some_top}
 use Rattle.run_laws.specs.Cards.{whole}
 use Rattle.run_laws.specs.Routes.{Hop, PassesServer, link_at, route_of}
 use Rattle.run_laws.proofs.Sizes.{whole_le, whole_nonneg}
@@ -79,17 +80,9 @@ is_below z s h =
     }
 
 -- ---- numerators
-pub num_pos : (x : ℚ) → int (pos 0) <ℚ x → 0 < nat_abs x.num
-num_pos x h = by_num x.num refl
-  where
-    by_num : (z : ℤ) → x.num ≡ z → 0 < nat_abs z
-    by_num (pos zero) e = absurd (num_some x (not_zero x h) e)
-    by_num (pos (suc n)) e = omega arith
-    by_num (negsuc n) e = omega arith
-
 pub common_num_pos : (xs : List ℚ) → AllByRecursion (λ x. int (pos 0) <ℚ x) xs → 0 < common_num xs
 common_num_pos [] h = omega arith
-common_num_pos (x ∷ xs) h = lcm_pos (nat_abs x.num) (common_num xs) (num_pos x h.0) (common_num_pos xs h.1)
+common_num_pos (x ∷ xs) h = lcm_pos (nat_abs x.num) (common_num xs) (some_top x h.0) (common_num_pos xs h.1)
 
 pub common_num_each : (xs : List ℚ) (x : ℚ) → In xs x → nat_abs x.num ∣ common_num xs
 common_num_each [] x h = absurd h

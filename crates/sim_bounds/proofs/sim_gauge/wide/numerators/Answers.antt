@@ -8,7 +8,7 @@ use Rattle.net_model.specs.Networks.{NetServer}
 use Rattle.net_model.specs.Views.{servers_of}
 use Rattle.sim_bounds.specs.Gauge.{common_num}
 use Rattle.sim_bounds.proofs.sim_gauge.Rates.{rate_at, next_rate}
-use Rattle.sim_bounds.proofs.Gauged.{num_pos}
+use Rattle.upp_limits.proofs.WholeCounts.{some_top}
 use Rattle.sim_bounds.proofs.sim_gauge.wide.numerators.Goals as goal
 
 pub common_multiple-common-requires : goal.common_multiple-common-requires
@@ -17,7 +17,7 @@ common_multiple-common-requires c =
     let x = c.index-servers-i.result in
     let size : c.numerator_of.result ≡ nat_abs x.rate.num = c.numerator_of.ensures ∙ ap (λ (t : Server). nat_abs t.rate.num) (sym c.index-servers-i.is) in
     let inside : c.loop-i.i - 1 < length xs = omega arith in
-    subst (λ n. 0 < n) (sym size) (num_pos x.rate (rate_at xs (c.loop-i.i - 1) x c.requires inside c.index-servers-i.is))
+    subst (λ n. 0 < n) (sym size) (some_top x.rate (rate_at xs (c.loop-i.i - 1) x c.requires inside c.index-servers-i.is))
 
 pub loop-i-init : goal.loop-i-init
 loop-i-init c =
