@@ -14,12 +14,8 @@ use std::test::Fail;
 use upp_curve::{Curve, Tail};
 use upp_limits::OpFault;
 
-fn deconvolved<L: Ledger>(
-    alloc: Global,
-    blank: Blank,
-    f: &Curve,
-    g: &Curve,
-) -> Result<Curve, OpFault>
+// The deconvolution of f by g, for finite g.
+fn divided<L: Ledger>(alloc: Global, blank: Blank, f: &Curve, g: &Curve) -> Result<Curve, OpFault>
     requires name { blank.name ≡ L.name }
     requires parts { blank.parts ≡ L.parts }
     requires one { 0 < blank.parts }
@@ -68,7 +64,7 @@ fn one_that_ends(alloc: Global) -> Result<Curve, OpFault> {
 fn curves_that_are_infinite_at_times(rt: HostRuntime) -> Result<(), Fail> {
     let f = infinite_for_a_while(rt.alloc())?;
     let g = bucket(rt.alloc(), 0, 0)?;
-    let c = deconvolved::<Brand>(rt.alloc(), Blank::new(1), &f, &g)?;
+    let c = divided::<Brand>(rt.alloc(), Blank::new(1), &f, &g)?;
     for t in [0, 1, 2] {
         assert!(rt; value(&c, whole(t)).is_none(), "at {t}");
     }
@@ -76,12 +72,12 @@ fn curves_that_are_infinite_at_times(rt: HostRuntime) -> Result<(), Fail> {
         assert!(rt; value(&c, whole(t)) == Some(whole(5)), "at {t}");
     }
     let again = infinite_again_and_again(rt.alloc())?;
-    let never = deconvolved::<Brand>(rt.alloc(), Blank::new(1), &again, &g)?;
+    let never = divided::<Brand>(rt.alloc(), Blank::new(1), &again, &g)?;
     assert!(rt; value(&never, whole(0)).is_none());
     assert!(rt; value(&never, whole(7)).is_none());
     let ended = one_that_ends(rt.alloc())?;
     let rising = bucket(rt.alloc(), 0, 1)?;
-    let none = deconvolved::<Brand>(rt.alloc(), Blank::new(1), &ended, &rising)?;
+    let none = divided::<Brand>(rt.alloc(), Blank::new(1), &ended, &rising)?;
     assert!(rt; value(&none, whole(0)).is_none());
     assert!(rt; value(&none, whole(2)).is_none());
     Ok(())

@@ -56,10 +56,10 @@ fn service<L: Ledger>(
     requires one { 0 < blank.parts }
 {
     let mut steps = Steps::<L>::new(blank);
-    if !beta.is_finite() {
+    if !beta.is_rising() {
         return Err(OpFault::TooMany);
     }
-    if !beta.is_rising() {
+    if !beta.is_finite() {
         return Err(OpFault::TooMany);
     }
     if !cross.is_rising() {
