@@ -179,7 +179,7 @@ pub record IsRise (z : Sizes) (c : SpecCurve) (d : ℚ) : Type 0 where
   pub whole : Whole (grid_of z) (rise_over c d)
   pub within : Within (times_largest 3 z) (rise_over c d)
 
-number_small : (n : ℕ) → n < 2 ^ 127 → IsSmall (int (pos n))
+pub number_small : (n : ℕ) → n < 2 ^ 127 → IsSmall (int (pos n))
 number_small n h =
     small_on_grid 1 (int (pos n)) (int (pos n)) (omega arith) (omega arith) (subst (λ x. x ≤ℚ int (pos largest_part)) (sym (mul_one (int (pos n)))) (nat_le n largest_part (omega (arith, h))))
     (whole_int 1 (pos n)) (within_nonneg (int (pos n)) (int (pos n)) (nat_nonneg n) (le_refl (int (pos n))))
