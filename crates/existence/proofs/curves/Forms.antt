@@ -28,14 +28,14 @@ use Rattle.upp_limits.specs.declared.own_window.OwnNumbers.{OwnNumbers}
 use Rattle.upp_normal.specs.Normalising.{IsMerged, IsTwoPeriods, IsLine, IsFront, OnGridsUnlessLine, TailOnGrids, ended, first_start, past, second_copy}
 use Rattle.upp_normal.specs.Room.{Room, PiecesHaveRoom, TwoHaveRoom, TurnHasRoom, TailHasRoom}
 use Rattle.upp_normal.proofs.NormaliseCuts.{front_self, front_upto}
-use Rattle.upp_normal.proofs.NormaliseForm.{merged_cons, two_periods_of, grids_through, infinite_form, affine_form, ended_starts, ended_reads}
+use Rattle.upp_normal.proofs.NormaliseForm.{merged_cons, two_periods_of, grids_through, infinite_form, affine_form, ended_starts, ended_reads, turning_grids}
 use Rattle.upp_normal.proofs.NormaliseGrids.{merge_of}
 use Rattle.upp_normal.proofs.NormaliseOwn.{own_found}
 use Rattle.upp_normal.proofs.NormalisePeriods.{two_periods_are}
 use Rattle.upp_normal.proofs.NormaliseRank.{Last, last_is}
 use Rattle.upp_normal.proofs.NormaliseShape.{line_for_ever, line_before, turns_at, start_late}
 use Rattle.upp_normal.proofs.NormaliseWhole.{infinite_curve, affine_curve, pieces_readable, two_room, turn_room, merged_room, more_room, longer_room, both_room, ended_room}
-use Rattle.existence.proofs.curves.Periods.{HasForm, turning_grids, turning_form}
+use Rattle.existence.proofs.curves.Periods.{HasForm, turning_form}
 
 -- ---- the form of another function with the same values, and of other numbers
 through : {F G : Type 0} (f g : ℚ → Ext) → ((t : ℚ) → int (pos 0) ≤ℚ t → f t ≡ g t) → (G → F) → HasForm f F → HasForm g G

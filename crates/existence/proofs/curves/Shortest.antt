@@ -1,6 +1,6 @@
 -- The shortest period of a curve whose period begins and ends at a break: its whole fractions are tried from the largest number of parts down.
-use Rattle.std.specs.Prelude.{◌≡◌, ℕ, zero, suc, ◌*◌, ◌+◌, ◌/◌, ◌%◌, ◌<◌, ◌≤◌, pos, List, ◌∷◌, length, ◌⊎◌}
-use Rattle.std.proofs.Common.{arith, sym, ap, refl, subst, inl, inr, take}
+use Rattle.std.specs.Prelude.{◌≡◌, ℕ, zero, suc, ◌*◌, ◌+◌, ◌/◌, ◌%◌, ◌<◌, ◌≤◌, pos, List, length, ◌⊎◌}
+use Rattle.std.proofs.Common.{arith, sym, refl, subst, inl, inr, take}
 use Rattle.std.proofs.lemmas.Bool.{cases_lt}
 use Prim.Native.Nat.{◌∣◌}
 use native.Mathlib.Nat.{mul-div_cancel', le_of_dvd, dvd_of_mod-eq-zero, mod-eq-zero_of_dvd, mul-le-mul_left}
@@ -16,8 +16,8 @@ use Rattle.upp_curve.proofs.Normal.{transfer}
 use Rattle.upp_curve.proofs.Repeats.{repeated_rule}
 use Rattle.upp_normal.specs.Normalising.{IsCycle, EndsInBreak, Turned, GoesOn, IsFront}
 use Rattle.upp_normal.proofs.NormaliseCuts.{front_self, front_take}
-use Rattle.upp_normal.proofs.NormaliseDivided.{cut_of, divides_count, goes_on_if, cut_turned}
-use Rattle.upp_normal.proofs.NormaliseLeast.{share_back, share_some, share_twice, whole_share}
+use Rattle.upp_normal.proofs.NormaliseDivided.{divides_count, goes_on_if, cut_turned}
+use Rattle.upp_normal.proofs.NormaliseLeast.{share_back, share_some, share_twice, some_pieces_from, whole_share}
 use Rattle.existence.proofs.curves.Deciding.{pieces_same_or}
 
 -- a share of n parts
@@ -134,18 +134,12 @@ search ps r d c T (suc n) none = elim (share_or ps r d c n T) [
     by_next lacks q h (inl l) = none q l
     by_next lacks q h (inr l) = let e : suc (suc n) ≡ q = omega arith in subst (NoShare ps r d c) e lacks
 
-some_pieces : (ps : List Piece) (r d : ℚ) → IsCycle ps r d → 0 < length (from r ps)
-some_pieces ps r d C = let K = cut_of ps r d C in longer K.first K.rest (ap length K.from_is)
-  where
-    longer : (q : Piece) (qs : List Piece) → length (from r ps) ≡ length (q ∷ qs) → 0 < length (from r ps)
-    longer q qs e = omega (arith, e)
-
 pub shortest_of : (ps : List Piece) (r d c : ℚ) → Turns ps r d c → Shortest ps r d c
 shortest_of ps r d c T = search ps r d c T (length (from r ps)) none
   where
     none : (q : ℕ) → suc (length (from r ps)) < q → NoShare ps r d c q
     none zero h R = absurd (omega arith)
-    none (suc q) h R = let l = le_of_dvd (some_pieces ps r d T.cycle) (parts_divide ps r d c q T R) in omega (arith, l, h)
+    none (suc q) h R = let l = le_of_dvd (some_pieces_from ps r d T.cycle) (parts_divide ps r d c q T R) in omega (arith, l, h)
 
 -- the parts are a period of the whole
 pub part_repeats : (ps : List Piece) (r d c : ℚ) (S : Shortest ps r d c) → Repeats (values ps r d c) r (share d S.parts) (share c S.parts)

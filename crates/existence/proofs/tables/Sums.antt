@@ -1,12 +1,6 @@
 -- Sums of cells that are curves: their calls have answers.
-use Rattle.std.proofs.Common.{◌≡◌, ℕ, zero, suc, ◌<◌, ◌≤◌, ◌^◌, List, [], ◌∷◌, ◌++◌, map, pos, refl, sym, subst, arith, inl, inr}
+use Rattle.std.proofs.Common.{◌≡◌, ℕ, zero, suc, ◌≤◌, ◌^◌, List, [], ◌∷◌, ◌++◌, map, refl, sym, subst, arith, inl, inr}
 use Rattle.std.specs.Prelude.{Option, Some, None}
-use Rattle.rational.specs.Rational.{int, ◌≤ℚ◌}
-use Rattle.rational.specs.Ratio.{IsSmall}
-use Rattle.rational.proofs.Sizes.{largest_part, small_on_grid}
-use Rattle.rational.proofs.Grid.{whole_int, within_nonneg}
-use Rattle.rational.proofs.Integers.{nat_le, nat_nonneg}
-use Rattle.rational.proofs.Laws.{mul_one, le_refl}
 use Rattle.upp_limits.specs.declared.op_kind.OpKind.TheVariants.{Sum, Min}
 use Rattle.upp_curve.specs.Curve.{SpecCurve}
 use Rattle.upp_curve.specs.Curves.{IsCurve}
@@ -16,6 +10,7 @@ use Rattle.run_laws.specs.Cards.{whole}
 use Rattle.run_laws.proofs.Members.{Has, has_left, has_right}
 use Rattle.curve_call.specs.Answers.{IsMadeBy}
 use Rattle.curve_call.specs.Calls.{Applies}
+use Rattle.curve_call.proofs.CurveRises.{number_small}
 use Rattle.net_model.specs.Networks.{Net, NetFlow}
 use Rattle.net_model.specs.Accepted.{IsAccepted}
 use Rattle.net_bounds.proofs.Cells.{curve_map}
@@ -54,13 +49,6 @@ module _ (at : CellTable) where
   sum_found (c ∷ cs) each = sum_from_found (value_of c) cs (value_found at c IsCurve (each c (inl refl))) (λ d h. each d (inr h))
 
 -- ---- the longest packet of some hops
--- as curve_call has it for its own proofs
-number_small : (n : ℕ) → n < 2 ^ 127 → IsSmall (int (pos n))
-number_small n h =
-    small_on_grid 1 (int (pos n)) (int (pos n)) (omega arith) (omega arith)
-    (subst (λ x. x ≤ℚ int (pos largest_part)) (sym (mul_one (int (pos n)))) (nat_le n largest_part (omega (arith, h))))
-    (whole_int 1 (pos n)) (within_nonneg (int (pos n)) (int (pos n)) (nat_nonneg n) (le_refl (int (pos n))))
-
 packet_most : (net : Net) (i : ℕ) (o : Option NetFlow) → IsAccepted net → flow_at net i ≡ o → packet_of o ≤ 2 ^ 24
 packet_most net i None a e = omega arith
 packet_most net i (Some f) a e = (flow_kept net i f a e).packet.1
