@@ -207,26 +207,26 @@ fn push_branch(
 fn hang(
     table: &mut LinkTable,
     link: usize,
-    path: Vec<usize>,
+    path: &[usize],
     deadline: Option<Amount>,
 ) -> Result<(), RowError>
     requires there { link < length table.old.keys.items }
-    requires some { 0 < length path.items }
-    requires own { HasOwnPorts path.items }
+    requires some { 0 < length path.now }
+    requires own { HasOwnPorts path.now }
     requires kept { AreTrees table.old }
-    ensures value { Makes result (spec.with_path link (spec.links_view table.old) path.items deadline)
+    ensures value { Makes result (spec.with_path link (spec.links_view table.old) path.now deadline)
         (spec.links_view table.new) }
     ensures kept { OnOk result (AreTrees table.new) }
 {
     let tree = &mut table.trees[link];
-    tree.grow(&path)?;
-    let node = tree.place_of_last(&path);
+    tree.grow(path)?;
+    let node = tree.place_of_last(path);
     push_branch(
         &mut table.passed,
         &mut table.branches,
         link,
         node,
-        &path,
+        path,
         deadline,
     )?;
     Ok(())
@@ -285,7 +285,7 @@ fn add_branch(
 {
     let frame = frame_on_wire(row.largest_frame, overhead);
     let path = path_in(alloc, ports, row.priority as usize, frame, &row.path, table)?;
-    hang(table, link, path, row.deadline)
+    hang(table, link, &path, row.deadline)
 }
 
 // Puts a row that is read behind the others: its link, where it is new, and its branch.

@@ -1,7 +1,7 @@
 use Rattle.std.specs.declared.alloc.Global.{Global}
 use Rattle.std.proofs.Common.{Bor, Vec, List, ℕ, map, ap, sym, subst}
 use Rattle.document_rows.specs.LinkRows.{link_view}
-use Rattle.document_tables.specs.Links.{links_view, with_branch}
+use Rattle.document_tables.specs.Links.{links_view, with_branch, with_path}
 use Rattle.document_tables.specs.Ports.{ports_view}
 use Rattle.document_tables.specs.Tables.{Makes}
 use Rattle.document_tables.proofs.Steps.{handed_on}
@@ -27,4 +27,5 @@ returns-clause-value c =
     let before = links_view c.args.table.now in
     let row = link_view c.args.row.now in
     let same = path_read ports c.args.overhead c.args.link before row c.in_ok-path.path.items c.frame_on_wire-frame.result (map seen c.deref.result.now) c.frame_on_wire-frame.ensures (ap (map seen) c.deref.ensures.value) c.in_ok-path.ensures.value in
-    subst (λ read. Makes c.hang.result read (links_view c.hang.new.table)) (sym same) c.hang.ensures.value
+    let hung = subst (λ (path : List ℕ). Makes c.hang.result (with_path c.args.link before path row.deadline) (links_view c.hang.new.table)) c.deref-2.ensures.value c.hang.ensures.value in
+    subst (λ read. Makes c.hang.result read (links_view c.hang.new.table)) (sym same) hung
