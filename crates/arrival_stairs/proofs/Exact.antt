@@ -25,7 +25,8 @@ use Rattle.arrival_stairs.specs.declared.stairs.Bundle.{Bundle}
 use Rattle.arrival_stairs.proofs.Risen.{bundle_rises}
 use Rattle.arrival_stairs.proofs.Frozen.{picosecond_of, bundles_are, all_higher}
 use Rattle.arrival_stairs.proofs.Starts.{some_bundle}
-use Rattle.arrival_stairs.proofs.Tails.{no_line, line_tail, tail_is, tail_there}
+use Rattle.arrival_heights.proofs.Concave.{no_line}
+use Rattle.arrival_stairs.proofs.Tails.{line_tail, tail_is, tail_there}
 use Rattle.arrival_heights.proofs.Ceilings.{ceil_most}
 use Rattle.arrival_stairs.proofs.NoJumps.{none_at_0}
 use Rattle.arrival_stairs.proofs.UnderLines.{bundles_below_lines}

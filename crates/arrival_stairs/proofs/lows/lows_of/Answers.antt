@@ -1,6 +1,6 @@
 use Rattle.std.proofs.Common.{◌-◌, length, arith, refl}
 use Rattle.arrival_stairs.proofs.Lowest.{low_more}
-use Rattle.arrival_stairs.proofs.Tails.{no_line}
+use Rattle.arrival_heights.proofs.Concave.{no_line}
 use Rattle.arrival_stairs.proofs.lows.lows_of.Goals as goal
 
 pub loop-i-preserved : goal.loop-i-preserved
