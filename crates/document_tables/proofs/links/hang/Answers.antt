@@ -3,6 +3,7 @@ use Rattle.std.proofs.Common.{◌≡◌, ◌<◌, ◌≤◌, refl, ◌++◌, ◌
 use Rattle.document_tables.specs.Grids.{end_of}
 use Rattle.document_tables.specs.Links.{BranchText, branch_view, links_view, paths_of, with_path}
 use Rattle.document_tables.specs.LinkTrees.{IsHung}
+use Rattle.document_tables.specs.Stops.{Stop}
 use Rattle.document_tables.specs.Trees.{IsTreeOf, last_of}
 use Rattle.document_tables.specs.declared.links.Branch.{Branch}
 use Rattle.document_tables.specs.declared.trees.Tree.{Tree}
@@ -57,7 +58,7 @@ returns-clause-kept c =
     let ports = c.in_ok-push_branch.ensures.ports in
     let branches = ap₂ (λ (ns : List ℕ) (bs : List Branch). map (branch_view ns) bs) ports c.in_ok-push_branch.ensures.branch
     ∙ branch_more passed path items new (λ k b h. (kept.hung k b h).inside) refl refl in
-    let node = c.place_of_last-node.ensures ∙ ap₂ end_of grown.1.stops refl in
+    let node = c.place_of_last-node.ensures ∙ ap (λ (stops : List Stop). end_of stops path) grown.1.stops in
     let same = length-set trees c.args.link c.grow.new.self in record {
       names = kept.names;
       trees = omega (arith, same, kept.trees);
