@@ -23,7 +23,7 @@ use Rattle.upp_curve.specs.declared.affine_segment.line.Line.{Line}
 use Rattle.upp_curve.specs.affine_segment.Values.{line_at, line_value}
 use Rattle.upp_limits.specs.Limits.{Sizes, gauge_of}
 use Rattle.upp_curve.specs.affine_segment.Fits.{LineFitsAt}
-use Rattle.upp_limits.specs.Sized.{grid_of, times_largest, ValueStands}
+use Rattle.upp_limits.specs.Sized.{IsSlope, grid_of, times_largest, ValueStands}
 pub use Rattle.upp_normal.specs.Crossings.{IsCrossing}
 use Rattle.upp_normal.specs.Operand.{AreLimited, OperandLine, OperandLineAt, answer_room}
 use Rattle.upp_normal.specs.Room.{top, IsRoom, TimeHasRoom, many, ValueInRoom, ValueHasRoom, LineInRoom, LineHasRoom}
@@ -379,29 +379,29 @@ pub nothing_over : (up down : ℚ) → down ≡ int (pos 0) → up /ℚ down ≡
 unfolding ◌/ℚ◌ inv_ℚ frac gcd gcd_steps
 nothing_over up down e = ap (λ d. up /ℚ d) e ∙ mul_zero up
 
-pub crossing_small : (z : Sizes) (end : ℚ) (l m : Line) → AreLimited z end → OperandLine z l → OperandLine z m → IsSmall ((m.icept -ℚ l.icept) /ℚ (l.slope -ℚ m.slope))
-crossing_small z end l m A L M = elim (q_same_or (l.slope -ℚ m.slope) (int (pos 0))) [
+some_largest : (z : Sizes) → int (pos 0) ≤ℚ times_largest 1 z
+some_largest z = subst (λ y. int (pos 0) ≤ℚ y) (sym (int_mul (pos 1) (pos z.largest))) (nat_nonneg (1 * z.largest))
+
+-- a gap on the grid, within k times the largest value, over that of two slopes
+pub crossing_fits : (z : Sizes) (end : ℚ) (k : ℕ) (up r s : ℚ) → AreLimited z end → k * z.largest * grid_of z ≤ top → Whole (grid_of z) up → Within (times_largest k z) up → IsSlope z r → IsSlope z s → IsSmall (up /ℚ (r -ℚ s))
+crossing_fits z end k up r s A room on within R S = elim (q_same_or (r -ℚ s) (int (pos 0))) [
   | inl e ↦
-      subst IsSmall (sym (nothing_over (m.icept -ℚ l.icept) (l.slope -ℚ m.slope) e))
+      subst IsSmall (sym (nothing_over up (r -ℚ s) e))
       (small_number z end 1 (int (pos 0)) A.sizes (wide_narrow z end A) (omega arith) (whole_int (grid_of z) (pos 0)) (within_nonneg (times_largest 1 z) (int (pos 0)) (le_refl (int (pos 0))) (some_largest z)))
   | inr h ↦
-      let t = tight z end A in
-      let s = t.sums in
-      let p = t.steep in
+      let p = (tight z end A).steep in
       let d = grid_of z in
-      let up = m.icept -ℚ l.icept in
-      let down = l.slope -ℚ m.slope in
-      let wide : times_largest 4 z *ℚ int (pos d) ≤ℚ int (pos top) =
-      subst (λ y. y ≤ℚ int (pos top)) (sym (ap (λ y. y *ℚ int (pos d)) (int_mul (pos 4) (pos z.largest)) ∙ int_mul (pos (4 * z.largest)) (pos d))) (nat_le (4 * z.largest * d) top (omega (arith, s))) in
+      let wide : times_largest k z *ℚ int (pos d) ≤ℚ int (pos top) = subst (λ y. y ≤ℚ int (pos top)) (sym (ap (λ y. y *ℚ int (pos d)) (int_mul (pos k) (pos z.largest)) ∙ int_mul (pos (k * z.largest)) (pos d))) (nat_le (k * z.largest * d) top room) in
       let steep : int (pos z.steepness) *ℚ int (pos d) ≤ℚ int (pos top) = subst (λ y. y ≤ℚ int (pos top)) (sym (int_mul (pos z.steepness) (pos d))) (nat_le (z.steepness * d) top (omega (arith, p))) in
-      let on : Whole d down = whole_weaken z.ds d down (dvd-mul_left z.ds (z.dv * z.dt)) (whole_sub z.ds l.slope m.slope L.slope.whole M.slope.whole) in
-      quotient_on_grid d (times_largest 4 z) (int (pos z.steepness)) up down (grid_pos z end A.sizes) h wide steep (whole_sub d m.icept l.icept M.icept L.icept) on
-      (subst (λ v. Within v up) (many_more z 2 2) (within_sub (times_largest 2 z) (times_largest 2 z) m.icept l.icept M.within L.within))
-      (halves_apart (int (pos z.steepness)) l.slope m.slope L.slope.within M.slope.within)
+      let apart : Whole d (r -ℚ s) = whole_weaken z.ds d (r -ℚ s) (dvd-mul_left z.ds (z.dv * z.dt)) (whole_sub z.ds r s R.whole S.whole) in
+      quotient_on_grid d (times_largest k z) (int (pos z.steepness)) up (r -ℚ s) (grid_pos z end A.sizes) h wide steep on apart within (halves_apart (int (pos z.steepness)) r s R.within S.within)
 ]
-  where
-    some_largest : (z : Sizes) → int (pos 0) ≤ℚ times_largest 1 z
-    some_largest z = subst (λ y. int (pos 0) ≤ℚ y) (sym (int_mul (pos 1) (pos z.largest))) (nat_nonneg (1 * z.largest))
+
+pub crossing_small : (z : Sizes) (end : ℚ) (l m : Line) → AreLimited z end → OperandLine z l → OperandLine z m → IsSmall ((m.icept -ℚ l.icept) /ℚ (l.slope -ℚ m.slope))
+crossing_small z end l m A L M =
+    let n = (tight z end A).sums in
+    let within = subst (λ v. Within v (m.icept -ℚ l.icept)) (many_more z 2 2) (within_sub (times_largest 2 z) (times_largest 2 z) m.icept l.icept M.within L.within) in
+    crossing_fits z end 4 (m.icept -ℚ l.icept) l.slope m.slope A (omega (arith, n)) (whole_sub (grid_of z) m.icept l.icept M.icept L.icept) within L.slope M.slope
 
 pub crossing_not_wide : (z : Sizes) (end : ℚ) (l m : Line) (w : Wide) → AreLimited z end → OperandLine z l → OperandLine z m → ¬ (IsWideCross l m w)
 crossing_not_wide z end l m w A L M (inl a) = a.1 (operand_lines_fit z end m l A M L).apart

@@ -30,7 +30,8 @@ same_reading p q (s ∷ ss) t e = elim (le_or_lt s.x t) [
   | inr l ↦ read_stop q s ss t l ∙ e ∙ sym (read_stop p s ss t l)
 ]
 
-skip : (p q : Piece) (qs : List Piece) (t : ℚ) → Continues p q → p.x <ℚ q.x → RisesFrom q.x qs → read (p ∷ q ∷ qs) t ≡ read (p ∷ qs) t
+-- it reads the same without it
+pub skip : (p q : Piece) (qs : List Piece) (t : ℚ) → Continues p q → p.x <ℚ q.x → RisesFrom q.x qs → read (p ∷ q ∷ qs) t ≡ read (p ∷ qs) t
 skip p q qs t C h r = elim (le_or_lt q.x t) [
   | inr l ↦ read_stop p q qs t l ∙ sym (read_first p qs q.x t r (le_of_lt l))
   | inl l ↦ read_go p q qs t l ∙ same_reading p q qs t (same_value p q t C h l)

@@ -37,7 +37,7 @@ pub struct Stretch {
 }
 
 /// How pieces that go on with their last line do so from t.
-fn plain_stretch(pieces: &[Piece], t: Frac) -> Stretch
+pub fn plain_stretch(pieces: &[Piece], t: Frac) -> Stretch
     requires starts { StartsAtZero pieces.now }
     requires time { int (pos 0) ≤ℚ t }
     requires fits { ReadFits pieces.now t }

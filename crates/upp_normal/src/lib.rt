@@ -13,7 +13,7 @@ mod steadiness;
 mod two_periods;
 mod unrolling;
 
-pub use ahead::{Stretch, stretch_at};
+pub use ahead::{Stretch, plain_stretch, stretch_at};
 pub use laws::{gauge_never_falls, normal_form_is_unique, unrolled_pieces_are_counted};
 pub use merging::merged;
 pub use raw_curve::{RawCurve, normalise, normalise_on};

@@ -38,8 +38,8 @@ pub(crate) fn with_room(
 ) -> Result<Vec<Piece>, AllocError>
     ensures items { IfOk result (λ v. v.items ≡ pieces.now) }
 {
-    let mut kept = Vec::from_slice(alloc, pieces)?;
-    kept.reserve_exact(more)?;
+    let mut kept = Vec::with_capacity(alloc, pieces.len().saturating_add(more))?;
+    kept.extend_from_slice(pieces)?;
     Ok(kept)
 }
 
