@@ -6,18 +6,17 @@ use Rattle.rational.specs.MinMax.{min_q}
 use Rattle.rational.specs.Grid.{Whole}
 use Rattle.rational.specs.Extended.{Ext}
 use Rattle.rational.specs.declared.Extended.TheVariants.{Fin, Inf}
-use Rattle.rational.proofs.Laws.{le_of_lt, le_of_not_lt}
+use Rattle.rational.proofs.Laws.{le_of_lt, le_of_not_lt, le_trans}
 use Rattle.rational.proofs.MinMax.{max_q_one, min_q_left, min_q_right}
 use Rattle.upp_curve.specs.affine_segment.Values.{line_value}
 use Rattle.upp_normal.specs.declared.ahead.Stretch.{Stretch}
-use Rattle.upp_curve.specs.affine_segment.Fits.{LineFitsAt}
 use Rattle.upp_limits.specs.Limits.{Sizes}
 use Rattle.upp_normal.specs.Operand.{AreLimited}
 use Rattle.upp_normal.specs.Ahead.{GridValue}
 use Rattle.upp_normal.proofs.AnswerRoom.{operand_line_fits, operand_line_value, values_fit, value_difference_stands}
 use Rattle.curve_call.specs.declared.gaps.Gap.{Gap}
 use Rattle.curve_call.specs.declared.gaps.Gap.TheVariants.{NoTime, Never, Is}
-use Rattle.curve_call.specs.GapSteps.{gap_of, larger, DifferenceFits, StretchStands, IsGapValue, GapStands, StretchSizes}
+use Rattle.curve_call.specs.GapSteps.{gap_of, larger, DifferenceFits, StretchStands, IsGapValue, GapStands, StretchSizes, gap_along, LineGapFits, GapFits}
 
 -- ---- tests
 pub earlier_left : (t : ℚ) (e : ℚ) → ¬ (e <ℚ t) → t ≡ min_q t e
@@ -32,17 +31,6 @@ pub differ : (z : Sizes) (last : ℚ) (x y : Ext) → AreLimited z last → Grid
 differ z last x Inf A h k = tt
 differ z last Inf (Fin y) A h k = tt
 differ z last (Fin x) (Fin y) A h k = (values_fit z last x y A h k).1
-
-pub start_differ : (z : Sizes) (last : ℚ) (f g : Stretch) → AreLimited z last → StretchStands z f → StretchStands z g → DifferenceFits f.at g.at
-start_differ z last f g A F G = differ z last f.at g.at A F.at G.at
-
-pub lines_differ : (z : Sizes) (last t : ℚ) (f g : Stretch) → AreLimited z last → StretchStands z f → StretchStands z g → Whole z.dt t → int (pos 0) ≤ℚ t → t ≤ℚ last
-    → DifferenceFits (line_value f.line t) (line_value g.line t)
-lines_differ z last t f g A F G on low high =
-    differ z last (line_value f.line t) (line_value g.line t) A (operand_line_value z last t f.line A F.line on low high) (operand_line_value z last t g.line A G.line on low high)
-
-pub line_fits : (z : Sizes) (last t : ℚ) (f : Stretch) → AreLimited z last → StretchStands z f → Whole z.dt t → int (pos 0) ≤ℚ t → t ≤ℚ last → LineFitsAt t f.line
-line_fits z last t f A F on low high = operand_line_fits z last t f.line A F.line on low high
 
 pub differ_as : (x y v w : Ext) → v ≡ x → w ≡ y → DifferenceFits x y → DifferenceFits v w
 differ_as x y v w e f h = subst (λ s. DifferenceFits s w) (sym e) (subst (DifferenceFits x) (sym f) h)
@@ -60,13 +48,31 @@ larger_stands z (Is x) NoTime h k = h
 larger_stands z (Is x) Never h k = tt
 larger_stands z (Is x) (Is y) h k = elim (max_q_one x y) [ inl e ↦ subst (IsGapValue z) (sym e) h | inr e ↦ subst (IsGapValue z) (sym e) k ]
 
-pub stretch_stands : (z : Sizes) (last t end : ℚ) (f g : Stretch) → StretchSizes z last f g t end → int (pos 0) ≤ℚ end
-    → GapStands z (larger (gap_of f.at g.at) (larger (gap_of (line_value f.line t) (line_value g.line t)) (gap_of (line_value f.line end) (line_value g.line end))))
-stretch_stands z last t end f g S low =
+pub stretch_stands : (z : Sizes) (last t end : ℚ) (f g : Stretch) → StretchSizes z last f g t end → t <ℚ end → GapStands z (gap_along f g t end)
+stretch_stands z last t end f g S some =
     let A = S.limited in
     let T = S.time in
     let high : t ≤ℚ last = le_of_lt T.before in
+    let low : int (pos 0) ≤ℚ end = le_trans T.nonneg (le_of_lt some) in
     larger_stands z _ _ (gap_stands z f.at g.at S.first.at S.second.at)
     (larger_stands z _ _
     (gap_stands z (line_value f.line t) (line_value g.line t) (operand_line_value z last t f.line A S.first.line T.whole T.nonneg high) (operand_line_value z last t g.line A S.second.line T.whole T.nonneg high))
     (gap_stands z (line_value f.line end) (line_value g.line end) (operand_line_value z last end f.line A S.first.line S.whole low S.high) (operand_line_value z last end g.line A S.second.line S.whole low S.high)))
+
+-- ---- the steps to it
+lines_gap : (z : Sizes) (last t : ℚ) (f g : Stretch) → AreLimited z last → StretchStands z f → StretchStands z g → Whole z.dt t → int (pos 0) ≤ℚ t → t ≤ℚ last → LineGapFits f.line g.line t
+lines_gap z last t f g A F G on low high = record {
+  first = operand_line_fits z last t f.line A F.line on low high;
+  second = operand_line_fits z last t g.line A G.line on low high;
+  gap =
+      differ z last (line_value f.line t) (line_value g.line t) A (operand_line_value z last t f.line A F.line on low high) (operand_line_value z last t g.line A G.line on low high);
+}
+
+pub stretch_fits : (z : Sizes) (last t end : ℚ) (f g : Stretch) → StretchSizes z last f g t end → t <ℚ end → GapFits f g t end
+stretch_fits z last t end f g S some =
+    let T = S.time in
+    record {
+      start = differ z last f.at g.at S.limited S.first.at S.second.at;
+      after = lines_gap z last t f g S.limited S.first S.second T.whole T.nonneg (le_of_lt T.before);
+      before = lines_gap z last end f g S.limited S.first S.second S.whole (le_trans T.nonneg (le_of_lt some)) S.high;
+    }

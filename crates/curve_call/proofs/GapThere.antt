@@ -2,15 +2,14 @@
 use Rattle.std.specs.Prelude.{ℕ, zero, suc, ◌<◌}
 use Rattle.std.proofs.Common.{arith, refl, inl, inr}
 use Rattle.rational.specs.Rational.{ℚ, ◌<ℚ◌}
-use Rattle.rational.proofs.Laws.{le_or_lt, le_trans, le_of_lt, lt_irrefl, lt_le_trans}
-use Rattle.upp_curve.specs.affine_segment.Values.{line_value}
+use Rattle.rational.proofs.Laws.{le_or_lt, lt_irrefl, lt_le_trans}
 use Rattle.upp_curve.specs.Curve.{SpecCurve, value_at}
 use Rattle.upp_limits.specs.Limits.{Sizes}
 use Rattle.upp_normal.specs.Ahead.{HasWindow, IsTimeIn}
 use Rattle.curve_call.specs.declared.gaps.Gap.{Gap}
 use Rattle.curve_call.specs.declared.gaps.Gap.TheVariants.{NoTime}
 use Rattle.curve_call.specs.Gaps.{InWindow, IsGap}
-use Rattle.curve_call.specs.GapSteps.{gap_of, larger}
+use Rattle.curve_call.specs.GapSteps.{larger, gap_along}
 use Rattle.curve_call.proofs.FoundCurves.{curve_goes}
 use Rattle.curve_call.proofs.GapParts.{stretch_gap_is}
 use Rattle.curve_call.proofs.GapSizes.{stretch_stands}
@@ -31,7 +30,7 @@ step z f g from end t gap V W T inv h =
     let fast = G.stretch in
     let next = next_time end slow.next fast.next in
     let N = next_is t end slow.next fast.next h F.goes.next G.goes.next in
-    let more = larger (gap_of slow.at fast.at) (larger (gap_of (line_value slow.line t) (line_value fast.line t)) (gap_of (line_value slow.line next) (line_value fast.line next))) in
+    let more = gap_along slow fast t next in
     record {
       next = next;
       past = N.past;
@@ -39,7 +38,7 @@ step z f g from end t gap V W T inv h =
       walk = walk_step f g from end t next slow.next fast.next gap more inv h F.goes.next G.goes.next F.times G.times refl (stretch_gap_is (value_at f) (value_at g) slow fast t next N.past F.goes G.goes N.first N.second)
           (λ w P Q R.
           let S = stretch_sizes w f g from end t next gap slow fast P Q R inv h F.goes.next G.goes.next F.times G.times (F.sizes w end P) (G.sizes w end Q) refl in
-          stretch_stands w end t next slow fast S (le_trans R.nonneg (le_trans inv.start (le_of_lt N.past))));
+          stretch_stands w end t next slow fast S N.past);
     }
 
 walk_on : (z : Sizes) (f g : SpecCurve) (from end t : ℚ) (gap : Gap) (n : ℕ) → HasWindow z end f → HasWindow z end g → IsTimeIn z end from → GapWalk f g from end t gap → steps_left f g from end t < n

@@ -2,19 +2,19 @@
 use Rattle.std.specs.Prelude.{◌≡◌, ◌-◌, ◌≤◌, ◌⊎◌, List, [], ◌∷◌, ◌++◌, length, Some, None, slice_get}
 use Rattle.std.proofs.Common.{arith, sym, ap, ◌∙◌, refl, subst, inl, inr}
 use Rattle.rational.specs.Rational.{ℚ, ◌≤ℚ◌, ◌<ℚ◌}
-use Rattle.rational.proofs.Laws.{antisym, lt_le_trans, le_or_lt, le_of_lt}
+use Rattle.rational.proofs.Laws.{le_or_lt, le_of_lt}
 use Rattle.upp_curve.specs.declared.affine_segment.line.Piece.{Piece}
 use Rattle.upp_curve.specs.Normal.{Continues}
 use Rattle.upp_curve.specs.Steady.{last_of}
-use Rattle.upp_curve.specs.affine_segment.Reading.{read, piece_value}
+use Rattle.upp_curve.specs.affine_segment.Reading.{read}
 use Rattle.upp_curve.specs.affine_segment.Values.{line_value}
 use Rattle.upp_curve.specs.affine_segment.Pieces.{RisesFrom}
-use Rattle.upp_curve.proofs.affine_segment.PieceIn.{value_past, value_at_start}
-use Rattle.upp_curve.proofs.affine_segment.PieceIn.{read_first, read_stop, read_go, read_one}
+use Rattle.upp_curve.proofs.affine_segment.PieceIn.{read_stop, read_go}
 use Rattle.upp_curve.proofs.affine_segment.PieceOrder.{rises_down}
 use Rattle.upp_curve.proofs.PieceLoops.{last_is}
 use Rattle.upp_normal.specs.Normalising.{IsPart}
 use Rattle.upp_normal.proofs.NormaliseForm.{each_part}
+use Rattle.upp_normal.proofs.NormaliseMerge.{skip}
 use Rattle.curve_call.specs.Lower.{IsLowerPiece, IsLowerOf}
 use Rattle.curve_call.specs.Joining.{GoesOnLast, JoinsAfter, JoinsTo}
 
@@ -47,28 +47,6 @@ pub joined_left : (all kept there : List Piece) (q : Piece) → there ≡ kept �
 joined_left all kept there q same (last, e, C) J = left_of all kept last q J (subst (λ z. slice_get z (length z - 1) ≡ Some last) same e) C
 
 -- ---- what they read as
--- a piece that goes on with p's line has p's values
-same_value : (p q : Piece) (t : ℚ) → Continues p q → p.x <ℚ q.x → q.x ≤ℚ t → piece_value q t ≡ piece_value p t
-same_value p q t C h l = elim (le_or_lt t q.x) [
-  | inl k ↦
-      let e : q.x ≡ t = antisym (l, k) in
-      subst (λ t. piece_value q t ≡ piece_value p t) e (value_at_start q ∙ C.0 ∙ sym (value_past p q.x h))
-  | inr k ↦ value_past q t k ∙ ap (λ z. line_value z t) C.1 ∙ sym (value_past p t (lt_le_trans h l))
-]
-
-same_reading : (p q : Piece) (qs : List Piece) (t : ℚ) → piece_value q t ≡ piece_value p t → read (q ∷ qs) t ≡ read (p ∷ qs) t
-same_reading p q [] t e = read_one q t ∙ e ∙ sym (read_one p t)
-same_reading p q (s ∷ ss) t e = elim (le_or_lt s.x t) [
-  | inl l ↦ read_go q s ss t l ∙ sym (read_go p s ss t l)
-  | inr l ↦ read_stop q s ss t l ∙ e ∙ sym (read_stop p s ss t l)
-]
-
-skip : (p q : Piece) (qs : List Piece) (t : ℚ) → Continues p q → p.x <ℚ q.x → RisesFrom q.x qs → read (p ∷ q ∷ qs) t ≡ read (p ∷ qs) t
-skip p q qs t C h r = elim (le_or_lt q.x t) [
-  | inr l ↦ read_stop p q qs t l ∙ sym (read_first p qs q.x t r (le_of_lt l))
-  | inl l ↦ read_go p q qs t l ∙ same_reading p q qs t (same_value p q t C h l)
-]
-
 -- those that are kept after p
 record IsKept (p : Piece) (ps kept : List Piece) : Type 0 where
   pub rises : RisesFrom p.x kept

@@ -52,3 +52,4 @@ pub mod LowerWindows
 pub mod JoinedPieces
 pub mod LowerLoop
 pub mod Existing
+pub mod StepsFit

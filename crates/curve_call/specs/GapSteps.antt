@@ -6,6 +6,9 @@ use Rattle.rational.specs.Ratio.{SumFits}
 use Rattle.rational.specs.Grid.{Whole, Within}
 use Rattle.rational.specs.Extended.{Ext}
 use Rattle.rational.specs.declared.Extended.TheVariants.{Fin, Inf}
+use Rattle.upp_curve.specs.declared.affine_segment.line.Line.{Line}
+use Rattle.upp_curve.specs.affine_segment.Values.{line_value}
+use Rattle.upp_curve.specs.affine_segment.Fits.{LineFitsAt}
 use Rattle.upp_normal.specs.declared.ahead.Stretch.{Stretch}
 use Rattle.upp_limits.specs.Limits.{Sizes}
 use Rattle.upp_limits.specs.Sized.{grid_of, times_largest}
@@ -33,6 +36,22 @@ abbrev pub DifferenceFits : Ext → Ext → Type 0
 DifferenceFits x Inf = Unit {0}
 DifferenceFits Inf (Fin y) = Unit {0}
 DifferenceFits (Fin x) (Fin y) = SumFits x (neg_ℚ y)
+
+-- by how much one stretch is above another from t up to `end`: where they start, after that, and before the end
+abbrev pub gap_along : Stretch → Stretch → ℚ → ℚ → Gap
+gap_along f g t end = larger (gap_of f.at g.at) (larger (gap_of (line_value f.line t) (line_value g.line t)) (gap_of (line_value f.line end) (line_value g.line end)))
+
+-- two lines have a value at t, and its difference fits
+pub record LineGapFits (l m : Option Line) (t : ℚ) : Type 0 where
+  pub first : LineFitsAt t l
+  pub second : LineFitsAt t m
+  pub gap : DifferenceFits (line_value l t) (line_value m t)
+
+-- the steps to it fit
+pub record GapFits (f g : Stretch) (t end : ℚ) : Type 0 where
+  pub start : DifferenceFits f.at g.at
+  pub after : LineGapFits f.line g.line t
+  pub before : LineGapFits f.line g.line end
 
 -- a time is not past another that may be missing
 abbrev pub IsUntil : ℚ → Option ℚ → Type 0

@@ -14,9 +14,10 @@ ghost use Rattle.curve_call.specs.Gaps.{InWindow, IsGap, IsGapUntil};
 ghost use Rattle.curve_call.specs.GapSteps.{
   gap_of,
   larger,
+  gap_along,
   DifferenceFits,
+  GapFits,
   IsUntil,
-  StretchSizes,
   GapStands,
   earlier_of,
 };
@@ -69,10 +70,10 @@ pub fn larger(a: Gap, b: Gap) -> Gap
 }
 
 /// The gap from t up to `end`, where neither goes on otherwise before that.
-fn stretch_gap(f: &Stretch, g: &Stretch, t: Frac, end: Frac) -> Gap
-    requires sizes { (z : Sizes) × (last : ℚ) × StretchSizes z last f.now g.now t end }
+pub fn stretch_gap(f: &Stretch, g: &Stretch, t: Frac, end: Frac) -> Gap
+    requires fits { GapFits f.now g.now t end }
     requires some { t <ℚ end }
-    ensures sizes { (z : Sizes) (last : ℚ) → StretchSizes z last f.now g.now t end → GapStands z result }
+    ensures value { result ≡ gap_along f.now g.now t end }
     ensures gap { (slow fast : ℚ → Ext) → GoesOn slow t f.now → GoesOn fast t g.now → IsUntil end f.now.next
         → IsUntil end g.now.next
         → IsGap (InWindow t end) slow fast result }

@@ -122,8 +122,8 @@ fn push_parts(pieces: &mut Vec<Piece>, made: Made, b: &Both, to: Frac) -> Result
     }
 }
 
-/// What is made of two windows up to `end`, in one pass over both: two pieces at most of each stretch on which both go
-/// on with one line.
+/// What is made of two windows up to `end`, in one pass over both: one piece of each stretch on which both go on with one
+/// line, and two where these change places there.
 pub(crate) fn made_of(alloc: Global, made: Made, f: &[Piece], g: &[Piece], end: Frac) -> MadePieces
     requires left { StartsAtZero f.now }
     requires right { StartsAtZero g.now }
@@ -132,8 +132,7 @@ pub(crate) fn made_of(alloc: Global, made: Made, f: &[Piece], g: &[Piece], end: 
     ensures { IfOk result (λ v. IsMadeWindow made f.now g.now end v.items) }
 {
     let mut walk = at_start(f, g);
-    let stretches = f.len().saturating_add(g.len());
-    let mut pieces = Vec::with_capacity(alloc, stretches.saturating_mul(2))?;
+    let mut pieces = Vec::with_capacity(alloc, f.len().saturating_add(g.len()))?;
     while walk.i < f.len() || walk.j < g.len() {
         let to = stretch_end(f, g, &walk, end);
         push_parts(&mut pieces, made, &walk.here, to)?;
