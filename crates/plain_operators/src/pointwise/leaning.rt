@@ -15,7 +15,7 @@ ghost use Rattle.curve_call.specs.Compared.{AreCompared, IsBelowLate, IsEnough};
 ghost use Rattle.plain_operators.specs.pointwise.Leaning.{IsUnder, IsOver, IsSpan, IsUnderUntil, IsOverUntil, AreOwnLines};
 
 use curve_call::{
-    Bounds, Side, checked_product, checked_quotient, checked_rest, checked_sum, earlier,
+    Bounds, Side, checked_difference, checked_product, checked_quotient, checked_sum, earlier,
     least_below, least_below_until, line_there, period_or,
 };
 use fraction128::{Ext, Frac, greater, is_less, lesser};
@@ -50,7 +50,7 @@ fn icept_of(v: Frac, t: Frac, rate: Frac) -> Option<Frac>
     ensures { IfSome result (λ k. v ≡ k +ℚ rate *ℚ t) }
 {
     let risen = checked_product(rate, t)?;
-    checked_rest(v, risen)
+    checked_difference(v, risen)
 }
 
 // The larger of an intercept and that of the line through v at t, where it fits.
@@ -241,9 +241,9 @@ fn own_over(c: &Curve, rate: Frac, from: Frac, period: Frac) -> Option<Frac>
 fn gap_at(low: &Line, high: &Line, faster: Frac, t: Frac) -> Option<Frac>
     ensures { IfSome result (λ g. g ≡ low.now.icept -ℚ high.now.icept -ℚ faster *ℚ t) }
 {
-    let both = checked_rest(low.icept, high.icept)?;
+    let both = checked_difference(low.icept, high.icept)?;
     let gained = checked_product(faster, t)?;
-    checked_rest(both, gained)
+    checked_difference(both, gained)
 }
 
 // After how many periods from a time on a line is above another, where the steps fit.
@@ -251,7 +251,7 @@ fn number_between(low: &Line, high: &Line, from: Frac, period: Frac) -> Option<u
     ensures { let faster = high.now.slope -ℚ low.now.slope in
         IfSome result (λ k. low.now.icept -ℚ high.now.icept -ℚ faster *ℚ from ≤ℚ int (pos k) *ℚ (faster *ℚ period)) }
 {
-    let faster = checked_rest(high.slope, low.slope)?;
+    let faster = checked_difference(high.slope, low.slope)?;
     let gap = gap_at(low, high, faster, from)?;
     let lead = checked_product(faster, period)?;
     times_over(gap, lead)
@@ -319,8 +319,8 @@ pub(crate) fn bounds_by_lines(f: &Curve, g: &Curve, from: Frac, period: Frac) ->
 fn crossing(lines: &Lines) -> Option<Frac>
     ensures { IfSome result (λ s. (t : ℚ) → s ≤ℚ t → line_at lines.now.low t ≤ℚ line_at lines.now.high t) }
 {
-    let faster = checked_rest(lines.high.slope, lines.low.slope)?;
-    let gap = checked_rest(lines.low.icept, lines.high.icept)?;
+    let faster = checked_difference(lines.high.slope, lines.low.slope)?;
+    let gap = checked_difference(lines.low.icept, lines.high.icept)?;
     if !is_less(Frac::zero(), faster) {
         return None;
     }
