@@ -3,7 +3,7 @@ use Rattle.std.specs.Prelude.{◌≡◌, ◌⊎◌, ◌≤◌, ℕ, drop, pos, L
 use Rattle.std.proofs.Common.{arith, sym, ap, ◌∙◌, refl, subst, inl, inr, length, get_or, Global}
 use Rattle.rational.specs.Rational.{ℚ, ◌+ℚ◌, ◌-ℚ◌, ◌≤ℚ◌, ◌<ℚ◌, int, neg_ℚ}
 use Rattle.rational.specs.Ratio.{SumFits}
-use Rattle.rational.specs.Extended.{◌+ₑ◌, min_ext}
+use Rattle.rational.specs.Extended.{Ext, ◌≤ₑ◌, ◌<ₑ◌, ◌+ₑ◌, min_ext}
 use Rattle.rational.specs.declared.Extended.TheVariants.{Fin, Inf}
 use Rattle.rational.proofs.Grid.{whole_int}
 use Rattle.rational.proofs.Laws.{le_or_lt, le_of_lt, le_refl}
@@ -32,6 +32,8 @@ use Rattle.element_envelope.specs.CopyPieces.{copy_start, skipped}
 use Rattle.element_envelope.specs.ElementRoom.{WindowTime}
 use Rattle.element_envelope.specs.JoinedWindows.{lead_of}
 use Rattle.element_envelope.specs.SumWindows.{SumPiece}
+use Rattle.element_envelope.specs.NearStarts.{RisesWithin}
+use Rattle.element_envelope.specs.OneSide.{IsOneSided}
 use Rattle.element_envelope.specs.Turnings.{IsThinned, AreCopies}
 use Rattle.element_envelope.proofs.Arching.{same_arches, lesser_arches, nothing_arches}
 use Rattle.element_envelope.proofs.LeastCopies.{copy_rules}
@@ -42,6 +44,9 @@ use Rattle.element_envelope.proofs.OperandElements.{operand_pieces}
 use Rattle.element_envelope.proofs.Rests.{EndsIn, IsRest, rest_is, rest_first, each_rest}
 use Rattle.element_envelope.proofs.EnvelopeHalves.{LowerReady, lower_ready}
 use Rattle.element_envelope.proofs.PairWindows.{LatePiece, early_piece}
+use Rattle.element_envelope.proofs.NearCopies.{each_without}
+use Rattle.element_envelope.proofs.OneSide.{one_side_suffices}
+use Rattle.element_envelope.proofs.StartSplits.{turned_split}
 use Rattle.element_envelope.proofs.StartTurns.{turns_suffice}
 use Rattle.element_envelope.proofs.SumLower.{sum_lower}
 
@@ -272,6 +277,73 @@ pub ok_both : {E : Type 0} (r : Result (Vec Piece Global) E) (from end : ℚ) (a
     → IfOk r (λ w. IsLowerOf a b end w.items) → IfOk r (λ w. IsConvolutionFrom f g from end w.items)
 ok_both (Ok w) from end a b f g h k = h w.items k
 ok_both (Err e) from end a b f g h k = k
+
+-- ---- by the starts of one side
+pub side_room : (from end : ℚ) (f g ks : List Piece) → IsOneSided f g ks → WindowsFrom from end f g → CopyRoom from end ks g
+side_room from end f g ks O r = record {
+  sizes = r.sizes;
+  limited = r.limited;
+  some = r.some;
+  late = r.late;
+  starts = each_without (RisesWithin (int (pos 0))) (WindowPiece r.sizes end) f ks O.starts r.left.each;
+  copied = r.right;
+}
+
+pub own_room : (from end : ℚ) (f g rest : List Piece) (p : Piece) → g ≡ p ∷ rest → WindowsFrom from end f g → CopyRoom from end (p ∷ []) f
+own_room from end f g rest p e r =
+    record { sizes = r.sizes; limited = r.limited; some = r.some; late = r.late; starts = ((subst (Each (WindowPiece r.sizes end)) e r.right.each).0, tt); copied = r.left }
+
+pub first_is : (ps : List Piece) (a : Piece) → StartsAtZero ps → a ≡ get_or ps 0 a → (rest : List Piece) × (ps ≡ a ∷ rest)
+first_is [] a h e = absurd h
+first_is (p ∷ ps) a h e = (ps, ap (λ z. z ∷ ps) (sym e))
+
+-- the copies of g at those starts of f, and that of f at the first start of g
+pub record SideCopies (from end : ℚ) (f g ks a b : List Piece) : Type 0 where
+  pub sided : IsOneSided f g ks
+  pub piece : Piece
+  pub more : List Piece
+  pub first : g ≡ piece ∷ more
+  pub copies : IsCopyWindow from end ks g a
+  pub own : IsCopyWindow from end (piece ∷ []) f b
+
+pub side_ready : (from end : ℚ) (f g ks a b : List Piece) → WindowsFrom from end f g → SideCopies from end f g ks a b → LowerReady end a b
+unfolding side_room own_room
+side_ready from end f g ks a b r S =
+    lower_ready r.sizes end a b r.limited (S.copies.stands (side_room from end f g ks S.sided r)) (S.own.stands (own_room from end f g S.more S.piece S.first r))
+
+pub side_convolves : (from end : ℚ) (f g ks a b qs : List Piece) → WindowsFrom from end f g → LowAtStarts f → LowAtStarts g → SideCopies from end f g ks a b → IsLowerOf a b end qs → IsConvolutionFrom f g from end qs
+unfolding side_room own_room
+side_convolves from end f g ks a b qs o lf lg S L = record {
+  starts = L.starts;
+  reads = λ t low late high.
+      subst (IsConvolution (read f) (read g) t) (sym (L.reads t low high))
+      (one_side_suffices f g ks S.more S.piece t (read a t) (read b t) o.left.starts o.right.starts lf lg S.sided S.first low (S.copies.reads t low late high) (S.own.reads t low late high));
+  stands = λ r. sum_lower r.sizes end a b qs r.limited (S.copies.stands (side_room from end f g ks S.sided r)) (S.own.stands (own_room from end f g S.more S.piece S.first r)) L;
+  arches = λ r.
+      same_arches r.sizes.dt end (λ t. min_ext (read a t) (read b t)) (read qs) L.reads
+      (lesser_arches r.sizes.dt end (read a) (read b) (S.copies.arches (side_room from end f g ks S.sided r)) (S.own.arches (own_room from end f g S.more S.piece S.first r)));
+}
+
+-- ---- with the operands in the other order
+turned_convolution : (F G : ℚ → Ext) (t : ℚ) (v : Ext) → IsConvolution F G t v → IsConvolution G F t v
+unfolding turned_split
+turned_convolution F G t v h = record {
+  below = λ s. subst (λ z. v ≤ₑ z) (add_ext_comm (F s.second) (G s.first)) (h.below (turned_split t s));
+  near = λ y l. let (s, k) = h.near y l in (turned_split t s, subst (λ z. z <ₑ Fin y) (add_ext_comm (F s.first) (G s.second)) k);
+}
+
+turned : (f g : List Piece) (from end : ℚ) (ps : List Piece) → IsConvolutionFrom g f from end ps → IsConvolutionFrom f g from end ps
+unfolding swapped
+turned f g from end ps C = record {
+  starts = C.starts;
+  reads = λ t low late high. turned_convolution (read g) (read f) t (read ps t) (C.reads t low late high);
+  stands = λ r. C.stands (swapped from end f g r);
+  arches = λ r. C.arches (swapped from end f g r);
+}
+
+pub ok_turned : {E : Type 0} (r : Result (Vec Piece Global) E) (from end : ℚ) (f g : List Piece) → IfOk r (λ w. IsConvolutionFrom g f from end w.items) → IfOk r (λ w. IsConvolutionFrom f g from end w.items)
+ok_turned (Ok w) from end f g k = turned f g from end w.items k
+ok_turned (Err e) from end f g k = k
 
 -- ---- from 0 on
 pub from_zero : (end : ℚ) (f g : List Piece) → OperandWindows end f g → WindowsFrom (int (pos 0)) end f g

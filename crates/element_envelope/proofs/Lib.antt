@@ -22,7 +22,10 @@ pub mod CopyWindows
 pub mod StartTests
 pub mod StartTurns
 pub mod Growth
+pub mod Paces
+pub mod PaceSteps
 pub mod NearCopies
+pub mod OneSide
 pub mod LimitSplits
 pub mod FoundPairs
 pub mod FoundEnvelopes

@@ -17,6 +17,7 @@ use Rattle.upp_normal.specs.Operand.{AreLimited, OperandLineAt}
 use Rattle.upp_normal.proofs.AnswerRoom.{operand_line_fits}
 use Rattle.upp_normal.proofs.NormaliseRank.{each_index}
 use Rattle.element_envelope.specs.ConvolutionWindows.{WindowPiece}
+use Rattle.element_envelope.specs.OneSide.{IsReached}
 
 -- ---- a piece of a window
 pub piece_there : (z : Sizes) (end : ℚ) (ps : List Piece) (i : ℕ) (p : Piece) → i < length ps → p ≡ get_or ps i p → Each (WindowPiece z end) ps → WindowPiece z end p
@@ -32,6 +33,10 @@ is_false false h = refl
 pub below_is : (b : Bool) (r v x : ℚ) (l : Line) (line : Option Line) (at : Ext) → (IsTrue b ↔ (r <ℚ v)) → r ≡ line_at l x → line ≡ Some l → at ≡ Fin v → IsTrue (not b) → at ≤ₑ line_value line x
 below_is b r v x l line at t e k m h =
     subst (λ o. at ≤ₑ line_value o x) (sym k) (subst (λ z. z ≤ₑ Fin (line_at l x)) (sym m) (subst (λ z. v ≤ℚ z) e (not_less_out b r v t (is_false b h))))
+
+pub reached_is : (b : Bool) (r v : ℚ) (l : Line) (before : Option Line) (p : Piece) → (IsTrue b ↔ (v <ℚ r)) → r ≡ line_at l p.x → before ≡ Some l → p.at ≡ Fin v → IsTrue (not b) → IsReached before p
+reached_is b r v l before p t e k m h =
+    subst (λ o. IsReached o p) (sym k) (subst (λ w. Fin (line_at l p.x) ≤ₑ w) (sym m) (subst (λ z. z ≤ℚ v) e (not_less_out b v r t (is_false b h))))
 
 -- after some pieces, p is put, or it bends down and is not
 abbrev pub IsKeptOrBent : Option Line → Piece → List Piece → List Piece → Type 0

@@ -1,14 +1,14 @@
 -- The lower of two windows of what elements make: its steps fit, and it is such a window again.
 use Rattle.std.specs.Prelude.{◌≡◌, ◌≢◌, ◌+◌, ◌*◌, ◌≤◌, pos, Bool, true, false, List, Option, Some, None}
 use Rattle.std.proofs.Common.{arith, mul-le-mul_right, sym, ap, ◌∙◌, subst, inl, inr}
-use native.Mathlib.Nat.{dvd-mul_left, mul-pos}
+use native.Mathlib.Nat.{mul-pos}
 use Rattle.rational.specs.Rational.{ℚ, ◌+ℚ◌, ◌-ℚ◌, ◌*ℚ◌, ◌/ℚ◌, neg_ℚ, ◌≤ℚ◌, ◌<ℚ◌, int}
 use Rattle.rational.specs.Ratio.{IsSmall, SumFits}
 use Rattle.rational.specs.Extended.{Ext, min_ext}
 use Rattle.rational.specs.declared.Extended.TheVariants.{Fin, Inf}
-use Rattle.rational.specs.Grid.{Whole, Within}
-use Rattle.rational.proofs.Grid.{whole_int, whole_neg, whole_sub, whole_weaken, within_neg, within_nonneg, within_weaken}
-use Rattle.rational.proofs.Sizes.{sum_on_grid, quotient_on_grid}
+use Rattle.rational.specs.Grid.{Within}
+use Rattle.rational.proofs.Grid.{whole_int, whole_neg, whole_sub, within_neg, within_nonneg, within_weaken}
+use Rattle.rational.proofs.Sizes.{sum_on_grid}
 use Rattle.rational.proofs.Integers.{nat_nonneg, nat_le, int_mul, int_add}
 use Rattle.rational.proofs.Laws.{le_refl, le_trans, le_of_lt, mul_zero}
 use Rattle.rational.proofs.MinMax.{min_q_one}
@@ -23,11 +23,10 @@ use Rattle.upp_limits.specs.Sized.{IsSlope, grid_of, times_largest}
 use Rattle.upp_normal.specs.Operand.{AreLimited, answer_room}
 use Rattle.upp_curve.specs.affine_segment.Fits.{LineFitsAt}
 use Rattle.upp_normal.specs.Room.{top, many, LineInRoom, TimeHasRoom}
-use Rattle.upp_normal.proofs.NormaliseGrids.{q_same_or}
 use Rattle.upp_curve.proofs.affine_segment.PieceOrder.{each_map}
 use Rattle.upp_normal.proofs.NormaliseRoom.{line_fits}
-use Rattle.upp_limits.proofs.NarrowSizes.{grid_pos, small_number, small_sum, half_bound}
-use Rattle.upp_normal.proofs.AnswerRoom.{AnswerLine, IsCrossing, tight, wide_narrow, answer_is_room, line_in_room, halves_apart, crossing_from, many_more, meet_times, nothing_over}
+use Rattle.upp_limits.proofs.NarrowSizes.{small_sum, half_bound}
+use Rattle.upp_normal.proofs.AnswerRoom.{AnswerLine, IsCrossing, tight, wide_narrow, answer_is_room, line_in_room, halves_apart, crossing_from, many_more, meet_times, crossing_fits}
 use Rattle.curve_call.specs.declared.stretch.Both.{Both}
 use Rattle.curve_call.specs.Stretches.{IsBothOf}
 use Rattle.curve_call.specs.Lies.{MeetsAt, CrossesAt, CrossFits}
@@ -102,25 +101,9 @@ icepts_within : (z : Sizes) (l m : Line) → SumLine z l → SumLine z m → Wit
 icepts_within z l m L M = gap_within z 6 6 m.icept l.icept M.within L.within
 
 crossing_small : (z : Sizes) (end : ℚ) (l m : Line) → AreLimited z end → SumLine z l → SumLine z m → IsSmall ((m.icept -ℚ l.icept) /ℚ (l.slope -ℚ m.slope))
-crossing_small z end l m A L M = elim (q_same_or (l.slope -ℚ m.slope) (int (pos 0))) [
-  | inl e ↦
-      subst IsSmall (sym (nothing_over (m.icept -ℚ l.icept) (l.slope -ℚ m.slope) e))
-      (small_number z end 1 (int (pos 0)) A.sizes (wide_narrow z end A) (omega arith) (whole_int (grid_of z) (pos 0)) (within_nonneg (times_largest 1 z) (int (pos 0)) (le_refl (int (pos 0))) (some_largest z)))
-  | inr h ↦
-      let t = tight z end A in
-      let s = t.sums in
-      let p = t.steep in
-      let d = grid_of z in
-      let wide : times_largest 12 z *ℚ int (pos d) ≤ℚ int (pos top) =
-      subst (λ y. y ≤ℚ int (pos top)) (sym (ap (λ y. y *ℚ int (pos d)) (int_mul (pos 12) (pos z.largest)) ∙ int_mul (pos (12 * z.largest)) (pos d))) (nat_le (12 * z.largest * d) top (omega (arith, s))) in
-      let steep : int (pos z.steepness) *ℚ int (pos d) ≤ℚ int (pos top) = subst (λ y. y ≤ℚ int (pos top)) (sym (int_mul (pos z.steepness) (pos d))) (nat_le (z.steepness * d) top (omega (arith, p))) in
-      let on : Whole d (l.slope -ℚ m.slope) = whole_weaken z.ds d (l.slope -ℚ m.slope) (dvd-mul_left z.ds (z.dv * z.dt)) (whole_sub z.ds l.slope m.slope L.slope.whole M.slope.whole) in
-      quotient_on_grid d (times_largest 12 z) (int (pos z.steepness)) (m.icept -ℚ l.icept) (l.slope -ℚ m.slope) (grid_pos z end A.sizes) h wide steep
-      (whole_sub d m.icept l.icept M.icept L.icept) on (icepts_within z l m L M) (halves_apart (int (pos z.steepness)) l.slope m.slope L.slope.within M.slope.within)
-]
-  where
-    some_largest : (z : Sizes) → int (pos 0) ≤ℚ times_largest 1 z
-    some_largest z = subst (λ y. int (pos 0) ≤ℚ y) (sym (int_mul (pos 1) (pos z.largest))) (nat_nonneg (1 * z.largest))
+crossing_small z end l m A L M =
+    let n = (tight z end A).sums in
+    crossing_fits z end 12 (m.icept -ℚ l.icept) l.slope m.slope A (omega (arith, n)) (whole_sub (grid_of z) m.icept l.icept M.icept L.icept) (icepts_within z l m L M) L.slope M.slope
 
 crossing_not_wide : (z : Sizes) (end : ℚ) (l m : Line) (w : Wide) → AreLimited z end → SumLine z l → SumLine z m → ¬ (IsWideCross l m w)
 crossing_not_wide z end l m w A L M (inl a) = a.1 (icepts_apart_fit z end m l A M L)

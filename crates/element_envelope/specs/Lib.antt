@@ -15,4 +15,6 @@ pub mod CopyWindows
 pub mod Turnings
 pub mod LimitCopies
 pub mod NearStarts
+pub mod Pace
+pub mod OneSide
 pub mod Found

@@ -16,16 +16,20 @@ pub record RisesWithin (r : ℚ) (p : Piece) : Type 0 where
   pub after : line_at line p.x ≤ℚ value
   pub slope : line.slope ≤ℚ r
 
--- the start of q is later than that of p, and higher by at least as much as something of slope r gains in between
-pub record IsFar (r : ℚ) (p q : Piece) : Type 0 where
+-- the start of q is later than that of p, and higher by at least a and what the slope r gains in between
+pub record IsFar (r a : ℚ) (p q : Piece) : Type 0 where
   pub first : ℚ
   pub second : ℚ
   pub first_is : p.at ≡ Fin first
   pub second_is : q.at ≡ Fin second
   pub late : p.x <ℚ q.x
-  pub above : first +ℚ r *ℚ (q.x -ℚ p.x) ≤ℚ second
+  pub above : first +ℚ a +ℚ r *ℚ (q.x -ℚ p.x) ≤ℚ second
+
+-- some pieces, with none left out but such of which P holds
+abbrev pub IsWithout : (Piece → Type 0) → List Piece → List Piece → Type 0
+IsWithout P [] ks = ks ≡ []
+IsWithout P (q ∷ qs) ks = (P q × IsWithout P qs ks) ⊎ ((rs : List Piece) × (ks ≡ q ∷ rs) × IsWithout P qs rs)
 
 -- some starts, with none left out but such as are far from p
-abbrev pub IsNear : ℚ → Piece → List Piece → List Piece → Type 0
-IsNear r p [] ks = ks ≡ []
-IsNear r p (q ∷ qs) ks = (IsFar r p q × IsNear r p qs ks) ⊎ ((rs : List Piece) × (ks ≡ q ∷ rs) × IsNear r p qs rs)
+abbrev pub IsNear : ℚ → ℚ → Piece → List Piece → List Piece → Type 0
+IsNear r a p qs ks = IsWithout (IsFar r a p) qs ks

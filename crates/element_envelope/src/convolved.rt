@@ -6,11 +6,14 @@ ghost use Rattle.element_envelope.specs.ConvolutionWindows.{WindowsFrom, IsConvo
 ghost use Rattle.element_envelope.specs.Copies.{LowAtStarts};
 ghost use Rattle.element_envelope.specs.CopyWindows.{CopyRoom, IsCopyWindow};
 ghost use Rattle.element_envelope.specs.Turnings.{AreCopies};
+ghost use Rattle.element_envelope.specs.OneSide.{IsOneSided};
 
-use crate::copies::least_copies;
+use crate::copies::{copy_window, least_copies};
 use crate::cutting::cut;
 use crate::least::{MadePieces, envelope};
-use crate::near::{near_starts, steepest};
+use crate::near::{lowest, near_starts};
+use crate::one_side::starts_of_one_side;
+use crate::pace::pace_of;
 use crate::starts::{are_low_at_starts, turning_starts};
 use curve_call::window_lower;
 use fraction128::Frac;
@@ -18,7 +21,7 @@ use rational::Extended;
 use std::alloc::{AllocError, Global};
 use upp_curve::affine_segment::Piece;
 
-// The least of the copies of g at some starts, of which those are left out that are so far above the first one that their
+// The least of the copies of g at some starts, of which those are left out that are so far above an earlier one that their
 // copies are nowhere below its copy.
 fn near_copies(alloc: Global, starts: &[Piece], g: &[Piece], from: Frac, end: Frac) -> MadePieces
     requires room { CopyRoom from end starts.now g.now }
@@ -28,10 +31,11 @@ fn near_copies(alloc: Global, starts: &[Piece], g: &[Piece], from: Frac, end: Fr
     if starts.len() == 0 {
         return least_copies(alloc, starts, g, from, end);
     }
-    let Some(slope) = steepest(g) else {
+    let Some(pace) = pace_of(g, end) else {
         return least_copies(alloc, starts, g, from, end);
     };
-    let near = near_starts(alloc, &starts[0], starts, slope)?;
+    let low = lowest(starts, pace.slope);
+    let near = near_starts(alloc, &starts[low], starts, &pace)?;
     least_copies(alloc, &near, g, from, end)
 }
 
@@ -57,6 +61,73 @@ fn by_starts(alloc: Global, f: &[Piece], g: &[Piece], from: Frac, end: Frac) -> 
     window_lower(alloc, &left, &right, end)
 }
 
+// By the copies of g at some starts of f, and that of f at the first start of g.
+fn by_one_side(
+    alloc: Global,
+    starts: &[Piece],
+    f: &[Piece],
+    g: &[Piece],
+    from: Frac,
+    end: Frac,
+) -> MadePieces
+    requires windows { WindowsFrom from end f.now g.now }
+    requires left { LowAtStarts f.now }
+    requires right { LowAtStarts g.now }
+    requires starts { IsOneSided f.now g.now starts.now }
+    ensures { IfOk result (λ v. IsConvolutionFrom f.now g.now from end v.items) }
+{
+    let copies = near_copies(alloc, starts, g, from, end)?;
+    let own = copy_window(alloc, &g[0], f, from, end)?;
+    window_lower(alloc, &copies, &own, end)
+}
+
+// By the copies of f at some starts of g, and that of g at the first start of f.
+fn by_other_side(
+    alloc: Global,
+    f: &[Piece],
+    g: &[Piece],
+    starts: &[Piece],
+    from: Frac,
+    end: Frac,
+) -> MadePieces
+    requires starts { IsOneSided g.now f.now starts.now }
+    requires windows { WindowsFrom from end f.now g.now }
+    requires left { LowAtStarts f.now }
+    requires right { LowAtStarts g.now }
+    ensures { IfOk result (λ v. IsConvolutionFrom f.now g.now from end v.items) }
+{
+    by_one_side(alloc, starts, g, f, from, end)
+}
+
+// By copies: at the starts of one of both alone, where that is enough.
+fn by_copies(alloc: Global, f: &[Piece], g: &[Piece], from: Frac, end: Frac) -> MadePieces
+    requires windows { WindowsFrom from end f.now g.now }
+    requires left { LowAtStarts f.now }
+    requires right { LowAtStarts g.now }
+    ensures { IfOk result (λ v. IsConvolutionFrom f.now g.now from end v.items) }
+{
+    if let Some(starts) = starts_of_one_side(alloc, f, g)? {
+        return by_one_side(alloc, &starts, f, g, from, end);
+    }
+    if let Some(starts) = starts_of_one_side(alloc, g, f)? {
+        return by_other_side(alloc, f, g, &starts, from, end);
+    }
+    by_starts(alloc, f, g, from, end)
+}
+
+// By copies, where of two sides that are each enough the shorter one's starts are taken.
+fn by_shorter(alloc: Global, f: &[Piece], g: &[Piece], from: Frac, end: Frac) -> MadePieces
+    requires windows { WindowsFrom from end f.now g.now }
+    requires left { LowAtStarts f.now }
+    requires right { LowAtStarts g.now }
+    ensures { IfOk result (λ v. IsConvolutionFrom f.now g.now from end v.items) }
+{
+    if f.len() <= g.len() {
+        return by_copies(alloc, f, g, from, end);
+    }
+    by_copies(alloc, g, f, from, end)
+}
+
 // By all pairs of their elements, from 0 on.
 fn by_pairs(alloc: Global, f: &[Piece], g: &[Piece], from: Frac, end: Frac) -> MadePieces
     requires { WindowsFrom from end f.now g.now }
@@ -69,7 +140,8 @@ fn by_pairs(alloc: Global, f: &[Piece], g: &[Piece], from: Frac, end: Frac) -> M
 
 /// The convolution of two windows, at each time from `from` on and before `end`, as pieces. Are both nowhere above the
 /// limits beside a start, then it is made from the copies of each at the starts of the other at which that does not bend
-/// downwards, and of these the pieces that are over before `from` are left out; else it is made from all pairs of their
+/// downwards, and of these the pieces that are over before `from` are left out; at those of one of both alone, where the
+/// other never falls and gains no more than the first one's lines rise that rise. Else it is made from all pairs of their
 /// elements. Only a lack of memory is an error.
 pub fn window_convolution_from(
     alloc: Global,
@@ -87,7 +159,7 @@ pub fn window_convolution_from(
     if !are_low_at_starts(g) {
         return by_pairs(alloc, f, g, from, end);
     }
-    by_starts(alloc, f, g, from, end)
+    by_shorter(alloc, f, g, from, end)
 }
 
 /// The convolution of two operands, at each time from 0 on and before `end`, as pieces, from the operands' unrolled

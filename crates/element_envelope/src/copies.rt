@@ -63,8 +63,8 @@ fn skipped(x: Frac, pieces: &[Piece], from: Frac) -> usize
     count_before(pieces, difference(from, x)).saturating_sub(1)
 }
 
-// The copy at the start of one piece, without the pieces that are over before `from`.
-fn copy_window(
+/// The copy at the start of one piece, without the pieces that are over before `from`.
+pub(crate) fn copy_window(
     alloc: Global,
     start: &Piece,
     pieces: &[Piece],

@@ -6,6 +6,7 @@ ghost use Rattle.element_envelope.specs.WindowLaws.{SumCutsFit, SumLowerFits, Su
 ghost use Rattle.element_envelope.specs.Copies.{StartsSuffice, CopyRules};
 ghost use Rattle.element_envelope.specs.LimitCopies.{LimitsSuffice};
 ghost use Rattle.element_envelope.specs.Turnings.{TurnsSuffice};
+ghost use Rattle.element_envelope.specs.OneSide.{OneSideSuffices};
 ghost use Rattle.element_envelope.specs.RoomLaws.{ElementsStand, JoinedStand};
 ghost use Rattle.element_envelope.specs.Found.{PairsExist, EnvelopesExist};
 ghost use Rattle.element_envelope.specs.Found.{ConvolutionsFromExist, ConvolutionWindowsExist};
@@ -52,6 +53,12 @@ pub fn starts_suffice()
 /// with a smaller slope.
 pub fn turns_suffice()
     ensures { TurnsSuffice }
+{}
+
+/// Where one never falls and gains no more than the lines of the other rise that rise, the copies of the one at those starts of the
+/// other count that no level line follows, and the one copy at its own first start.
+pub fn one_side_suffices()
+    ensures { OneSideSuffices }
 {}
 
 /// Of any two windows, with spikes and infinite parts, the convolution is the least of the copies of each at the starts of

@@ -8,6 +8,8 @@ mod cutting;
 pub mod laws;
 mod least;
 mod near;
+mod one_side;
+mod pace;
 mod pair;
 mod starts;
 mod window;
