@@ -4,7 +4,6 @@ use Rattle.std.proofs.Common.{arith, refl, subst, inl, inr}
 use Rattle.rational.specs.Rational.{ℚ, ◌-ℚ◌, ◌<ℚ◌, int}
 use Rattle.rational.specs.Extended.{Ext}
 use Rattle.rational.proofs.Laws.{le_refl, le_or_lt, antisym}
-use Rattle.upp_curve.specs.affine_segment.Values.{line_value}
 use Rattle.upp_curve.specs.Curve.{SpecCurve, value_at}
 use Rattle.upp_limits.specs.Limits.{Sizes}
 use Rattle.upp_normal.specs.Operand.{AreLimited}
@@ -14,7 +13,7 @@ use Rattle.element_envelope.specs.ElementRoom.{WindowTime}
 use Rattle.curve_call.specs.declared.gaps.Gap.{Gap}
 use Rattle.curve_call.specs.declared.gaps.Gap.TheVariants.{NoTime, Never, Is}
 use Rattle.curve_call.specs.Gaps.{InWindow, IsGap}
-use Rattle.curve_call.specs.GapSteps.{gap_of, larger, earlier_of}
+use Rattle.curve_call.specs.GapSteps.{larger, gap_along, earlier_of}
 use Rattle.curve_call.proofs.GapParts.{stretch_gap_is}
 use Rattle.curve_call.proofs.BoundedNumber.{least_found}
 use Rattle.curve_conv.specs.Late.{IsLateIn, IsLateAfter, IsLateNumber, IsLateCall}
@@ -59,7 +58,7 @@ further z f g first second from end A F late soon t gap W h =
     let next = earlier_of soonest s.next in
     let N = next_place z end t soonest next p.next s.next (inl A.sizes.window) h P.ahead.goes.next S.ahead.goes.next P.stands.next S.stands.next refl refl in
     let U = next_to z end t next p.next s.next start.nonneg N in
-    let more = larger (gap_of p.at s.at) (larger (gap_of (line_value p.line t) (line_value s.line t)) (gap_of (line_value p.line next) (line_value s.line next))) in
+    let more = gap_along p s t next in
     record {
       next = next;
       gap = larger gap more;

@@ -229,12 +229,10 @@ to_stands z end limit x None None some most h w l U = tt
 to_stands z end limit x (Some e) None some most h w l U = U
 to_stands z end limit x until (Some y) some most h w l U = record { whole = w; nonneg = le_trans some (le_of_lt h); early = le_trans (le_of_lt l) most }
 
-pub part_facts : (z : Sizes) (f g : SpecCurve) (from : ℚ) (until : Option ℚ) (low room limit end t : ℚ) (least : Stretch) (more : Bool) (x : ℚ) (here : Stretch) (next : Option ℚ) → WindowTime z end from → WindowTime z end low
-    → AtNext (WindowTime z end) until → room ≡ end -ℚ low → IsLimit room until limit → more ≡ true → PartWalk z f g from until low limit end t least more x → HasWindow z end f → GoesOn (value_at f) x here
-    → ((d : ℕ) → TimesStand d f → AtNext (Whole d) here.next) → (IsTimeIn z end x → OperandLineAt z here.line × GridValue z here.at) → IsEarly here.next limit next → CellFacts z end limit x until here next
-part_facts z f g from until low room limit end t least more x here next F T U e L m W V G times sizes E =
-    let W : PartWalk z f g from until low limit end t least true x = subst (λ b. PartWalk z f g from until low limit end t least b x) m W in
-    let time = walk_time z f g from until low room limit end t least x F T e L W in
+pub cell_facts : (z : Sizes) (f : SpecCurve) (end limit x : ℚ) (until : Option ℚ) (here : Stretch) (next : Option ℚ) → AtNext (WindowTime z end) until → IsTimeIn z end x → limit ≤ℚ end → IsBeforeNext x until
+    → HasWindow z end f → GoesOn (value_at f) x here → ((d : ℕ) → TimesStand d f → AtNext (Whole d) here.next) → (IsTimeIn z end x → OperandLineAt z here.line × GridValue z here.at) → IsEarly here.next limit next
+    → CellFacts z end limit x until here next
+cell_facts z f end limit x until here next U time most before V G times sizes E =
     let past = early_after here.next limit next x E G.next in
     let whole = early_at (Whole z.dt) here.next limit next E (times z.dt (times_stand z end f V.curve V)) in
     let limit_is = early_limit here.next limit next E in
@@ -242,12 +240,20 @@ part_facts z f g from until low room limit end t least more x here next F T U e 
     let s = sizes time in
     record {
       point = point_stands z end x here.at here_in s.1;
-      after = open_stands z end x (or_else next until) here.line here_in (to_stands z end limit x until next time.nonneg (limit_most z end low room limit until T e L) past whole limit_is U) s.0;
-      proper = open_proper x (or_else next until) here.line (before_or next until x past (L.before x (W.early refl)));
+      after = open_stands z end x (or_else next until) here.line here_in (to_stands z end limit x until next time.nonneg most past whole limit_is U) s.0;
+      proper = open_proper x (or_else next until) here.line (before_or next until x past before);
       past = past;
       whole = whole;
       limit_is = limit_is;
     }
+
+pub part_facts : (z : Sizes) (f g : SpecCurve) (from : ℚ) (until : Option ℚ) (low room limit end t : ℚ) (least : Stretch) (more : Bool) (x : ℚ) (here : Stretch) (next : Option ℚ) → WindowTime z end from → WindowTime z end low
+    → AtNext (WindowTime z end) until → room ≡ end -ℚ low → IsLimit room until limit → more ≡ true → PartWalk z f g from until low limit end t least more x → HasWindow z end f → GoesOn (value_at f) x here
+    → ((d : ℕ) → TimesStand d f → AtNext (Whole d) here.next) → (IsTimeIn z end x → OperandLineAt z here.line × GridValue z here.at) → IsEarly here.next limit next → CellFacts z end limit x until here next
+part_facts z f g from until low room limit end t least more x here next F T U e L m W V G times sizes E =
+    let W : PartWalk z f g from until low limit end t least true x = subst (λ b. PartWalk z f g from until low limit end t least b x) m W in
+    let time = walk_time z f g from until low room limit end t least x F T e L W in
+    cell_facts z f end limit x until here next U time (limit_most z end low room limit until T e L) (L.before x (W.early refl)) V G times sizes E
 
 -- ---- one step
 

@@ -1,15 +1,14 @@
 -- Pieces that elements make go on from a time with the line of the last piece that starts there or before.
-use Rattle.std.specs.Prelude.{◌≡◌, pos, List, [], ◌∷◌, Option, None}
-use Rattle.std.proofs.Common.{sym, ap, ◌∙◌, refl, subst}
+use Rattle.std.specs.Prelude.{◌≡◌, pos, List, [], ◌∷◌, None}
+use Rattle.std.proofs.Common.{sym, ap, ◌∙◌, subst}
 use Rattle.rational.specs.Rational.{ℚ, ◌≤ℚ◌, int}
-use Rattle.upp_curve.specs.declared.affine_segment.line.Line.{Line}
 use Rattle.upp_curve.specs.declared.affine_segment.line.Piece.{Piece}
 use Rattle.upp_curve.specs.affine_segment.Values.{line_value}
 use Rattle.upp_normal.specs.declared.ahead.Stretch.{Stretch}
 use Rattle.upp_limits.specs.Limits.{Sizes}
 use Rattle.upp_curve.specs.affine_segment.Pieces.{StartsAtZero}
-use Rattle.upp_curve.specs.affine_segment.Reading.{read, piece_in, next_in, line_in}
-use Rattle.upp_curve.specs.affine_segment.Fits.{LineFitsAt}
+use Rattle.upp_curve.specs.affine_segment.Reading.{read, next_in, line_in}
+use Rattle.upp_curve.specs.affine_segment.Fits.{ReadFits}
 use Rattle.upp_normal.specs.Ahead.{GoesOn, IsBeforeNext, AtNext}
 use Rattle.upp_curve.proofs.affine_segment.PieceOrder.{each_map}
 use Rattle.upp_normal.proofs.StretchPieces.{reads_on, next_past, next_all}
@@ -17,12 +16,9 @@ use Rattle.element_envelope.specs.SumWindows.{SumValueAt, SumLineAt, SumPiece, S
 use Rattle.element_envelope.proofs.SumSteps.{sum_read, sum_line_in, line_fits_at}
 use Rattle.curve_conv.specs.Stretches.{SumPlace, SumStretch, SumTimeIn}
 
-pub found_line : (ps : List Piece) (found : Piece) (t : ℚ) → StartsAtZero ps → ((p : Piece) (qs : List Piece) → ps ≡ p ∷ qs → found ≡ piece_in p qs t) → found.line ≡ line_in ps t
-found_line [] found t h f = absurd h
-found_line (p ∷ ps) found t h f = ap (λ q. q.line) (f p ps refl)
-
-pub found_fits : (z : Sizes) (end : ℚ) (ps : List Piece) (t : ℚ) (l : Option Line) → SumTimeIn z end t → SumWindow z end ps → l ≡ line_in ps t → LineFitsAt t l
-found_fits z end ps t l T W e = subst (LineFitsAt t) (sym e) (line_fits_at z end t (line_in ps t) T.limited (sum_line_in z end t ps W) T.start)
+pub reads_fit : (z : Sizes) (end : ℚ) (ps : List Piece) (t : ℚ) → SumTimeIn z end t → SumWindow z end ps → ReadFits ps t
+reads_fit z end [] t T W = tt
+reads_fit z end (p ∷ ps) t T W = λ h. line_fits_at z end t (line_in (p ∷ ps) t) T.limited (sum_line_in z end t (p ∷ ps) W) T.start
 
 pub pieces_go : (ps : List Piece) (t : ℚ) (s : Stretch) → StartsAtZero ps → int (pos 0) ≤ℚ t → s.at ≡ read ps t → s.line ≡ line_in ps t → s.next ≡ next_in ps t None → GoesOn (read ps) t s
 pieces_go ps t s starts low at line next = record {

@@ -20,7 +20,6 @@ use Rattle.upp_limits.specs.Limits.{Sizes}
 use Rattle.upp_curve.specs.affine_segment.Reading.{read}
 use Rattle.upp_normal.specs.Operand.{AreLimited, OperandLineAt}
 use Rattle.upp_normal.specs.Ahead.{GoesOn, IsBeforeNext, AtNext, HasWindow, IsTimeIn, TimesStand, GridValue}
-use Rattle.upp_normal.proofs.StretchSizes.{times_stand}
 use Rattle.element_envelope.specs.PieceElements.{Among, ElementAt}
 use Rattle.element_envelope.specs.ElementRoom.{WindowTime, OperandElement}
 use Rattle.element_envelope.specs.Envelopes.{ListSplit, list_sum, IsEnvelope}
@@ -30,8 +29,8 @@ use Rattle.curve_conv.specs.Parts.{PartSplit, part_sum, IsPart}
 use Rattle.curve_conv.specs.Stretches.{IsAhead, until_time, point_at, open_at, IsProperPart, OperandPart}
 use Rattle.curve_conv.specs.Scans.{IsEarly, IsLimit, InPart, or_else, is_time, time_or}
 use Rattle.curve_conv.specs.SpanElements.{listed, ReadsAs, AreSpanElements, IsPartWindow}
-use Rattle.curve_conv.proofs.RowLoops.{at_of, before_until, until_before, early_before, early_after, early_at, early_limit, point_stands, point_proper, open_stands, open_proper, at_next, late_or, whole_or, limit_or}
-use Rattle.curve_conv.proofs.PartLoops.{CellFacts, to_stands, before_or, or_next, or_until}
+use Rattle.curve_conv.proofs.RowLoops.{at_of, before_until, until_before, early_before, early_limit, point_proper, at_next, late_or, whole_or, limit_or}
+use Rattle.curve_conv.proofs.PartLoops.{CellFacts, cell_facts, before_or, or_next, or_until}
 
 -- ---- an element that may be missing
 listed_is : (o : Option Element) (e : Element) → Among e (listed o) → o ≡ Some e
@@ -172,20 +171,7 @@ pub span_facts : (z : Sizes) (f : SpecCurve) (from : ℚ) (until : Option ℚ) (
     → ((d : ℕ) → TimesStand d f → AtNext (Whole d) here.next) → (IsTimeIn z end x → OperandLineAt z here.line × GridValue z here.at) → IsEarly here.next limit next
     → CellFacts z end limit x until here next
 span_facts z f from until limit end es x here next F U L W V G times sizes E =
-    let time = span_time z f from until limit end es x F L W in
-    let past = early_after here.next limit next x E G.next in
-    let whole = early_at (Whole z.dt) here.next limit next E (times z.dt (times_stand z end f V.curve V)) in
-    let limit_is = early_limit here.next limit next E in
-    let here_in : WindowTime z end x = record { whole = time.whole; nonneg = time.nonneg; early = le_of_lt time.before } in
-    let s = sizes time in
-    record {
-      point = point_stands z end x here.at here_in s.1;
-      after = open_stands z end x (or_else next until) here.line here_in (to_stands z end limit x until next time.nonneg L.most past whole limit_is U) s.0;
-      proper = open_proper x (or_else next until) here.line (before_or next until x past (L.before x (W.early refl)));
-      past = past;
-      whole = whole;
-      limit_is = limit_is;
-    }
+    cell_facts z f end limit x until here next U (span_time z f from until limit end es x F L W) L.most (L.before x (W.early refl)) V G times sizes E
 
 pub span_step : (z : Sizes) (f : SpecCurve) (from : ℚ) (until : Option ℚ) (limit end : ℚ) (es fs : List Element) (x : ℚ) (here : Stretch) (next : Option ℚ) (more : Bool) (y : ℚ)
     → WindowTime z end from → IsLimit end until limit → SpanWalk z f from until limit end es true x → GoesOn (value_at f) x here → IsEarly here.next limit next → CellFacts z end limit x until here next

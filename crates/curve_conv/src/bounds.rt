@@ -12,7 +12,7 @@ use crate::number::lead;
 use crate::order::is_slower_curve;
 use crate::rises::rise_before;
 use crate::rows::Scan;
-use curve_call::{Bounds, Side, begin, checked_rest, is_slower, rise_over, zero_level};
+use curve_call::{Bounds, Side, begin, checked_difference, is_slower, rise_over, zero_level};
 use fraction128::{Frac, is_less};
 use upp_curve::Curve;
 
@@ -51,7 +51,7 @@ fn soon_number(s: &Scan, first: Frac, lead: Frac, from: Frac, period: Frac) -> O
     if is_less(period, first) {
         return None;
     }
-    let gained = checked_rest(most, rise)?;
+    let gained = checked_difference(most, rise)?;
     periods_over(gained, lead)
 }
 

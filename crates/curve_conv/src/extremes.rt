@@ -106,5 +106,6 @@ pub(crate) fn most_gap(e: &Extremes) -> Option<Frac>
     let slow = checked_sum(e.slow_top, e.slow_depth)?;
     let deep = checked_sum(slow, e.fast_depth)?;
     let both = checked_sum(deep, e.fast_start)?;
-    checked_sum(both, e.fast_rise)
+    let all = checked_sum(both, e.fast_rise)?;
+    Some(all)
 }

@@ -35,7 +35,8 @@ fn times(n: u128, q: Frac) -> Option<Frac>
     if n >= 1 << 127 {
         return None;
     }
-    checked_product(Frac::from_whole(n as i128), q)
+    let time = checked_product(Frac::from_whole(n as i128), q)?;
+    Some(time)
 }
 
 // n periods of the faster curve's own; none where they are longer than a common period.

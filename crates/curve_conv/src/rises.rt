@@ -8,7 +8,7 @@ ghost use Rattle.upp_curve.specs.Curve.{value_at};
 ghost use Rattle.upp_curve.specs.affine_segment.Values.{line_value};
 ghost use Rattle.curve_conv.specs.Rises.{RisesAtMost, HasLater, IsLookedUntil, IsNextTime};
 
-use curve_call::{checked_rest, checked_sum, earlier, line_there};
+use curve_call::{checked_difference, checked_sum, earlier, line_there};
 use fraction128::{Ext, Frac, greater, is_less};
 use rational::Extended;
 use upp_curve::Curve;
@@ -28,7 +28,7 @@ pub(crate) struct Looked {
 fn number_above(x: Frac, y: Frac, most: Frac) -> Option<Frac>
     ensures { IfSome result (λ r. (most ≤ℚ r) × (x ≤ℚ y +ℚ r)) }
 {
-    let gap = checked_rest(x, y)?;
+    let gap = checked_difference(x, y)?;
     Some(greater(most, gap))
 }
 
@@ -70,7 +70,7 @@ fn next_time(here: &Option<Frac>, there: &Option<Frac>, period: Frac, first: Fra
     match there {
         None => Some(soon),
         Some(e) => {
-            let back = checked_rest(*e, period)?;
+            let back = checked_difference(*e, period)?;
             Some(earlier(soon, &Some(back)))
         }
     }

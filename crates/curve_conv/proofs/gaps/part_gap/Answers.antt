@@ -6,9 +6,10 @@ use Rattle.rational.proofs.Grid.{whole_int}
 use Rattle.upp_curve.specs.Curve.{value_at}
 use Rattle.element_envelope.specs.ElementRoom.{WindowTime}
 use Rattle.curve_call.specs.Gaps.{InWindow, IsGap}
-use Rattle.curve_conv.specs.PartGaps.{ArePartValues}
+use Rattle.curve_conv.specs.PartGaps.{ArePartValues, PartGapStands}
 use Rattle.curve_conv.specs.Scans.{sizes_in}
 use Rattle.curve_conv.specs.SpanElements.{IsPartWindow}
+use Rattle.curve_conv.proofs.GapStretches.{stretch_fits, stretch_stands}
 use Rattle.curve_conv.proofs.GapWalks.{PartGapWalk, walk_start, time_in, gap_step, walk_step, walk_fewer, walk_end}
 use Rattle.curve_conv.proofs.gaps.part_gap.Goals as goal
 
@@ -41,14 +42,14 @@ part_at-soon-requires-clause-time c =
     let z = sizes_in s.first.now s.second.now s.end in
     time_in z (value_at s.first.now) (value_at s.second.now) c.args.first c.args.second c.args.from s.end c.times.t c.times.gap c.requires.from c.times.invariant (c.times-test.ensures.less.0 refl)
 
-pub stretch_gap-more-requires-clause-sizes : goal.stretch_gap-more-requires-clause-sizes
-stretch_gap-more-requires-clause-sizes c =
+pub stretch_gap-more-requires-clause-fits : goal.stretch_gap-more-requires-clause-fits
+stretch_gap-more-requires-clause-fits c =
     let s = c.args.s.now in
     let z = sizes_in s.first.now s.second.now s.end in
     let F = gap_step z (value_at s.first.now) (value_at s.second.now) c.args.first c.args.second c.args.from s.end c.times.t c.earlier.result c.earlier-next.result c.zero-zero.result c.times.gap
     c.part_at-late.result c.part_at-soon.result c.zero-zero.ensures c.requires.scan.first.limited c.requires.from c.times.invariant (c.times-test.ensures.less.0 refl) c.part_at-late.ensures.ahead
     c.part_at-soon.ensures.ahead c.part_at-late.ensures.sizes.next c.part_at-soon.ensures.sizes.next c.earlier.ensures c.earlier-next.ensures in
-    (z, s.end, F.time, F.to, c.part_at-late.ensures.sizes, c.part_at-soon.ensures.sizes)
+    stretch_fits z s.end c.times.t c.earlier-next.result c.part_at-late.result c.part_at-soon.result F.time F.to c.part_at-late.ensures.sizes c.part_at-soon.ensures.sizes
 
 pub stretch_gap-more-requires-clause-some : goal.stretch_gap-more-requires-clause-some
 stretch_gap-more-requires-clause-some c =
@@ -79,7 +80,8 @@ times-preserved c =
     subst (PartGapWalk z (value_at s.first.now) (value_at s.second.now) c.args.first c.args.second c.args.from s.end c.earlier-next.result) (sym c.larger-gap.ensures)
     (walk_step z (value_at s.first.now) (value_at s.second.now) c.args.first c.args.second c.args.from s.end c.times.t c.earlier-next.result c.times.gap c.stretch_gap-more.result c.part_at-late.result
     c.part_at-soon.result c.times.invariant F.late F.soon F.next (λ a b G H h k. c.stretch_gap-more.ensures.gap a b G H h k)
-    (c.stretch_gap-more.ensures.sizes z s.end F.time F.to c.part_at-late.ensures.sizes c.part_at-soon.ensures.sizes))
+    (subst (PartGapStands z) (sym c.stretch_gap-more.ensures.value)
+    (stretch_stands z s.end c.times.t c.earlier-next.result c.part_at-late.result c.part_at-soon.result F.time F.to c.part_at-late.ensures.sizes c.part_at-soon.ensures.sizes)))
 
 pub returns-clause-gap : goal.returns-clause-gap
 returns-clause-gap c a b V =

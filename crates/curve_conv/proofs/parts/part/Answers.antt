@@ -7,7 +7,8 @@ use Rattle.curve_conv.specs.Stretches.{SumTimeIn, IsAhead, PartRow, part_row_sum
 use Rattle.curve_conv.specs.Scans.{sizes_in, or_else}
 use Rattle.curve_conv.proofs.GridSteps.{steps_while}
 use Rattle.curve_conv.proofs.RowLoops.{point_proper}
-use Rattle.curve_conv.proofs.PartLoops.{PartWalk, low_fits, walk_start, walk_time, part_facts, walk_step, walk_fewer}
+use Rattle.curve_conv.proofs.PartLoops.{PartWalk, CellFacts, low_fits, walk_start, walk_time, part_facts, walk_step, walk_fewer}
+use Rattle.curve_conv.proofs.parts.part.Goals.{After-open_at-after}
 use Rattle.curve_conv.proofs.parts.part.Goals as goal
 
 pub difference-room-requires : goal.difference-room-requires
@@ -33,22 +34,26 @@ stretch_at-here-requires c =
           c.requires.from c.requires.low c.difference-room.ensures c.limit_of-limit.ensures W,
     )
 
+facts : (c : After-open_at-after) → let s = c.args.s.now in CellFacts (sizes_in s.first.now s.second.now s.end) s.end c.limit_of-limit.result c.cells.x c.args.until.now c.stretch_at-here.result c.early-next.result
+facts c =
+    let s = c.args.s.now in
+    let z = sizes_in s.first.now s.second.now s.end in
+    part_facts z s.first.now s.second.now c.args.from c.args.until.now c.args.low c.difference-room.result c.limit_of-limit.result s.end c.args.t c.cells.least c.cells.more c.cells.x c.stretch_at-here.result
+    c.early-next.result c.requires.from c.requires.low c.requires.until c.difference-room.ensures c.limit_of-limit.ensures c.cells-test.true c.cells.invariant c.requires.scan.first c.stretch_at-here.ensures.goes
+    c.stretch_at-here.ensures.times (c.stretch_at-here.ensures.sizes z s.end c.requires.scan.first) c.early-next.ensures
+
 pub cell_part-cell-requires-clause-point : goal.cell_part-cell-requires-clause-point
 cell_part-cell-requires-clause-point c =
     let s = c.args.s.now in
     let z = sizes_in s.first.now s.second.now s.end in
-    let F = part_facts z s.first.now s.second.now c.args.from c.args.until.now c.args.low c.difference-room.result c.limit_of-limit.result s.end c.args.t c.cells.least c.cells.more c.cells.x c.stretch_at-here.result
-    c.early-next.result c.requires.from c.requires.low c.requires.until c.difference-room.ensures c.limit_of-limit.ensures c.cells-test.true c.cells.invariant c.requires.scan.first c.stretch_at-here.ensures.goes
-    c.stretch_at-here.ensures.times (c.stretch_at-here.ensures.sizes z s.end c.requires.scan.first) c.early-next.ensures in
+    let F = facts (goal.at.cell_part-cell-requires-clause-point c).After-open_at-after in
     (subst (OperandPart z s.end) (sym c.point_at-point.ensures) F.point, subst IsProperPart (sym c.point_at-point.ensures) (point_proper c.cells.x c.stretch_at-here.result.at))
 
 pub cell_part-cell-requires-clause-after : goal.cell_part-cell-requires-clause-after
 cell_part-cell-requires-clause-after c =
     let s = c.args.s.now in
     let z = sizes_in s.first.now s.second.now s.end in
-    let F = part_facts z s.first.now s.second.now c.args.from c.args.until.now c.args.low c.difference-room.result c.limit_of-limit.result s.end c.args.t c.cells.least c.cells.more c.cells.x c.stretch_at-here.result
-    c.early-next.result c.requires.from c.requires.low c.requires.until c.difference-room.ensures c.limit_of-limit.ensures c.cells-test.true c.cells.invariant c.requires.scan.first c.stretch_at-here.ensures.goes
-    c.stretch_at-here.ensures.times (c.stretch_at-here.ensures.sizes z s.end c.requires.scan.first) c.early-next.ensures in
+    let F = facts (goal.at.cell_part-cell-requires-clause-after c).After-open_at-after in
     let e_after = c.open_at-after.ensures ∙ ap (λ o. open_at c.cells.x o c.stretch_at-here.result.line) c.or_else-to.ensures in
     (subst (OperandPart z s.end) (sym e_after) F.after, subst IsProperPart (sym e_after) F.proper)
 
@@ -62,9 +67,7 @@ pub cells-smaller : goal.cells-smaller
 cells-smaller c =
     let s = c.args.s.now in
     let z = sizes_in s.first.now s.second.now s.end in
-    let F = part_facts z s.first.now s.second.now c.args.from c.args.until.now c.args.low c.difference-room.result c.limit_of-limit.result s.end c.args.t c.cells.least c.cells.more c.cells.x c.stretch_at-here.result
-    c.early-next.result c.requires.from c.requires.low c.requires.until c.difference-room.ensures c.limit_of-limit.ensures c.cells-test.true c.cells.invariant c.requires.scan.first c.stretch_at-here.ensures.goes
-    c.stretch_at-here.ensures.times (c.stretch_at-here.ensures.sizes z s.end c.requires.scan.first) c.early-next.ensures in
+    let F = facts (goal.at.cells-smaller c).After-open_at-after in
     subst (λ b. steps_while c.is_time-more.result z.dt c.limit_of-limit.result c.time_or-x.result < steps_while b z.dt c.limit_of-limit.result c.cells.x) (sym c.cells-test.true)
     (walk_fewer z s.end c.limit_of-limit.result c.cells.x c.args.until.now c.stretch_at-here.result c.early-next.result c.is_time-more.result c.time_or-x.result c.requires.scan.first.limited.sizes.dt c.cells.invariant.whole F
     c.is_time-more.ensures c.time_or-x.ensures)
@@ -73,9 +76,7 @@ pub cells-preserved : goal.cells-preserved
 cells-preserved c =
     let s = c.args.s.now in
     let z = sizes_in s.first.now s.second.now s.end in
-    let F = part_facts z s.first.now s.second.now c.args.from c.args.until.now c.args.low c.difference-room.result c.limit_of-limit.result s.end c.args.t c.cells.least c.cells.more c.cells.x c.stretch_at-here.result
-    c.early-next.result c.requires.from c.requires.low c.requires.until c.difference-room.ensures c.limit_of-limit.ensures c.cells-test.true c.cells.invariant c.requires.scan.first c.stretch_at-here.ensures.goes
-    c.stretch_at-here.ensures.times (c.stretch_at-here.ensures.sizes z s.end c.requires.scan.first) c.early-next.ensures in
+    let F = facts (goal.at.cells-preserved c).After-open_at-after in
     let e_after = c.open_at-after.ensures ∙ ap (λ o. open_at c.cells.x o c.stretch_at-here.result.line) c.or_else-to.ensures in
     let T : SumTimeIn z s.end c.args.t = record { limited = c.requires.scan.first.limited; start = c.requires.time } in
     let W = subst (λ b. PartWalk z s.first.now s.second.now c.args.from c.args.until.now c.args.low c.limit_of-limit.result s.end c.args.t c.cells.least b c.cells.x) c.cells-test.true c.cells.invariant in
