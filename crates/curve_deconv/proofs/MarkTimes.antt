@@ -13,7 +13,8 @@ use Rattle.upp_curve.specs.affine_segment.Reading.{read, piece_value}
 use Rattle.upp_curve.specs.affine_segment.Pieces.{Each, RisesFrom, StartsAtZero}
 use Rattle.upp_curve.proofs.affine_segment.PieceIn.{value_past, read_go, read_one, read_stop, value_by}
 use Rattle.curve_deconv.specs.declared.marks.Last.{Last}
-use Rattle.curve_deconv.specs.Marks.{first_last, last_by, last_step, last_of, next_time}
+use Rattle.curve_deconv.specs.Marks.{first_last, last_by, last_step, last_of}
+use Rattle.element_envelope.specs.Pace.{stretch_end}
 use Rattle.curve_deconv.specs.DeconvolutionWindows.{IsInfiniteFrom, IsFiniteFrom}
 
 abbrev pub IsLevel : Ext → Type 0
@@ -223,14 +224,14 @@ whole_by d last x next v None a b c = c
 whole_by d last x next Inf (Some l) a b c = b
 whole_by d last x next (Fin v) (Some l) a b c = a
 
-next_whole : (d : ℕ) (ps : List Piece) (end : ℚ) → Each (λ p. Whole d p.x) ps → Whole d end → Whole d (next_time ps end)
+next_whole : (d : ℕ) (ps : List Piece) (end : ℚ) → Each (λ p. Whole d p.x) ps → Whole d end → Whole d (stretch_end ps end)
 next_whole d [] end h e = e
 next_whole d (p ∷ ps) end h e = h.0
 
 pub until_whole : (d : ℕ) (ps : List Piece) (end : ℚ) (last : Last) → Each (λ p. Whole d p.x) ps → Whole d end → Whole d last.until → Whole d (last_of ps end last).until
 until_whole d [] end last h e w = w
 until_whole d (p ∷ ps) end last h e w =
-    until_whole d ps end (last_step last p (next_time ps end)) h.1 e (whole_by d last p.x (next_time ps end) p.at p.line w h.0 (next_whole d ps end h.1 e))
+    until_whole d ps end (last_step last p (stretch_end ps end)) h.1 e (whole_by d last p.x (stretch_end ps end) p.at p.line w h.0 (next_whole d ps end h.1 e))
 
 -- and no later than the end
 most_by : (last : Last) (x next end : ℚ) (v : Ext) (o : Option Line) → last.until ≤ℚ end → x ≤ℚ end → next ≤ℚ end → (last_by last x v o next).until ≤ℚ end
@@ -238,10 +239,10 @@ most_by last x next end v None a b c = c
 most_by last x next end Inf (Some l) a b c = b
 most_by last x next end (Fin v) (Some l) a b c = a
 
-next_most : (ps : List Piece) (end : ℚ) → Each (λ p. p.x <ℚ end) ps → next_time ps end ≤ℚ end
+next_most : (ps : List Piece) (end : ℚ) → Each (λ p. p.x <ℚ end) ps → stretch_end ps end ≤ℚ end
 next_most [] end h = le_refl end
 next_most (p ∷ ps) end h = le_of_lt h.0
 
 pub until_most : (ps : List Piece) (end : ℚ) (last : Last) → Each (λ p. p.x <ℚ end) ps → last.until ≤ℚ end → (last_of ps end last).until ≤ℚ end
 until_most [] end last h w = w
-until_most (p ∷ ps) end last h w = until_most ps end (last_step last p (next_time ps end)) h.1 (most_by last p.x (next_time ps end) end p.at p.line w (le_of_lt h.0) (next_most ps end h.1))
+until_most (p ∷ ps) end last h w = until_most ps end (last_step last p (stretch_end ps end)) h.1 (most_by last p.x (stretch_end ps end) end p.at p.line w (le_of_lt h.0) (next_most ps end h.1))

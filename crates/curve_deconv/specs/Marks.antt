@@ -8,15 +8,11 @@ use Rattle.upp_curve.specs.declared.affine_segment.line.Line.{Line}
 use Rattle.upp_curve.specs.declared.affine_segment.line.Piece.{Piece}
 use Rattle.curve_deconv.specs.declared.marks.Last.{Last}
 use Rattle.curve_call.specs.Made.{zero_line}
+use Rattle.element_envelope.specs.Pace.{stretch_end}
 
 -- nowhere yet
 abbrev pub first_last : Last
 first_last = record { until = int (pos 0); at = Fin (int (pos 0)) }
-
--- where the piece before these ends
-abbrev pub next_time : List Piece → ℚ → ℚ
-next_time [] end = end
-next_time (p ∷ ps) end = p.x
 
 -- after a point and the line from there up to `next`
 abbrev pub last_by : Last → ℚ → Ext → Option Line → ℚ → Last
@@ -30,7 +26,7 @@ last_step last p next = last_by last p.x p.at p.line next
 -- after all pieces, the last of them up to `end`
 abbrev pub last_of : List Piece → ℚ → Last → Last
 last_of [] end last = last
-last_of (p ∷ ps) end last = last_of ps end (last_step last p (next_time ps end))
+last_of (p ∷ ps) end last = last_of ps end (last_step last p (stretch_end ps end))
 
 -- ---- pieces that are infinite that long
 abbrev pub nothing_yet : Piece

@@ -2,7 +2,8 @@
 
 ghost use Rattle.std.specs.Prelude.{◌≡◌, ◌+◌, ◌<◌, ◌++◌, length, drop, OnOk, IfOk};
 ghost use Rattle.rational.specs.Ratio.{SumFits};
-ghost use Rattle.curve_deconv.specs.Marks.{last_step, last_of, first_last, next_time, after_pieces, mark_pieces};
+ghost use Rattle.curve_deconv.specs.Marks.{last_step, last_of, first_last, after_pieces, mark_pieces};
+ghost use Rattle.element_envelope.specs.Pace.{stretch_end};
 
 use fraction128::{Ext, Frac, sum};
 use rational::Extended;
@@ -22,7 +23,7 @@ pub(crate) struct Last {
 // Where the piece after the i-th starts; `end` where there is none.
 fn next_time(pieces: &[Piece], i: usize, end: Frac) -> Frac
     requires { i < length pieces.now }
-    ensures { result ≡ next_time (drop (i + 1) pieces.now) end }
+    ensures { result ≡ stretch_end (drop (i + 1) pieces.now) end }
 {
     match pieces.get(i + 1) {
         Some(p) => p.x,
