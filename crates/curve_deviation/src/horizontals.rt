@@ -9,6 +9,7 @@ ghost use Rattle.upp_limits.specs.Limits.{Sizes};
 ghost use Rattle.upp_limits.specs.Gauges.{IsKnownAtOnce, gauge_at};
 ghost use Rattle.min_plus.specs.Deviations.{IsHorizontalDeviation};
 ghost use Rattle.upp_limits.specs.Outcome.{KeepsLimits};
+ghost use Rattle.curve_call.specs.CallWindows.{IsWindow};
 ghost use Rattle.curve_call.specs.Frames.{IsFrame};
 ghost use Rattle.curve_deviation.specs.Parts.{IsFiniteInSizes};
 ghost use Rattle.curve_deviation.specs.Stages.{AreFinite, IsNarrowWindow, IsWideCall, IsFirst, IsSettledAt, AreFound, HasLeft, HasReached, settled, IsFoundCall, IsEnough};
@@ -283,6 +284,19 @@ fn reaches_at(f: &Curve, g: &Curve, level: Frac, numbers: &Guess, window: &CallW
     }
 }
 
+/// The window with the first number of periods, which is known where that is none.
+fn settled_window(f: &Curve, g: &Curve, numbers: &Guess) -> CallWindow
+    requires narrow { gauge_at OpKind.Horizontal f.now g.now numbers.now.first 0 < 2 ^ 120 }
+    requires window { IsWindow OpKind.Horizontal f.now g.now 0 0 numbers.now.window }
+    ensures { IsNarrowWindow f.now g.now numbers.now.first 0 result }
+{
+    let first = numbers.first;
+    if first == 0 {
+        return numbers.window;
+    }
+    known_window(f, g, first, 0)
+}
+
 /// A call within both limits whose numbers of periods are as guessed; None where they are not, or the call is over a
 /// limit with them.
 fn guessed_call(f: &Curve, g: &Curve) -> Option<FoundCall>
@@ -295,7 +309,7 @@ fn guessed_call(f: &Curve, g: &Curve) -> Option<FoundCall>
     let Ok(frame) = within_both(&OpKind::Horizontal, f, g, numbers.first, numbers.second) else {
         return None;
     };
-    let settled = known_window(f, g, numbers.first, 0);
+    let settled = settled_window(f, g, &numbers);
     if !is_first(f, g, &numbers, &settled) {
         return None;
     }

@@ -5,16 +5,16 @@ use Rattle.curve_deviation.proofs.horizontals.guessed_call.Goals as goal
 pub is_first-requires-clause-narrow : goal.is_first-requires-clause-narrow
 is_first-requires-clause-narrow c = c.in-Ok.ensures.frame.gauge
 
-pub known_window-settled-requires : goal.known_window-settled-requires
-known_window-settled-requires c =
+pub settled_window-settled-requires-clause-narrow : goal.settled_window-settled-requires-clause-narrow
+settled_window-settled-requires-clause-narrow c =
     let n = c.in_ok-numbers.numbers in
     narrow_with c.args.f.now c.args.g.now n.first 0 n.first n.second c.keeps.ensures c.keeps-2.ensures (omega arith) (omega arith) c.in-Ok.ensures.frame.gauge
 
 pub turn_in-turn-requires-clause-window : goal.turn_in-turn-requires-clause-window
-turn_in-turn-requires-clause-window c = (c.in_ok-numbers.numbers.first, c.known_window-settled.ensures.window)
+turn_in-turn-requires-clause-window c = (c.in_ok-numbers.numbers.first, c.settled_window-settled.ensures)
 
 pub is_first-requires-clause-window : goal.is_first-requires-clause-window
-is_first-requires-clause-window c = c.known_window-settled.ensures.window
+is_first-requires-clause-window c = c.settled_window-settled.ensures
 
 -- the call's own window
 pub reaches_at-requires-clause-window : goal.reaches_at-requires-clause-window
@@ -28,6 +28,6 @@ reaches_at-requires-clause-narrow c = c.in-Ok.ensures.frame.gauge
 pub returns : goal.returns
 returns c =
     let n = c.in_ok-numbers.numbers in
-    let found = guessed_found c.args.f.now c.args.g.now n.first n.second c.turn_in-turn.result (c.is_first.ensures c.if-not-is_first.false) (c.turn_in-turn.ensures n.first c.known_window-settled.ensures.window)
+    let found = guessed_found c.args.f.now c.args.g.now n.first n.second c.turn_in-turn.result (c.is_first.ensures c.if-not-is_first.false) (c.turn_in-turn.ensures n.first c.settled_window-settled.ensures)
     (c.reaches_at.ensures.below c.if-not-reaches_at.false) (c.reaches_at.ensures.reached c.if-not-reaches_at.false) in
     record { found = found; frame = c.in-Ok.ensures.frame }
