@@ -64,10 +64,10 @@ nothing_holds : (T V S : ℚ → Type 0) → Holds T V S no_numbers
 nothing_holds T V S = record { times = tt; values = tt; slopes = tt }
 
 -- where it starts before `end` the first copy is the span
-once_there : (T V S : ℚ → Type 0) (end : ℚ) (s : Span) → s.piece.x <ℚ end → Holds T V S (once_numbers end s) → Holds T V S (span_numbers s)
+pub once_there : (T V S : ℚ → Type 0) (end : ℚ) (s : Span) → s.piece.x <ℚ end → Holds T V S (once_numbers end s) → Holds T V S (span_numbers s)
 once_there T V S end s l h = subst (λ b. Holds T V S (cond b (span_numbers s) no_numbers)) (lt_q_out s.piece.x end l) h
 
-once_back : (T V S : ℚ → Type 0) (end : ℚ) (s : Span) → (s.piece.x <ℚ end → Holds T V S (span_numbers s)) → Holds T V S (once_numbers end s)
+pub once_back : (T V S : ℚ → Type 0) (end : ℚ) (s : Span) → (s.piece.x <ℚ end → Holds T V S (span_numbers s)) → Holds T V S (once_numbers end s)
 once_back T V S end s f = elim (le_or_lt end s.piece.x) [
   | inl l ↦ subst (λ b. Holds T V S (cond b (span_numbers s) no_numbers)) (sym (lt_q_not s.piece.x end l)) (nothing_holds T V S)
   | inr l ↦ subst (λ b. Holds T V S (cond b (span_numbers s) no_numbers)) (sym (lt_q_out s.piece.x end l)) (f l)

@@ -32,3 +32,6 @@ pub mod CoveredCounts
 pub mod FewCopies
 pub mod LeastNumbers
 pub mod OneLimit
+pub mod SmallNumbers
+pub mod PlainCalls
+pub mod PlainTimes

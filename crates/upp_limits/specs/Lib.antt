@@ -16,3 +16,4 @@ pub mod CallNumbers
 pub mod Covered
 pub mod LimitTest
 pub mod OwnLimits
+pub mod Plain

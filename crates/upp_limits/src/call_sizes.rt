@@ -12,6 +12,7 @@ use crate::gathered::Gathered;
 use crate::op_kind::OpKind;
 use crate::operand_numbers::with_operands;
 use crate::own_window::{OwnNumbers, numbers_of};
+use crate::plain::plain_grid;
 use fraction128::Frac;
 use rational::Extended;
 use upp_curve::Curve;
@@ -133,14 +134,29 @@ fn exact_grids(op: &OpKind, f: &Curve, g: &Curve, end: Frac) -> Option<CallGrids
     }
 }
 
-/// The grids of a call over the end of its window. None exactly where its gauge is 2^120 or more. The gauge itself is
-/// made only where a bound of it, which is quicker to make, does not tell. No memory is taken and nothing is unrolled.
-pub fn narrow_grids(op: &OpKind, f: &Curve, g: &Curve, end: Frac) -> Option<CallGrids>
+/// The same, by a bound of the gauge first.
+fn gauged_grids(op: &OpKind, f: &Curve, g: &Curve, end: Frac) -> Option<CallGrids>
     ensures { MatchOption result (2 ^ 120 ≤ gauge_over op.now f.now g.now end)
         (AreNarrowGrids op.now f.now g.now end) }
 {
     match covered_grids(op, f, g, end) {
         Some(grids) => Some(grids),
         None => exact_grids(op, f, g, end),
+    }
+}
+
+/// The grids of a call over the end of its window. None exactly where its gauge is 2^120 or more. The gauge itself is
+/// made only where neither the sizes of the numbers nor a bound of it, which are quicker to make, tell. No memory is taken
+/// and nothing is unrolled.
+pub fn narrow_grids(op: &OpKind, f: &Curve, g: &Curve, end: Frac) -> Option<CallGrids>
+    ensures { MatchOption result (2 ^ 120 ≤ gauge_over op.now f.now g.now end)
+        (AreNarrowGrids op.now f.now g.now end) }
+{
+    match plain_grid(op, f, g, end) {
+        Some(grid) => Some(CallGrids {
+            times: grid,
+            values: grid,
+        }),
+        None => gauged_grids(op, f, g, end),
     }
 }

@@ -14,10 +14,12 @@ pub mod op_kind;
 pub mod operand_numbers;
 mod own_limits;
 mod own_window;
+mod plain;
 mod scaled_numbers;
 mod seen;
 pub mod start_counts;
 mod starts;
+mod times;
 
 pub use call_sizes::{CallGrids, CallNumbers, call_numbers, narrow_grids};
 pub use known::{is_level, is_level_above};
