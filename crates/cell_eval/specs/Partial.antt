@@ -10,6 +10,9 @@ use Rattle.net_cells.specs.Answers.{Answers}
 use Rattle.net_cells.specs.Refusals.{RefusedAt}
 use Rattle.cell_eval.specs.declared.curve_sums.Partial.{Partial}
 use Rattle.cell_eval.specs.declared.curve_sums.Partial.TheVariants.{Nothing, One, Made}
+use Rattle.cell_eval.specs.declared.curve_sums.Growing.{Growing}
+use Rattle.cell_eval.specs.declared.curve_sums.Growing.TheVariants.{Empty, Single, Lines, Whole}
+use Rattle.plain_operators.specs.pointwise.Straight.{straight_curve}
 use Rattle.cell_numbers.specs.TableValues.{IsCurveAt}
 
 -- f is the sum of two cells or more; to hand it on there might be no memory
@@ -53,6 +56,17 @@ pub record IsSummed (at : CellTable) (cells : List Cell) (f : SpecCurve) : Type 
   pub answers : Answers at (sum_of_cells cells) (Ok (curve f))
 
 -- ---- sums that grow in place
+-- what has grown: of curves of one line each the numbers of the sum stand for its curve
+abbrev pub partial_of : Growing → Partial
+partial_of Empty = Nothing
+partial_of (Single c) = One c
+partial_of (Lines s) = Made (straight_curve s)
+partial_of (Whole f) = Made f
+
+abbrev pub as_partial : Result Growing OpFault → Result Partial OpFault
+as_partial (Ok g) = Ok (partial_of g)
+as_partial (Err fault) = Err fault
+
 -- a curve that was made is the sum of two cells or more
 abbrev pub sum_made : Result SpecCurve OpFault → Result Partial OpFault
 sum_made (Ok f) = Ok (Made f)

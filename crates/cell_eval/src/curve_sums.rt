@@ -1,8 +1,11 @@
 //! Sums of the curves of cells, one cell after the other: no memory is taken but for the curves themselves.
 
-ghost use Rattle.std.specs.Prelude.{◌≡◌, ◌<◌, ℕ, List, [], ◌∷◌, length, map, Some, IfOk, OnOk};
+ghost use Rattle.std.specs.Prelude.{◌≡◌, ◌<◌, ℕ, List, [], ◌∷◌, length, map, Some, Ok, IfOk, OnOk, IfSome};
 ghost use Rattle.std.specs.List.{range_with_len};
+ghost use Rattle.upp_limits.specs.declared.op_kind.OpKind.TheVariants.{Sum};
 ghost use Rattle.curve_call.specs.Again.{IsAgain};
+ghost use Rattle.curve_call.specs.Calls.{IsApplied};
+ghost use Rattle.plain_operators.specs.pointwise.Straight.{straight_curve};
 ghost use Rattle.net_cells.specs.declared.cell.Cell.{Cell};
 ghost use Rattle.net_cells.specs.declared.cell.Kind.TheVariants.{In, Total};
 ghost use Rattle.net_cells.specs.Numbered.{zero_curve};
@@ -13,7 +16,7 @@ ghost use Rattle.net_cells.specs.CellFormulas.{sum_of_cells};
 ghost use Rattle.net_cells.specs.cell_table.Gives.{Gives};
 ghost use Rattle.net_cells.specs.cell_table.Values.{answer_of, meaning_of};
 ghost use Rattle.cell_numbers.specs.Chosen.{chosen, all_chosen, visit_list};
-ghost use Rattle.cell_eval.specs.Partial.{IsPartial, IsReady, IsSummed, Adds, in_place, sum_made};
+ghost use Rattle.cell_eval.specs.Partial.{IsPartial, IsReady, IsSumOf, IsSummed, Adds, partial_of, as_partial, in_place, sum_made};
 ghost use Rattle.cell_numbers.specs.TableValues.{IsCurveAt};
 
 use crate::sharing::{again, shared};
@@ -25,6 +28,7 @@ use net_cells::cell_table::{Table, Value};
 use net_cells::{Cell, Kind};
 use net_model::Network;
 use outcomes::Steps;
+use plain_operators::pointwise::{Straight, line_curve, small_total, straight_of};
 use plain_operators::running::sum;
 use std::alloc::Global;
 use std::sync::ledger::Ledger;
@@ -38,6 +42,16 @@ pub enum Partial {
     Nothing,
     One(Cell),
     Made(Curve),
+}
+
+/// A sum that grows: of no cell, of one, or of more. Of curves of one line each it is kept as its numbers alone, while these
+/// are small, so that no curve is made but the last.
+#[derive(Drop)]
+pub(crate) enum Growing {
+    Empty,
+    Single(Cell),
+    Lines(Straight),
+    Whole(Curve),
 }
 
 /// The curve that is 0 at each time.
@@ -65,14 +79,119 @@ fn with_cell<T: Table<Value>, L: Ledger>(
     intact(sum(alloc, so_far, curve_at(table, cell), steps))
 }
 
-// A sum that was made, in place of the one before it; where it was refused that one stays.
-fn replace(so_far: &mut Partial, made: Result<Curve, OpFault>) -> Result<(), OpFault>
-    ensures made { in_place so_far.new result ≡ sum_made made }
-    ensures ready { (at : CellTable) → OnOk result (IsReady at so_far.new) }
+// The numbers of a sum and a curve more, where both are lines of small numbers.
+fn line_more(so_far: &Straight, next: &Curve) -> Option<Straight>
+    ensures { IfSome result (λ s. IsApplied Sum (straight_curve so_far.now) next.now (straight_curve s)) }
+{
+    match straight_of(next) {
+        Some(line) => small_total(so_far, &line),
+        None => None,
+    }
+}
+
+// The same of two curves.
+fn line_total(so_far: &Curve, next: &Curve) -> Option<Straight>
+    ensures { IfSome result (λ s. IsApplied Sum so_far.now next.now (straight_curve s)) }
+{
+    match straight_of(so_far) {
+        Some(line) => line_more(&line, next),
+        None => None,
+    }
+}
+
+// A sum of which the curve was made.
+fn whole(made: Result<Curve, OpFault>) -> Result<Growing, OpFault>
+    ensures made { as_partial result ≡ sum_made made }
+    ensures ready { (at : CellTable) → IfOk (as_partial result) (IsReady at) }
 {
     match made {
-        Ok(curve) => {
-            *so_far = Partial::Made(curve);
+        Ok(curve) => Ok(Growing::Whole(curve)),
+        Err(fault) => Err(fault),
+    }
+}
+
+// A cell's curve more after a curve.
+fn after_curve<T: Table<Value>, L: Ledger>(
+    alloc: Global,
+    so_far: &Curve,
+    table: &T,
+    cell: Cell,
+    steps: &mut Steps<L>,
+) -> Result<Growing, OpFault>
+    requires { IsCurveAt (T.at table.now) cell }
+    ensures sum { (cells : List Cell) → IsSummed (T.at table.now) cells so_far.now →
+        Adds (T.at table.now) cells (cell ∷ []) steps.old steps.new (as_partial result) }
+    ensures ready { (at : CellTable) → IfOk (as_partial result) (IsReady at) }
+{
+    match line_total(so_far, curve_at(table, cell)) {
+        Some(total) => {
+            steps.tick();
+            Ok(Growing::Lines(total))
+        }
+        None => whole(with_cell(alloc, so_far, table, cell, steps)),
+    }
+}
+
+// The curve of a sum that is kept as its numbers.
+fn made_of_lines(alloc: Global, lines: &Straight) -> Result<Curve, OpFault>
+    ensures { IsAgain (straight_curve lines.now) result }
+{
+    match line_curve(alloc, lines) {
+        Ok(made) => Ok(made),
+        Err(_) => Err(OpFault::NoMemory),
+    }
+}
+
+// A cell's curve more after a sum whose curve has to be made first.
+fn after_made<T: Table<Value>, L: Ledger>(
+    alloc: Global,
+    so_far: &Straight,
+    table: &T,
+    cell: Cell,
+    steps: &mut Steps<L>,
+) -> Result<Growing, OpFault>
+    requires { IsCurveAt (T.at table.now) cell }
+    ensures sum { (cells : List Cell) → IsSumOf (T.at table.now) cells (straight_curve so_far.now) →
+        Adds (T.at table.now) cells (cell ∷ []) steps.old steps.new (as_partial result) }
+    ensures ready { (at : CellTable) → IfOk (as_partial result) (IsReady at) }
+{
+    match made_of_lines(alloc, so_far) {
+        Ok(made) => whole(with_cell(alloc, &made, table, cell, steps)),
+        Err(fault) => Err(fault),
+    }
+}
+
+// A cell's curve more after a sum that is kept as its numbers.
+fn after_lines<T: Table<Value>, L: Ledger>(
+    alloc: Global,
+    so_far: &Straight,
+    table: &T,
+    cell: Cell,
+    steps: &mut Steps<L>,
+) -> Result<Growing, OpFault>
+    requires { IsCurveAt (T.at table.now) cell }
+    ensures sum { (cells : List Cell) → IsSumOf (T.at table.now) cells (straight_curve so_far.now) →
+        Adds (T.at table.now) cells (cell ∷ []) steps.old steps.new (as_partial result) }
+    ensures ready { (at : CellTable) → IfOk (as_partial result) (IsReady at) }
+{
+    match line_more(so_far, curve_at(table, cell)) {
+        Some(total) => {
+            steps.tick();
+            Ok(Growing::Lines(total))
+        }
+        None => after_made(alloc, so_far, table, cell, steps),
+    }
+}
+
+// A sum in place of the one before it; where it was refused that one stays.
+fn replace(so_far: &mut Growing, made: Result<Growing, OpFault>) -> Result<(), OpFault>
+    ensures made { in_place (partial_of so_far.new) result ≡ as_partial made }
+    ensures ready { (at : CellTable) → IfOk (as_partial made) (IsReady at) →
+        OnOk result (IsReady at (partial_of so_far.new)) }
+{
+    match made {
+        Ok(next) => {
+            *so_far = next;
             Ok(())
         }
         Err(fault) => Err(fault),
@@ -82,30 +201,51 @@ fn replace(so_far: &mut Partial, made: Result<Curve, OpFault>) -> Result<(), OpF
 // A cell more in a sum.
 fn add<T: Table<Value>, L: Ledger>(
     alloc: Global,
-    so_far: &mut Partial,
+    so_far: &mut Growing,
     table: &T,
     cell: Cell,
     steps: &mut Steps<L>,
 ) -> Result<(), OpFault>
     requires cell { IsCurveAt (T.at table.now) cell }
-    requires ready { IsReady (T.at table.now) so_far.old }
-    ensures sum { (cells : List Cell) → IsPartial (T.at table.now) cells so_far.old →
-        Adds (T.at table.now) cells (cell ∷ []) steps.old steps.new (in_place so_far.new result) }
-    ensures ready { OnOk result (IsReady (T.at table.now) so_far.new) }
+    requires ready { IsReady (T.at table.now) (partial_of so_far.old) }
+    ensures sum { (cells : List Cell) → IsPartial (T.at table.now) cells (partial_of so_far.old) →
+        Adds (T.at table.now) cells (cell ∷ []) steps.old steps.new (in_place (partial_of so_far.new) result) }
+    ensures ready { OnOk result (IsReady (T.at table.now) (partial_of so_far.new)) }
 {
     match so_far {
-        Partial::Nothing => {
-            *so_far = Partial::One(cell);
+        Growing::Empty => {
+            *so_far = Growing::Single(cell);
             Ok(())
         }
-        Partial::One(first) => {
-            let made = with_cell(alloc, curve_at(table, *first), table, cell, steps);
+        Growing::Single(first) => {
+            let made = after_curve(alloc, curve_at(table, *first), table, cell, steps);
             replace(so_far, made)
         }
-        Partial::Made(first) => {
-            let made = with_cell(alloc, first, table, cell, steps);
+        Growing::Lines(lines) => {
+            let made = after_lines(alloc, lines, table, cell, steps);
             replace(so_far, made)
         }
+        Growing::Whole(first) => {
+            let made = after_curve(alloc, first, table, cell, steps);
+            replace(so_far, made)
+        }
+    }
+}
+
+// The sum that has grown, with its curve made.
+fn grown(alloc: Global, so_far: Growing) -> Result<Partial, OpFault>
+    ensures sum { (at : CellTable) (cells : List Cell) (old new : ℕ) → Adds at [] cells old new (Ok (partial_of so_far)) →
+        Adds at [] cells old new result }
+    ensures ready { (at : CellTable) → IsReady at (partial_of so_far) → IfOk result (IsReady at) }
+{
+    match so_far {
+        Growing::Empty => Ok(Partial::Nothing),
+        Growing::Single(cell) => Ok(Partial::One(cell)),
+        Growing::Lines(lines) => match made_of_lines(alloc, &lines) {
+            Ok(made) => Ok(Partial::Made(made)),
+            Err(fault) => Err(fault),
+        },
+        Growing::Whole(made) => Ok(Partial::Made(made)),
     }
 }
 
@@ -125,7 +265,7 @@ pub fn finished<T: Table<Value>>(alloc: Global, table: &T, whole: Partial) -> Re
 // The flow's curve at its hop that is meant more in a sum, if there is one.
 fn add_flow<T: Table<Value>, L: Ledger>(
     alloc: Global,
-    so_far: &mut Partial,
+    so_far: &mut Growing,
     table: &T,
     net: &Network,
     server: u32,
@@ -136,10 +276,10 @@ fn add_flow<T: Table<Value>, L: Ledger>(
 ) -> Result<(), OpFault>
     requires curves { (k : ℕ) → chosen net.now server pick except flow ≡ visit_list flow (Some k) →
         IsCurveAt (T.at table.now) (cell_of In flow k) }
-    requires ready { IsReady (T.at table.now) so_far.old }
-    ensures sum { (cells : List Cell) → IsPartial (T.at table.now) cells so_far.old → Adds (T.at table.now) cells
-        (map (at_visit In) (chosen net.now server pick except flow)) steps.old steps.new (in_place so_far.new result) }
-    ensures ready { OnOk result (IsReady (T.at table.now) so_far.new) }
+    requires ready { IsReady (T.at table.now) (partial_of so_far.old) }
+    ensures sum { (cells : List Cell) → IsPartial (T.at table.now) cells (partial_of so_far.old) → Adds (T.at table.now) cells
+        (map (at_visit In) (chosen net.now server pick except flow)) steps.old steps.new (in_place (partial_of so_far.new) result) }
+    ensures ready { OnOk result (IsReady (T.at table.now) (partial_of so_far.new)) }
 {
     match chosen_at(net, flow, server, pick, except) {
         Some(hop) => {
@@ -171,7 +311,7 @@ pub fn flows_sum<T: Table<Value>, L: Ledger>(
     ensures ready { IfOk result (IsReady (T.at table.now)) }
 {
     let count = net.flows().len() as u32;
-    let mut so_far = Partial::Nothing;
+    let mut so_far = Growing::Empty;
     for flow in 0..count {
         match add_flow(
             alloc,
@@ -188,7 +328,7 @@ pub fn flows_sum<T: Table<Value>, L: Ledger>(
             Err(fault) => return Err(fault),
         }
     }
-    Ok(so_far)
+    grown(alloc, so_far)
 }
 
 /// The sum of the curves of the first queues of a server.
@@ -204,7 +344,7 @@ pub fn queues_sum<T: Table<Value>, L: Ledger>(
         (map (cell_of Total server) (range_with_len 0 queues)) steps.old steps.new result }
     ensures ready { IfOk result (IsReady (T.at table.now)) }
 {
-    let mut so_far = Partial::Nothing;
+    let mut so_far = Growing::Empty;
     for queue in 0..queues {
         let cell = Cell {
             kind: Kind::Total,
@@ -216,5 +356,5 @@ pub fn queues_sum<T: Table<Value>, L: Ledger>(
             Err(fault) => return Err(fault),
         }
     }
-    Ok(so_far)
+    grown(alloc, so_far)
 }
