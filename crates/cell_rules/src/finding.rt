@@ -16,6 +16,7 @@ ghost use Rattle.cell_rules.specs.Marks.{KeepsMarks, MarksCandidates, StandSomew
 
 use crate::cell_changes::{SLOTS, slot};
 use crate::marks::{first_marks, is_marked, mark_onward};
+use crate::path_search::search_paths;
 use crate::rule::{has_cell, same_rule};
 use crate::site::{Site, is_candidate, others_keep_their_rule};
 use net_cells::{Cell, cells, operands};
@@ -79,8 +80,8 @@ fn is_changed(site: Site, old: &Network, net: &Network, cell: Cell) -> bool
     }
 }
 
-// Whether a cell is touched: it is changed, or made of a flagged one.
-fn is_touched(
+/// Whether a cell is touched: it is changed, or made of a flagged one.
+pub(crate) fn is_touched(
     alloc: Global,
     old: &Network,
     net: &Network,
@@ -102,8 +103,8 @@ fn is_touched(
     reads_flagged(alloc, net, cell, flags, touched)
 }
 
-// Flags a touched cell, and puts it after the others.
-fn note(
+/// Flags a touched cell, and puts it after the others.
+pub(crate) fn note(
     flags: &mut Vec<bool>,
     touched: &mut Vec<Cell>,
     cell: Cell,
@@ -242,7 +243,7 @@ pub fn touched_cells(
             &mut touched,
         )?;
     }
-    search(alloc, old, net, site, &paths, &mut flags, &mut touched)?;
+    search_paths(alloc, old, net, site, &paths, &mut flags, &mut touched)?;
     Ok(touched)
 }
 

@@ -29,8 +29,8 @@ fn is_among(number: u32, numbers: &[u32]) -> bool
     false
 }
 
-// Whether a flow passes a server.
-fn passes(net: &Network, flow: u32, server: u32) -> bool
+/// Whether a flow passes a server.
+pub(crate) fn passes(net: &Network, flow: u32, server: u32) -> bool
     ensures { result ≡ spec.passes net.now flow server }
 {
     match live_flow(net, flow) {
