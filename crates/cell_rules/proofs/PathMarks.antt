@@ -1,7 +1,7 @@
 -- Flows that are marked: that a cell of a whole path is untouched where its flow is not.
 use Rattle.std.proofs.Common.{◌≡◌, ◌⊎◌, ℕ, ◌<◌, ◌+◌, ◌-◌, ◌==◌, List, [], ◌∷◌, ◌++◌, length, take, drop, map, Bool, true, false, refl, sym, ap, ◌∙◌, subst, inl, inr, arith}
 use Rattle.std.specs.Prelude.{Contains, slice_set}
-use Rattle.std.specs.List.{filter, flat_map, list_any, range_with_len}
+use Rattle.std.specs.List.{flat_map, list_any, range_with_len}
 use Rattle.std.proofs.lemmas.Bool.{cases_lt, eqb-true, or_from}
 use Rattle.std.proofs.lemmas.List.{take_more}
 use Rattle.net_model.specs.Networks.{Net}
@@ -10,14 +10,14 @@ use Rattle.net_cells.specs.declared.cell.Cell.{Cell}
 use Rattle.net_cells.specs.declared.cell.Kind.{Kind}
 use Rattle.net_cells.specs.declared.cell.Kind.TheVariants.{In, Cross, Total, Higher, QueueService, Theta, Residual, QueueDelay, QueueBacklog, HopDelay, ShiftOut, DeconvOut, Out, PathService, Tfa, Sfa, Bound}
 use Rattle.net_cells.specs.declared.cell.Scope.TheVariants.{EachPath}
-use Rattle.net_cells.specs.Numbered.{path, hops, is_live}
+use Rattle.net_cells.specs.Numbered.{path, hops}
 use Rattle.net_cells.specs.Cells.{cell_of, scope_of, has_cell, path_kinds}
 use Rattle.net_cells.specs.Order.{path_cells}
 use Rattle.net_cells.specs.Formulas.{leaves}
 use Rattle.net_cells.specs.CellFormulas.{formula_of, formula}
 use Rattle.net_cells.proofs.Lists.{Has, contains_has, has_contains, map_has, flat_has, has_either}
 use Rattle.net_cells.proofs.LeavesOf.{served_leaves}
-use Rattle.net_cells.proofs.Places.{flow_inside}
+use Rattle.net_cells.proofs.Places.{flow_inside, path_have, path_scope}
 use Rattle.net_cells.proofs.Precedes.{in_front, leaf_in_front, operands_are_cells}
 use Rattle.net_cells.proofs.cell_table.Fronts.{no_cell, cell_at}
 use Rattle.cell_rules.specs.cell_changes.Changes.{Touched, Untouched, TouchedOf, no_more, passed, taken}
@@ -239,13 +239,5 @@ module _ (site : Site) (old net : Net) (cells : List Cell) (i : ℕ) (marks flag
 -- the cells of whole paths are such
 pub of_paths : (net : Net) → AreOfPaths (flat_map (path_cells net) path_kinds)
 of_paths net c m =
-    let found = flat_has (path_cells net) path_kinds c (contains_has (flat_map (path_cells net) path_kinds) c m) in
-    let here = map_has (λ (i : ℕ). cell_of found.0 i 0) (filter (is_live net) (range_with_len 0 (length net.flows))) c found.2 in
-    kind_of found.0 found.1 (ap (λ (x : Cell). x.kind) (sym here.2))
-  where
-    kind_of : (kind : Kind) → Has path_kinds kind → c.kind ≡ kind → scope_of c.kind ≡ EachPath
-    kind_of kind (inl is) e = ap scope_of (e ∙ sym is)
-    kind_of kind (inr (inl is)) e = ap scope_of (e ∙ sym is)
-    kind_of kind (inr (inr (inl is))) e = ap scope_of (e ∙ sym is)
-    kind_of kind (inr (inr (inr (inl is)))) e = ap scope_of (e ∙ sym is)
-    kind_of kind (inr (inr (inr (inr none)))) e = absurd none
+    let kind = flat_has (path_cells net) path_kinds c (contains_has (flat_map (path_cells net) path_kinds) c m) in
+    ap scope_of (path_have net kind.0 c kind.2).kind_is ∙ path_scope kind.0 kind.1
