@@ -1,6 +1,6 @@
 -- Flows that are marked: that a cell of a whole path is untouched where its flow is not.
-use Rattle.std.proofs.Common.{◌≡◌, ◌⊎◌, ℕ, ◌<◌, ◌+◌, ◌-◌, ◌==◌, List, [], ◌∷◌, ◌++◌, length, take, drop, map, Bool, true, false, refl, sym, ap, ◌∙◌, subst, inl, inr, arith}
-use Rattle.std.specs.Prelude.{Contains, slice_set}
+use Rattle.std.proofs.Common.{◌≡◌, ℕ, ◌<◌, ◌+◌, ◌-◌, List, [], ◌∷◌, ◌++◌, length, take, drop, map, Bool, true, false, refl, sym, ap, ◌∙◌, subst, inl, inr, arith}
+use Rattle.std.specs.Prelude.{slice_set}
 use Rattle.std.specs.List.{flat_map, list_any, range_with_len}
 use Rattle.std.proofs.lemmas.Bool.{cases_lt, eqb-true, or_from}
 use Rattle.std.proofs.lemmas.List.{take_more}
@@ -26,7 +26,7 @@ use Rattle.cell_rules.proofs.cell_changes.HasSlots.{slots_are_own}
 use Rattle.cell_rules.specs.declared.site.Site.{Site}
 use Rattle.cell_rules.specs.declared.site.Site.TheVariants.{Server, Flow}
 use Rattle.cell_rules.specs.Sites.{IsSameBut, is_among, passes, is_candidate, reads_server, reads_flow}
-use Rattle.cell_rules.specs.Finding.{IsTold, IsNoted, flag_of, is_flagged}
+use Rattle.cell_rules.specs.Finding.{IsTold, IsNoted, flag_of}
 use Rattle.cell_rules.specs.Marks.{is_marked, KeepsMarks, MarksOwn, MarksPassing, MarksPaths, AreOfPaths, IsLookedAt, StandBehind, IsSearched}
 use Rattle.cell_rules.proofs.Marking.{mark_here, mark_kept}
 use Rattle.cell_rules.proofs.Searched.{whole_at, searched_more}

@@ -1,5 +1,4 @@
-use Rattle.std.proofs.Common.{List, Bool, [], sym, subst, arith}
-use Rattle.std.proofs.lemmas.List.{get_or_past}
+use Rattle.std.proofs.Common.{sym, subst}
 use Rattle.cell_rules.specs.declared.site.Site.{Site}
 use Rattle.cell_rules.specs.Marks.{MarksPaths}
 use Rattle.cell_rules.proofs.path_search.first_flows.Goals as goal
