@@ -243,7 +243,7 @@ pub fn touched_cells(
             &mut touched,
         )?;
     }
-    search_paths(alloc, old, net, site, &paths, &mut flags, &mut touched)?;
+    search_paths(&paths, alloc, site, old, net, &mut touched, &mut flags)?;
     Ok(touched)
 }
 

@@ -106,21 +106,21 @@ fn look_at(
 
 // Searches those of the marked flows.
 fn search_marked(
-    alloc: Global,
-    old: &Network,
-    net: &Network,
-    site: Site,
     cells: &[Cell],
     marks: &[bool],
+    alloc: Global,
+    site: Site,
+    old: &Network,
+    net: &Network,
     flags: &mut Vec<bool>,
     touched: &mut Vec<Cell>,
 ) -> Result<(), AllocError>
-    requires bare { AreBareAtFirst flags.old.items touched.old.items }
-    requires same { IsSameBut site old.now net.now }
     requires place { StandSomewhere net.now cells.now }
     requires paths { AreOfPaths cells.now }
     requires candidates { MarksPaths site old.now net.now marks.now }
     requires own { MarksOwn touched.old.items marks.now }
+    requires bare { AreBareAtFirst flags.old.items touched.old.items }
+    requires same { IsSameBut site old.now net.now }
     ensures { OnOk result (Searches old.now net.now cells.now
         flags.old.items touched.old.items flags.new.items touched.new.items) }
 {
@@ -133,22 +133,22 @@ fn search_marked(
 
 /// Searches the cells of whole paths, which stand behind those of all servers: finds the touched ones.
 pub(crate) fn search_paths(
+    cells: &[Cell],
     alloc: Global,
+    site: Site,
     old: &Network,
     net: &Network,
-    site: Site,
-    cells: &[Cell],
-    flags: &mut Vec<bool>,
     touched: &mut Vec<Cell>,
+    flags: &mut Vec<bool>,
 ) -> Result<(), AllocError>
-    requires bare { AreBareAtFirst flags.old.items touched.old.items }
-    requires same { IsSameBut site old.now net.now }
-    requires place { StandSomewhere net.now cells.now }
     requires paths { AreOfPaths cells.now }
+    requires place { StandSomewhere net.now cells.now }
+    requires same { IsSameBut site old.now net.now }
+    requires bare { AreBareAtFirst flags.old.items touched.old.items }
     ensures { OnOk result (Searches old.now net.now cells.now
         flags.old.items touched.old.items flags.new.items touched.new.items) }
 {
     let mut marks = first_flows(alloc, net, site)?;
     mark_own(&mut marks, touched);
-    search_marked(alloc, old, net, site, cells, &marks, flags, touched)
+    search_marked(cells, &marks, alloc, site, old, net, flags, touched)
 }
