@@ -17,8 +17,8 @@ ghost use Rattle.cell_rules.specs.Marks.{KeepsMarks, MarksCandidates, StandSomew
 use crate::cell_changes::{SLOTS, slot};
 use crate::marks::{first_marks, is_marked, mark_onward};
 use crate::path_search::search_paths;
-use crate::rule::{has_cell, same_rule};
-use crate::site::{Site, is_candidate, others_keep_their_rule};
+use crate::rule::{has_cell, same_rule_by};
+use crate::site::{Site, is_candidate, keeps_flows, others_keep_their_rule};
 use net_cells::{Cell, cells, operands};
 use net_model::Network;
 use std::alloc::{AllocError, Global};
@@ -74,7 +74,7 @@ fn is_changed(site: Site, old: &Network, net: &Network, cell: Cell) -> bool
 {
     others_keep_their_rule();
     if is_candidate(site, old, net, cell) {
-        !same_rule(cell, old, net)
+        !same_rule_by(keeps_flows(site), cell, old, net)
     } else {
         false
     }
