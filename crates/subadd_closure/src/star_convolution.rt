@@ -20,7 +20,7 @@ ghost use Rattle.curve_conv.specs.LateBounds.{IsSlowerBounds};
 ghost use Rattle.subadd_closure.specs.Ordered.{IsRepetition};
 ghost use Rattle.subadd_closure.specs.Thinned.{MayThin};
 
-use crate::again::{slower_rise, window_between, window_of};
+use crate::again::{few_window, slower_rise, window_between, window_of};
 use crate::ordered::{Repetition, early_repetition};
 use crate::quick_bounds::quick_bounds;
 use curve_call::{
@@ -194,6 +194,10 @@ fn convolved_within(
     ensures { IfOk result (λ c. (t : ℚ) → zero_q ≤ℚ t
         → IsConvolution (value_at f.now) (value_at g.now) t (value_at c t)) }
 {
+    // The walks that tell an early repetition cost more than few pairs.
+    if let Some(pieces) = few_window(alloc, f, g, frame, thin)? {
+        return curve_of(alloc, f, g, frame, pieces);
+    }
     if let Some(n) = early_repetition(f, g, frame, thin) {
         return early_convolved(alloc, f, g, frame, &n, thin);
     }
