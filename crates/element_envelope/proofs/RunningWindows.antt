@@ -8,15 +8,15 @@ use Rattle.rational.specs.declared.Extended.TheVariants.{Fin, Inf}
 use Rattle.rational.specs.Grid.{Whole}
 use Rattle.rational.proofs.Grid.{whole_add, whole_int}
 use Rattle.rational.proofs.Linear.{with3}
-use Rattle.rational.proofs.Laws.{le_or_lt, le_of_lt, le_trans, le_lt_trans, lt_le_trans, le_refl, lt_irrefl}
+use Rattle.rational.proofs.Laws.{le_or_lt, le_of_lt, le_trans, le_lt_trans, le_refl}
 use Rattle.rational.proofs.ExtendedOrder.{same_le_ext, min_one}
 use Rattle.upp_curve.specs.declared.affine_segment.line.Line.{Line}
 use Rattle.upp_curve.specs.declared.affine_segment.line.Piece.{Piece}
 use Rattle.upp_curve.specs.affine_segment.Fits.{LineFitsAt}
 use Rattle.upp_curve.specs.affine_segment.Pieces.{Each, RisesFrom, StartsAtZero}
-use Rattle.upp_curve.specs.affine_segment.Reading.{read, piece_value}
-use Rattle.upp_curve.specs.affine_segment.Values.{line_at, line_value}
-use Rattle.upp_curve.proofs.affine_segment.PieceIn.{value_past, value_by, read_go, read_one, read_stop}
+use Rattle.upp_curve.specs.affine_segment.Reading.{read}
+use Rattle.upp_curve.specs.affine_segment.Values.{line_value}
+use Rattle.upp_curve.proofs.affine_segment.PieceIn.{value_past, read_go, read_one, read_stop}
 use Rattle.min_plus.specs.Convolution.{IsConvolution}
 use Rattle.upp_limits.specs.Limits.{Sizes}
 use Rattle.upp_limits.specs.Sized.{grid_of}
@@ -30,14 +30,14 @@ use Rattle.element_envelope.specs.CopyWindows.{IsCopyWindow, HaveWindowRoom}
 use Rattle.element_envelope.specs.ElementRoom.{WindowTime}
 use Rattle.element_envelope.specs.RunningLines.{moved_to, MovesTo, line_from, reached, passed, running_piece, running, StartsBelow, IsOneLine, RunningRoom, StepRoom}
 use Rattle.element_envelope.specs.SumWindows.{SumStart, SumLineAt, SumPiece, SumWindow}
-use Rattle.element_envelope.proofs.Arching.{around_low, infinite_middle, line_middle, same_arches, lesser_arches}
+use Rattle.element_envelope.proofs.Arching.{around_low, line_middle, same_arches, lesser_arches}
 use Rattle.element_envelope.proofs.CopyReads.{line_later_stands, copy_fits}
 use Rattle.element_envelope.proofs.CopyWindows.{own_room, single_is}
 use Rattle.element_envelope.proofs.ElementSizes.{rise_whole, rise_within, sum_within}
 use Rattle.element_envelope.proofs.EnvelopeHalves.{LowerReady, lower_ready}
 use Rattle.element_envelope.proofs.RunningLines.{running_suffices}
 use Rattle.element_envelope.proofs.SumLower.{sum_lower}
-use Rattle.element_envelope.proofs.SumSteps.{line_fits_at, line_value_on}
+use Rattle.element_envelope.proofs.SumSteps.{line_value_on}
 
 -- ---- where a step stands
 window_time : (z : Sizes) (end : ℚ) (q : Piece) → WindowPiece z end q → WindowTime z end q.x

@@ -2,8 +2,7 @@ use Rattle.std.specs.Prelude.{None, ◌++◌}
 use Rattle.std.proofs.Common.{◌+◌, ap, drop, drop_of_length-le, subst, sym}
 use Rattle.rational.specs.declared.Extended.TheVariants.{Inf}
 use Rattle.upp_curve.proofs.affine_segment.NextPiece.{next_piece}
-use Rattle.element_envelope.specs.ConvolutionWindows.{WindowPiece}
-use Rattle.element_envelope.specs.RunningLines.{line_from, running, StepRoom}
+use Rattle.element_envelope.specs.RunningLines.{line_from, running}
 use Rattle.element_envelope.specs.SumWindows.{SumLineAt}
 use Rattle.element_envelope.proofs.RunningWindows.{sum_start, reached_stands, passed_stands, running_step, running_end}
 use Rattle.element_envelope.proofs.StartTests.{piece_there}
