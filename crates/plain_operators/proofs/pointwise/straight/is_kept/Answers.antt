@@ -2,12 +2,12 @@ use Rattle.std.specs.Prelude.{nat_abs, ◌<◌, ◌^◌}
 use Rattle.std.proofs.Common.{subst}
 use Rattle.rational.specs.Ratio.{IsSmall}
 use Rattle.plain_operators.proofs.pointwise.StraightSums.{straight_is_curve}
-use Rattle.plain_operators.proofs.pointwise.straight.curve_of.Goals as goal
+use Rattle.plain_operators.proofs.pointwise.straight.is_kept.Goals as goal
 
-pub from_normal-requires : goal.from_normal-requires
-from_normal-requires c =
+pub returns : goal.returns
+returns c =
     let small : IsSmall c.args.s.now.line.icept = record {
       top = subst (λ n. nat_abs n < 2 ^ 127) c.numerator.ensures.value c.numerator.ensures.size;
       bottom = subst (λ n. n < 2 ^ 127) c.denominator.ensures.value c.denominator.ensures.size;
     } in
-    rw (c.in-Ok.ensures.items, c.zero-zero.ensures) (straight_is_curve c.args.s.now small)
+    straight_is_curve c.args.s.now small
