@@ -6,7 +6,7 @@ use Rattle.net_edits.specs.declared.fault.EditFault.{EditFault}
 use Rattle.net_edits.specs.declared.fault.EditFault.TheVariants.{UnknownName, NameTaken, BadValue, LimitReached, Cycle, TooMany, TooWide, NothingToUndo, NoMemory}
 use Rattle.net_edits.specs.Refusals.{Or, bad_value, and_then, only_if}
 use Rattle.net_edits.specs.Edited.{Edited}
-use Rattle.net_edits.specs.Replies.{Refuses, IsMadeWithin, MakesNone, IsReply}
+use Rattle.net_edits.specs.Replies.{Refuses, MadeCurveFits, MakesNone, IsReply}
 
 module _ {X Y : Type 0} where
   pub then_ok : (r : Or X) (next : X → Or Y) (x : X) → r ≡ Ok x → and_then r next ≡ next x
@@ -67,5 +67,5 @@ over_reply r edited NothingToUndo e h = absurd h
 over_reply r edited NoMemory e h = tt
 
 pub edited_reply : (r : Or Edited) (edited : Edited) (net : Net) → r ≡ Ok edited → net ≡ edited.net
-    → IsMadeWithin edited.made → IsReply r (Ok net)
+    → MadeCurveFits edited.made → IsReply r (Ok net)
 edited_reply r edited net e same within = record { edited = edited; is = e; net = same; within = within }

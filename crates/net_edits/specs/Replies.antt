@@ -29,14 +29,15 @@ Tells r (Ok x) = r ≡ Ok x
 Tells r (Err fault) = Refuses r fault
 
 -- ---- curves that are made
--- the curve that was made is over no limit, or over this one, and the cell is the one that it counts as
-abbrev pub IsMadeWithin : Option MadeCurve → Type 0
-IsMadeWithin None = Unit {0}
-IsMadeWithin (Some made) = IsWithinOwn made.curve
+-- the curve that was made is over no limit, where one was made
+abbrev pub MadeCurveFits : Option MadeCurve → Type 0
+MadeCurveFits None = Unit {0}
+MadeCurveFits (Some made) = IsWithinOwn made.curve
 
-abbrev pub IsMadeOver : Option MadeCurve → Cell → OverLimit → Type 0
-IsMadeOver None cell over = ⊥
-IsMadeOver (Some made) cell over = (cell ≡ made.cell) × IsOver made.curve over
+-- or over this one, and the cell is the one that it counts as
+abbrev pub MadeCurveIsOver : Option MadeCurve → Cell → OverLimit → Type 0
+MadeCurveIsOver None cell over = ⊥
+MadeCurveIsOver (Some made) cell over = (cell ≡ made.cell) × IsOver made.curve over
 
 -- why nothing was made for it: the limit that it is over, or want of memory, and that only where it is over none
 abbrev pub MakesNone : Option MadeCurve → EditFault → Type 0
@@ -45,14 +46,14 @@ MakesNone made (NameTaken name) = ⊥
 MakesNone made BadValue = ⊥
 MakesNone made LimitReached = ⊥
 MakesNone made (Cycle walk) = ⊥
-MakesNone made (TooMany cell) = IsMadeOver made cell limit.TooMany
-MakesNone made (TooWide cell) = IsMadeOver made cell limit.TooWide
+MakesNone made (TooMany cell) = MadeCurveIsOver made cell limit.TooMany
+MakesNone made (TooWide cell) = MadeCurveIsOver made cell limit.TooWide
 MakesNone made NothingToUndo = ⊥
-MakesNone made NoMemory = IsMadeWithin made
+MakesNone made NoMemory = MadeCurveFits made
 
 -- something for which a curve was made
 abbrev pub Makes : {X : Type 0} → Option MadeCurve → (X → Type 0) → Result X EditFault → Type 0
-Makes made P (Ok x) = P x × IsMadeWithin made
+Makes made P (Ok x) = P x × MadeCurveFits made
 Makes made P (Err fault) = MakesNone made fault
 
 -- ---- networks
@@ -61,17 +62,17 @@ pub record IsEdited (r : Or Edited) (given : Net) : Type 0 where
   pub edited : Edited
   pub is : r ≡ Ok edited
   pub net : given ≡ edited.net
-  pub within : IsMadeWithin edited.made
+  pub within : MadeCurveFits edited.made
 
 -- there would be an edited network, but its curve is over a limit
 pub record IsEditOver (r : Or Edited) (cell : Cell) (which : OverLimit) : Type 0 where
   pub edited : Edited
   pub is : r ≡ Ok edited
-  pub over : IsMadeOver edited.made cell which
+  pub over : MadeCurveIsOver edited.made cell which
 
 -- no limit is a cause to refuse the edit: where there would be an edited network, its curve is over none
 abbrev pub IsOverNone : Or Edited → Type 0
-IsOverNone (Ok edited) = IsMadeWithin edited.made
+IsOverNone (Ok edited) = MadeCurveFits edited.made
 IsOverNone (Err refusal) = Unit {0}
 
 -- what an edit of one network answers: the network; the first refusal; or the limit that its curve is over
