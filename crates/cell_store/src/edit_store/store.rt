@@ -2,11 +2,12 @@
 
 use crate::edit_store::faults::analysis_fault;
 use crate::edit_store::plan::{Planned, plan};
+use crate::edit_store::spare::Spare;
 use cell_rules::cell_values::{Values, edited_values, made_anew};
 use cell_rules::edit_sites::{Replaced, no_network, put_back};
 use net_cells::cell_table::{AnalysisFault, CellValue, Evaluator, Table};
 use net_cells::{Cell, cells};
-use net_edits::{EditFault, edited_network};
+use net_edits::{Change, EditFault, edited_network};
 use net_model::{Done, Edit, Network};
 use std::alloc::Global;
 use std::marker::Model;
@@ -14,19 +15,20 @@ use std::mem::replace;
 use version_table::Versions;
 
 /// Networks, each edited from the one before, and the values of their cells: the present one can be edited, and given
-/// up for the one before. Of those before the present one it keeps what each edit replaced.
+/// up for the one before. Of those before the present one it keeps what each edit replaced; and the present one twice.
 #[derive(Drop)]
 pub struct Store<V: CellValue + Drop> {
     alloc: Global,
     replaced: Vec<Replaced>,
     present: Network,
+    spare: Spare,
     values: Values<V>,
 }
 
 impl<V: CellValue + Drop> Model for Store<V> {
     ghost use Rattle.cell_store.specs.edit_store.Stored.{Stored};
     ghost use Rattle.cell_rules.specs.edit_sites.Replaced.{networks_before};
-    ghost use Rattle.cell_store.specs.edit_store.Kept.{IsKept};
+    ghost use Rattle.cell_store.specs.edit_store.Kept.{IsHeld};
 
     ghost Value = { Stored V };
 
@@ -36,7 +38,7 @@ impl<V: CellValue + Drop> Model for Store<V> {
       values = s.values.versions;
     } };
 
-    ghost invariant = { λ s. IsKept V.meaning s.replaced.items s.present s.values.versions };
+    ghost invariant = { λ s. IsHeld V.meaning s.spare.net s.spare.replaced.items s.replaced.items s.present s.values.versions };
 }
 
 impl<V: CellValue + Drop> Table<V> for Store<V> {
@@ -56,6 +58,7 @@ impl<V: CellValue + Drop> Store<V> {
     ghost use Rattle.outcomes.specs.Spending.{Spends};
     ghost use Rattle.net_model.specs.declared.edit.Edit.TheVariants.{Undo};
     ghost use Rattle.net_model.specs.Orders.{IsOrder};
+    ghost use Rattle.net_edits.specs.Changed.{changed};
     ghost use Rattle.net_cells.specs.Equations.{MeetsEquations};
     ghost use Rattle.net_cells.specs.Order.{evaluation_order};
     ghost use Rattle.net_cells.specs.Work.{work};
@@ -93,6 +96,7 @@ impl<V: CellValue + Drop> Store<V> {
         Ok(Store {
             alloc,
             replaced: Vec::new(alloc),
+            spare: Spare::of(alloc, &net),
             present: net,
             values,
         })
@@ -130,13 +134,17 @@ impl<V: CellValue + Drop> Store<V> {
     fn advance<E: Evaluator<V>>(
         &mut self,
         net: Network,
+        change: Change,
         replaced: Replaced,
+        spared: Replaced,
         gone: &[Cell],
         touched: &[Cell],
         eval: &mut E,
     ) -> Result<(), AnalysisFault>
         requires room { length self.old.before < 2 ^ 32 - 1 }
+        requires change { changed change self.old.present ≡ net }
         requires back { put_back replaced net ≡ self.old.present }
+        requires spared { put_back spared net ≡ self.old.present }
         requires touched { AreTouched self.old.present net touched.now }
         requires gone { AreLost self.old.present net gone.now }
         ensures advanced { OnOk result (IsAdvanced self.old net self.new) }
@@ -146,15 +154,23 @@ impl<V: CellValue + Drop> Store<V> {
             (EditEnds net touched.now (⟦<Store<V> as Table<V>>⟧.at self.old)) eval.old eval.new result }
     {
         self.present.keeps();
+        net.keeps();
         if let Err(_) = self.replaced.reserve(1) {
             return Err(AnalysisFault::NoMemory);
         }
-        edited_values(self.alloc, &mut self.values, &net, gone, touched, eval)?;
-        self.present = net;
-        match self.replaced.push(replaced) {
-            Ok(()) => Ok(()),
-            Err(_) => unreachable!(),
+        if let Err(_) = self.spare.replaced.reserve(1) {
+            return Err(AnalysisFault::NoMemory);
         }
+        edited_values(self.alloc, &mut self.values, &net, gone, touched, eval)?;
+        let Ok(()) = self.replaced.push(replaced) else {
+            unreachable!()
+        };
+        let Ok(()) = self.spare.replaced.push(spared) else {
+            unreachable!()
+        };
+        let before = replace(&mut self.present, net);
+        self.spare.follow(before, change);
+        Ok(())
     }
 
     // Goes back to the network before; none exactly where there was none. It takes no memory.
@@ -164,6 +180,7 @@ impl<V: CellValue + Drop> Store<V> {
         let replaced = self.replaced.pop()?;
         let present = replace(&mut self.present, no_network(self.alloc));
         self.present = put_back(present, replaced);
+        self.spare.go_back(&self.present);
         self.values.undo()
     }
 
@@ -179,11 +196,13 @@ impl<V: CellValue + Drop> Store<V> {
     {
         let Planned {
             net,
+            change,
             touched,
             gone,
             replaced,
-        } = plan(self.alloc, &self.present, edit)?;
-        match self.advance(net, replaced, &gone, &touched, eval) {
+            spared,
+        } = plan(self.alloc, &self.present, &mut self.spare, edit)?;
+        match self.advance(net, change, replaced, spared, &gone, &touched, eval) {
             Ok(()) => Ok(touched.len() as u32),
             Err(fault) => Err(analysis_fault(fault)),
         }

@@ -2,18 +2,21 @@ use Rattle.std.proofs.Common.{◌≡◌, ℕ, ◌<◌, ◌^◌, length, ◌++◌
 use Rattle.std.proofs.lemmas.Result.{IfOk-from_err, err_from_is_err_and}
 use Rattle.outcomes.proofs.Spending.{spends_answer, spends_refusal, spends_stopped}
 use Rattle.net_model.specs.Networks.{Net}
+use Rattle.net_model.specs.Accepted.{IsAccepted}
 use Rattle.net_cells.specs.declared.cell_table.fault.AnalysisFault.TheVariants.{NoMemory}
 use Rattle.cell_rules.specs.cell_values.Placed.{placed}
 use Rattle.net_cells.specs.Order.{evaluation_order}
 use Rattle.cell_rules.specs.cell_changes.Changes.{TouchedOf}
 use Rattle.cell_rules.specs.cell_values.Edits.{EditEnds, at_none, RefusesFor, IsFirstTouched}
 use Rattle.version_table.specs.Histories.{History}
+use Rattle.net_edits.specs.Changed as change
 use Rattle.cell_rules.specs.declared.edit_sites.replaced.Replaced.{Replaced}
-use Rattle.cell_store.specs.edit_store.Stored.{Stored, AreTouched, AreLost}
+use Rattle.cell_store.specs.edit_store.Stored.{Stored, AreTouched, AreLost, IsAdvanced}
+use Rattle.cell_store.specs.edit_store.Kept.{IsSameAs, IsHeld}
 use Rattle.cell_rules.specs.edit_sites.Replaced.{put_back, networks_before}
 use Rattle.cell_store.proofs.edit_store.Steps.{holds_edited}
 use Rattle.cell_store.proofs.edit_store.Outcomes.{on_err, in_any}
-use Rattle.cell_store.proofs.edit_store.PutBack.{kept_more, advanced}
+use Rattle.cell_store.proofs.edit_store.PutBack.{kept_more, beside_more, advanced}
 use Rattle.cell_store.proofs.edit_store.store.Store.advance.Goals as goal
 
 -- ---- what the values are edited from
@@ -24,7 +27,7 @@ room_left own before kept same many room = subst (λ (n : ℕ). n < 2 ^ 32 - 1) 
 pub edited_values-requires-clause-room : goal.edited_values-requires-clause-room
 edited_values-requires-clause-room g c =
     room_left _ c.args.self.now.before c.self.inside.values.versions.kept (ap (λ s. s.before) c.self.view_is)
-    c.self.invariant.stored.many c.requires.room
+    c.self.invariant.kept.stored.many c.requires.room
 
 pub edited_values-requires-clause-edit : goal.edited_values-requires-clause-edit
 edited_values-requires-clause-edit g c =
@@ -35,7 +38,7 @@ edited_values-requires-clause-edit g c =
       servers = c.requires.touched.servers;
       are = subst (λ (n : Net). TouchedOf n c.args.net (evaluation_order c.args.net c.requires.touched.order) c.args.touched.now)
           (ap (λ s. s.present) (sym c.self.view_is)) c.requires.touched.are;
-      answered = c.self.invariant.stored.now.answered;
+      answered = c.self.invariant.kept.stored.now.answered;
     }
 
 pub edited_values-requires-clause-gone : goal.edited_values-requires-clause-gone
@@ -55,6 +58,11 @@ returns-in-Err-clause-kept g c =
     seen_again c.reserve.new.self.items c.self.inside.replaced.items c.self.inside.present c.self.inside.values.versions
     c.self.inside.values.versions c.args.self.now c.reserve.ensures.items refl c.self.view_is
 
+pub returns-in-Err-reserve-clause-kept : goal.returns-in-Err-reserve-clause-kept
+returns-in-Err-reserve-clause-kept g c =
+    seen_again c.reserve.new.self.items c.self.inside.replaced.items c.self.inside.present c.self.inside.values.versions
+    c.self.inside.values.versions c.args.self.now c.reserve.ensures.items refl c.self.view_is
+
 pub returns-in_err-edited_values-clause-kept : goal.returns-in_err-edited_values-clause-kept
 returns-in_err-edited_values-clause-kept g c =
     in_any c.from_residual.result _
@@ -70,6 +78,12 @@ returns-in_err-edited_values-clause-refused g c =
 pub returns-in_err-edited_values-clause-advanced : goal.returns-in_err-edited_values-clause-advanced
 returns-in_err-edited_values-clause-advanced g c = IfOk-from_err c.from_residual.result _ c.from_residual.ensures.0
 
+pub follow-requires : goal.follow-requires
+follow-requires g c =
+    subst (λ (n : Net). IsAccepted (change.changed c.args.change n)) (sym c.replace-before.ensures.value)
+    (subst IsAccepted (sym c.requires.change ∙ ap (λ s. change.changed c.args.change s.present) (sym c.self.view_is)) c.keeps-2.ensures)
+
+-- ---- one network more
 pub invariant_of-self-2 : goal.invariant_of-self-2
 invariant_of-self-2 g c =
     let meaning = g.V.CellValue.meaning in
@@ -81,13 +95,25 @@ invariant_of-self-2 g c =
     subst (λ (n : Net). AreTouched n c.args.net c.args.touched.now) present c.requires.touched in
     let lost : AreLost fields.present c.args.net c.args.gone.now =
     subst (λ (n : Net). AreLost n c.args.net c.args.gone.now) present c.requires.gone in
-    let back : put_back c.args.replaced c.args.net ≡ fields.present = c.requires.back ∙ present in
     let more : c.push.new.self.items ≡ fields.replaced.items ++ c.args.replaced ∷ [] =
     c.in-Ok.ensures.items ∙ ap (λ (rs : List Replaced). rs ++ c.args.replaced ∷ []) c.reserve.ensures.items in
+    let longer : c.follow.new.self.replaced.items ≡ fields.spare.replaced.items ++ c.args.spared ∷ [] =
+    ap (λ v. v.items) c.follow.ensures.kept ∙ c.in-Ok-push.ensures.items
+    ∙ ap (λ (rs : List Replaced). rs ++ c.args.spared ∷ []) c.reserve-2.ensures.items in
     let held = holds_edited meaning fields.present c.args.net c.args.gone.now c.args.touched.now was.newest now.newest edit lost
-    c.self.invariant.stored.now c.in_ok-edited_values.ensures.table in
-    kept_more meaning fields.replaced.items c.push.new.self.items c.args.replaced fields.present c.args.net was now c.self.invariant
-    c.keeps.ensures more back c.in_ok-edited_values.ensures.before held
+    c.self.invariant.kept.stored.now c.in_ok-edited_values.ensures.table in
+    let follows : change.changed c.args.change c.replace-before.result ≡ c.args.net =
+    ap (change.changed c.args.change) (c.replace-before.ensures.value ∙ sym present) ∙ c.requires.change in
+    subst (λ (n : Net). IsHeld meaning c.follow.new.self.net c.follow.new.self.replaced.items c.push.new.self.items n now)
+    (sym c.replace-before.ensures.after)
+    (record {
+      kept = kept_more meaning fields.replaced.items c.push.new.self.items c.args.replaced fields.present c.args.net was now
+          c.self.invariant.kept c.keeps.ensures more (c.requires.back ∙ present) c.in_ok-edited_values.ensures.before held;
+      beside = beside_more fields.spare.net c.follow.new.self.net fields.spare.replaced.items c.follow.new.self.replaced.items
+          fields.replaced.items c.push.new.self.items c.args.spared c.args.replaced fields.present c.args.net c.self.invariant.beside longer
+          more (c.requires.spared ∙ present) (c.requires.back ∙ present)
+          (subst (IsSameAs c.follow.new.self.net) follows c.follow.ensures.same);
+    })
 
 pub returns-clause-advanced : goal.returns-clause-advanced
 returns-clause-advanced g c =
@@ -95,12 +121,17 @@ returns-clause-advanced g c =
     let back : put_back c.args.replaced c.args.net ≡ fields.present = c.requires.back ∙ ap (λ s. s.present) (sym c.self.view_is) in
     let more : c.push.new.self.items ≡ fields.replaced.items ++ c.args.replaced ∷ [] =
     c.in-Ok.ensures.items ∙ ap (λ (rs : List Replaced). rs ++ c.args.replaced ∷ []) c.reserve.ensures.items in
-    advanced g.V.CellValue.meaning c.args.self.now fields.replaced.items c.push.new.self.items c.args.replaced fields.present c.args.net
-    fields.values.versions c.edited_values.new.values.versions c.self.view_is more back c.in_ok-edited_values.ensures.before
+    subst (λ (n : Net). IsAdvanced c.args.self.now c.args.net (seen c.push.new.self.items n c.edited_values.new.values.versions))
+    (sym c.replace-before.ensures.after)
+    (advanced g.V.CellValue.meaning c.args.self.now fields.replaced.items c.push.new.self.items c.args.replaced fields.present c.args.net
+    fields.values.versions c.edited_values.new.values.versions c.self.view_is more back c.in_ok-edited_values.ensures.before)
 
 -- ---- what is counted, and want of memory
 pub returns-in-Err-clause-spends : goal.returns-in-Err-clause-spends
 returns-in-Err-clause-spends g c = spends_stopped _ NoMemory refl (λ lack n none. at_none none)
+
+pub returns-in-Err-reserve-clause-spends : goal.returns-in-Err-reserve-clause-spends
+returns-in-Err-reserve-clause-spends g c = spends_stopped _ NoMemory refl (λ lack n none. at_none none)
 
 pub returns-in_err-edited_values-clause-spends : goal.returns-in_err-edited_values-clause-spends
 returns-in_err-edited_values-clause-spends g c =

@@ -5,15 +5,27 @@ use Rattle.outcomes.proofs.Spending.{spends_answer, spends_refusal, spends_stopp
 use Rattle.net_model.specs.Networks.{Net}
 use Rattle.net_cells.specs.declared.cell.Cell.{Cell}
 use Rattle.net_cells.specs.Work.{work}
+use Rattle.net_cells.specs.Meanings.{Meaning}
 use Rattle.net_edits.specs.Edited.{edited}
 use Rattle.net_edits.specs.Replies.{IsOverNone}
 use Rattle.net_edits.specs.declared.fault.EditFault.{EditFault}
-use Rattle.cell_store.specs.edit_store.Stored.{AreTouched, AreLost}
+use Rattle.cell_rules.specs.cell_values.Placed.{placed}
+use Rattle.cell_rules.specs.cell_values.Edits.{EditEnds}
+use Rattle.cell_store.specs.edit_store.Stored.{Stored, AreTouched, AreLost, IsAdvanced}
 use Rattle.cell_store.specs.edit_store.Applied.{Gives, IsPlanned, IsUnplanned, IsRefused, IsWorkOf, before_cells, in_cells}
 use Rattle.cell_store.proofs.edit_store.Outcomes.{on_err, in_any, work_is, lacks_too, cell_refused, taken, unplanned_refused}
 use Rattle.cell_store.proofs.edit_store.store.Store.step.Given.{Over}
 use Rattle.cell_store.proofs.edit_store.store.Store.step.Goals.{After-advance}
 use Rattle.cell_store.proofs.edit_store.store.Store.step.Goals as goal
+
+-- ---- the store, once its spare network was changed
+advanced_of : {V : Type 0} {was old : Stored V} (new : Stored V) (net : Net) → was ≡ old → IsAdvanced was net new → IsAdvanced old net new
+advanced_of {V} {was} {old} new net same h = subst (λ (s : Stored V). IsAdvanced s net new) same h
+
+ends_of : {V : Type 0} {was old : Stored V} (meaning : V → Meaning) (net : Net) (touched : List Cell) (n : ℕ) → was ≡ old
+    → EditEnds net touched (placed meaning was.values.newest) n → EditEnds net touched (placed meaning old.values.newest) n
+ends_of {V} {was} {old} meaning net touched n same h =
+    subst (λ (s : Stored V). EditEnds net touched (placed meaning s.values.newest) n) same h
 
 -- ---- what was planned
 planned : (g : Over) (c : After-advance g)
@@ -41,7 +53,7 @@ pub returns-in-Ok-clause-taken : goal.returns-in-Ok-clause-taken
 returns-in-Ok-clause-taken g c =
     let here = (goal.at.returns-in-Ok-clause-taken g c).After-advance in
     taken c.args.self.now c.advance.new.self c.args.edit.now c.in_ok-net.field-0.net c.deref-2.result.now _ (gives g here) (are g here)
-    c.in-Ok.ensures.advanced (first_of (search rules, grind (arith, common_steps)))
+    (advanced_of c.advance.new.self c.in_ok-net.field-0.net c.self.view_is c.in-Ok.ensures.advanced) (first_of (search rules, grind (arith, common_steps)))
 
 -- ---- refused before
 pub returns-in_err-net-clause-refused : goal.returns-in_err-net-clause-refused
@@ -53,16 +65,21 @@ returns-in_err-net-clause-refused g c =
     (subst (λ (n : Net). IsUnplanned n c.args.edit.now why) (ap (λ s. s.present) c.self.view_is) c.in_err-net.ensures.refused))
 
 pub returns-in_err-net-clause-kept : goal.returns-in_err-net-clause-kept
-returns-in_err-net-clause-kept g c = in_any c.from_residual.result _ refl
+returns-in_err-net-clause-kept g c = in_any c.from_residual.result _ c.self.view_is
 
 pub advance-requires-clause-back : goal.advance-requires-clause-back
-advance-requires-clause-back g c = c.in_ok-net.ensures.back ∙ ap (λ s. s.present) c.self.view_is
+advance-requires-clause-back g c = c.in_ok-net.ensures.back
+
+pub advance-requires-clause-change : goal.advance-requires-clause-change
+advance-requires-clause-change g c = c.in_ok-net.ensures.change
+
+pub advance-requires-clause-spared : goal.advance-requires-clause-spared
+advance-requires-clause-spared g c = c.in_ok-net.ensures.spared
 
 pub advance-requires-clause-gone : goal.advance-requires-clause-gone
 advance-requires-clause-gone g c =
-    subst (λ (n : Net). AreLost n c.in_ok-net.field-0.net c.deref.result.now) (ap (λ s. s.present) c.self.view_is)
-    (subst (λ (cells : List Cell). AreLost c.self.inside.present c.in_ok-net.field-0.net cells) (sym c.deref.ensures.value)
-    c.in_ok-net.ensures.lost)
+    subst (λ (cells : List Cell). AreLost c.self.inside.present c.in_ok-net.field-0.net cells) (sym c.deref.ensures.value)
+    c.in_ok-net.ensures.lost
 
 -- ---- refused by a cell
 pub returns-clause-refused : goal.returns-clause-refused
@@ -96,5 +113,5 @@ returns-clause-spends g c =
       gives = gives g here;
       touched = c.deref-2.result.now;
       are = are g here;
-      ends = ends;
+      ends = ends_of g.V.CellValue.meaning c.in_ok-net.field-0.net c.deref-2.result.now n c.self.view_is ends;
     }))
