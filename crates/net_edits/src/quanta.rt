@@ -1,14 +1,16 @@
 //! Whether packets are within the quanta of their queues.
 
-ghost use Rattle.std.specs.Prelude.{◌≡◌, slice_get};
+ghost use Rattle.std.specs.Prelude.{◌≡◌, ◌<◌, ℕ, Some, IsSome, IfOk, length, slice_get};
 ghost use Rattle.std.specs.List.{list_all};
 ghost use Rattle.std.specs.Option.{option_map};
 ghost use Rattle.net_model.specs.Quanta.{is_in_quantum};
-ghost use Rattle.net_model.specs.Views.{flow_of, flows_of, servers_of};
+ghost use Rattle.net_model.specs.Views.{flow_of, flows_of, server_of, servers_of};
 ghost use Rattle.net_cells.specs.Numbered as at;
+ghost use Rattle.net_edits.specs.Changed.{put_server, put_flow};
 ghost use Rattle.net_edits.specs.Values as spec;
 
-use net_model::{Flow, Server};
+use net_model::{Flow, Network, Server};
+use std::alloc::AllocError;
 
 fn is_taken(servers: &[Server], server: u32, queue: u32, bits: u32) -> bool
     ensures { result ≡ is_in_quantum (at.discipline_of (slice_get (servers_of servers.now) server)) queue bits }
@@ -41,8 +43,8 @@ fn place_fits(servers: &[Server], place: &Option<Flow>) -> bool
     }
 }
 
-/// Whether no quantum is below the longest packet of the flows in its queue.
-pub(crate) fn all_fit(servers: &[Server], flows: &[Option<Flow>]) -> bool
+// Whether no quantum is below the longest packet of the flows in its queue.
+fn all_fit(servers: &[Server], flows: &[Option<Flow>]) -> bool
     ensures { result ≡ list_all (spec.place_fits (servers_of servers.now)) (flows_of flows.now) }
 {
     for place in flows {
@@ -51,4 +53,24 @@ pub(crate) fn all_fit(servers: &[Server], flows: &[Option<Flow>]) -> bool
         }
     }
     true
+}
+
+/// Whether no quantum would be below a packet in its queue, with a server at a number.
+pub(crate) fn server_fits(net: &Network, number: u32, server: &Server) -> Result<bool, AllocError>
+    requires { number < length net.now.servers }
+    ensures { IfOk result (λ fits. fits ≡ spec.quanta_fit (put_server net.now number (server_of server.now))) }
+{
+    let whole = net.copy()?;
+    let again = server.copy()?;
+    let (mut servers, flows) = whole.into_parts();
+    servers[number as usize] = again;
+    Ok(all_fit(&servers, &flows))
+}
+
+/// Whether none would be, with a flow at the number of a live one.
+pub(crate) fn flow_fits(net: &Network, flow: &Flow) -> bool
+    ensures { (i : ℕ) → IsSome (at.flow_at net.now i) →
+        result ≡ spec.quanta_fit (put_flow net.now i (Some (flow_of flow.now))) }
+{
+    fits_along(net.servers(), flow.packet, &flow.path, &flow.queues)
 }

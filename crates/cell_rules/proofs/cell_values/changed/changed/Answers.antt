@@ -33,7 +33,7 @@ returns-in-Ok-clause-spends g c = spends_answer c.in_ok-made_anew.ensures.spends
 pub returns-in-Err-clause-spends : goal.returns-in-Err-clause-spends
 returns-in-Err-clause-spends g c =
     let all = sum_by (work c.args.net.now) c.args.touched.now in
-    let exact = c.in_ok-made_anew.ensures.spends.exact all refl in
+    let exact = (c.in_ok-made_anew.ensures.spends.counts all refl).exact in
     spends_refused all NoMemory (omega (arith, exact)) (omega (arith, exact))
     (λ lack. past_touched (record {
       table = placed g.V.CellValue.meaning c.made_anew.new.values.versions.newest;
