@@ -34,8 +34,8 @@ pub(crate) fn is_marked(marks: &[bool], server: u32) -> bool
     }
 }
 
-// Marks a server.
-fn mark(marks: &mut Vec<bool>, server: u32)
+/// Marks a server.
+pub(crate) fn mark(marks: &mut Vec<bool>, server: u32)
     ensures { marks.new.items ≡ slice_set marks.old.items server true }
 {
     let place = server as usize;
@@ -44,8 +44,8 @@ fn mark(marks: &mut Vec<bool>, server: u32)
     }
 }
 
-// Marks a server in a case.
-fn mark_if(marks: &mut Vec<bool>, is_so: bool, server: u32)
+/// Marks a server in a case.
+pub(crate) fn mark_if(marks: &mut Vec<bool>, is_so: bool, server: u32)
     ensures kept { KeepsMarks marks.old.items marks.new.items }
     ensures here { is_so ≡ true → spec.is_marked marks.new.items server ≡ true }
 {
