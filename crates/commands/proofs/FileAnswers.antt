@@ -4,7 +4,6 @@ use Rattle.std.proofs.lemmas.Result.{IfOk-weaker}
 use Rattle.upp_limits.specs.declared.own_limits.OverLimit.TheVariants.{TooMany, TooWide}
 use Rattle.net_model.specs.Networks.{Net}
 use Rattle.net_text.specs.Folds.{StepsAtMost}
-use Rattle.subadd_closure.specs.FoldWork.{fold_work}
 use Rattle.command_replies.specs.OnFiles.{IsNoNetwork, IsNetOf, OnFile}
 use Rattle.command_replies.specs.Replies.{Reply}
 use Rattle.outcomes.specs.Stages.{stops, goes_on}
@@ -45,7 +44,7 @@ pub record IsAnsweredOn {E : Type 0} (file bytes : List ℕ) (Said : Net → Rep
 
 pub by_network : {E : Type 0} (file bytes : List ℕ) (Said : Net → Reply → Type 0)
     (OnNet : Net → (status old new : ℕ) → Type 0) (net : Net) (r : Result Answer E) (old between new : ℕ)
-    → IsNetOf bytes net → old ≤ between → StepsAtMost fold_work bytes old between → IfOk r (λ a. Said net (reply_of a))
+    → IsNetOf bytes net → old ≤ between → StepsAtMost bytes old between → IfOk r (λ a. Said net (reply_of a))
     → OnNet net (status_of r) between new → IsAnsweredOn file bytes Said OnNet r old new
 by_network file bytes Said OnNet net r old between new of rises folds said counts = record {
   reply = said_of_network file bytes net Said r of said;
@@ -55,7 +54,7 @@ by_network file bytes Said OnNet net r old between new of rises folds said count
 -- where a network takes none for what is no report
 pub by_none : {E : Type 0} (file bytes : List ℕ) (Said : Net → Reply → Type 0)
     (OnNet : Net → (status old new : ℕ) → Type 0) (r : Result Answer E) (old new : ℕ)
-    → IfOk r (λ a. IsNoNetwork file bytes (reply_of a)) → old ≤ new → StepsAtMost fold_work bytes old new
+    → IfOk r (λ a. IsNoNetwork file bytes (reply_of a)) → old ≤ new → StepsAtMost bytes old new
     → ((net : Net) (status : ℕ) → ¬ IsOfReport status → OnNet net status new new)
     → IsAnsweredOn file bytes Said OnNet r old new
 by_none file bytes Said OnNet r old new none rises folds counts = record {

@@ -3,29 +3,27 @@ use Rattle.std.proofs.Common.{◌≤◌, ℕ, List, refl, subst}
 use Rattle.net_model.specs.Networks.{Net}
 use Rattle.net_text.specs.Folds.{StepsAtMost}
 use Rattle.net_text.specs.Reading.{IsNetworkOf}
-use Rattle.net_text.specs.FoldLimits.{OverFold}
-use Rattle.subadd_closure.specs.FoldWork.{fold_work}
 use Rattle.command_replies.specs.run_findings.Statuses.{IsOfReport}
-use Rattle.command_replies.proofs.FirstFaults.{says}
+use Rattle.net_text.proofs.OneThing.{each_file_says_one_thing}
 use Rattle.command_replies.proofs.run_findings.Counted.{none_on_cells}
 use Rattle.commands.specs.FileCounts.{CountsOnFile, CountsOnRows}
 
 -- those of a file that gives a network
 pub of_network : (OnNet : Net → (status old new : ℕ) → Type 0) (bytes : List ℕ) (net : Net) (status old between new : ℕ)
-    → IsNetworkOf OverFold bytes net → old ≤ between → StepsAtMost fold_work bytes old between
+    → IsNetworkOf bytes net → old ≤ between → StepsAtMost bytes old between
     → OnNet net status between new → CountsOnFile OnNet bytes status old new
 of_network OnNet bytes net status old between new reads rises folds counts = record {
   between = between;
   rises = rises;
   folds = folds;
-  refused = λ fault first. absurd ((says bytes).not_both net fault reads first);
+  refused = λ fault first. absurd ((each_file_says_one_thing bytes).not_both net fault reads first);
   on_net = λ other is.
-      subst (λ (n : Net). OnNet n status between new) ((says bytes).one_network net other reads is) counts;
+      subst (λ (n : Net). OnNet n status between new) ((each_file_says_one_thing bytes).one_network net other reads is) counts;
 }
 
 -- those of a file that gives none
 pub of_none : (OnNet : Net → (status old new : ℕ) → Type 0) (bytes : List ℕ) (status old new : ℕ) → old ≤ new
-    → StepsAtMost fold_work bytes old new → ((net : Net) → OnNet net status new new)
+    → StepsAtMost bytes old new → ((net : Net) → OnNet net status new new)
     → CountsOnFile OnNet bytes status old new
 of_none OnNet bytes status old new rises folds none =
     record { between = new; rises = rises; folds = folds; refused = λ fault first. refl; on_net = λ net is. none net }

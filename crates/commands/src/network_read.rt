@@ -2,7 +2,6 @@
 
 ghost use Rattle.std.specs.Prelude.{◌≤◌, IfErr, IfOk};
 ghost use Rattle.net_text.specs.Folds.{StepsAtMost};
-ghost use Rattle.subadd_closure.specs.FoldWork.{fold_work};
 ghost use Rattle.command_replies.specs.OnFiles.{IsNetOf, IsNoNetwork};
 ghost use Rattle.command_replies.specs.View.{reply_of};
 
@@ -25,7 +24,7 @@ pub(crate) fn network_from<L: Ledger>(
     ensures network { IfOk result (IsNetOf bytes.now) }
     ensures none { IfErr result (λ told. IfOk told (λ r. IsNoNetwork file.now bytes.now (reply_of r))) }
     ensures rises { steps.old ≤ steps.new }
-    ensures folds { StepsAtMost fold_work bytes.now steps.old steps.new }
+    ensures folds { StepsAtMost bytes.now steps.old steps.new }
 {
     match read_network(alloc, bytes, steps) {
         Ok(network) => {

@@ -6,7 +6,7 @@ use Rattle.command_replies.proofs.OneReply.{file_reached, table_reached}
 use Rattle.outcomes.proofs.Stages.{reached}
 use Rattle.command_replies.proofs.Statuses.{status_is}
 use Rattle.commands.specs.edit.OnEdits.{IsBadListOf, AsksFor, IsEditReportOn, IsReplyOnEdits, IsReplyOnNet}
-use Rattle.commands.specs.edit.EditLaws.{ReportsAreGuaranteed, RepliesAreComplete}
+use Rattle.commands.specs.edit.Laws.{ReportsAreGuaranteed, RepliesAreComplete}
 
 pub reports_are_guaranteed : ReportsAreGuaranteed
 reports_are_guaranteed form net at net_bytes edits_bytes reply h =

@@ -1,7 +1,7 @@
 use Rattle.std.proofs.Common.{inl}
 use Rattle.command_replies.specs.View.{status_of}
 use Rattle.commands.proofs.FileAnswers.{said_of_network, said_of_none, none_told}
-use Rattle.commands.proofs.measure.Counting.{counts_with, counts_without}
+use Rattle.commands.proofs.measure.Counting.{counts_without}
 use Rattle.commands.proofs.measure.on_files.answer_on.Goals as goal
 
 pub returns-in-Ok-clause-reply : goal.returns-in-Ok-clause-reply
@@ -10,9 +10,12 @@ returns-in-Ok-clause-reply g c =
 
 pub returns-in-Ok-clause-counts : goal.returns-in-Ok-clause-counts
 returns-in-Ok-clause-counts g c =
-    counts_with c.args.net_bytes.now (status_of c.on_rows.result) c.args.steps.now c.network_from.new.steps
-    c.on_rows.new.steps c.network_from.ensures.rises c.network_from.ensures.folds
-    c.on_rows.ensures.from c.on_rows.ensures.most c.on_rows.ensures.report
+    record {
+      between = c.network_from.new.steps;
+      rises = c.network_from.ensures.rises;
+      folds = c.network_from.ensures.folds;
+      burst = c.on_rows.ensures.counts;
+    }
 
 pub returns-in-Err-clause-reply : goal.returns-in-Err-clause-reply
 returns-in-Err-clause-reply g c =
