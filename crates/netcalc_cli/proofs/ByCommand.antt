@@ -35,6 +35,7 @@ use Rattle.commands.proofs.check.OneReply as checked
 use Rattle.commands.proofs.check.Verdicts.{verdicts}
 use Rattle.commands.proofs.check.Within as admissible
 use Rattle.commands.specs.measure.MeasureCounts as measure_counts
+use Rattle.commands.proofs.measure.Counting.{burst_at}
 use Rattle.commands.specs.curve.ScriptCounts as script_counts
 use Rattle.commands.proofs.measure.Causes as measure
 use Rattle.commands.proofs.measure.OneMeasure as measured
@@ -195,9 +196,7 @@ measure_counts_at bytes status other old new same h = record {
   between = h.between;
   rises = h.rises;
   folds = h.folds;
-  from = h.from;
-  most = h.most;
-  report = λ zero. h.report (zero_given status other same zero);
+  burst = burst_at status other h.between new (zero_given status other same) h.burst;
 }
 
 edits_at : (net : Net) (rows : List ℕ) (status other old new : ℕ) → IsGiven status other

@@ -7,7 +7,7 @@ ghost use Rattle.upp_limits.specs.declared.own_limits.OverLimit.TheVariants as l
 ghost use Rattle.command_replies.specs.Replies.{Reply, usage, cannot_read, too_long};
 ghost use Rattle.command_replies.specs.View.{code_of};
 ghost use Rattle.netcalc_cli.specs.Commands.{files_of, names_of, IsMalformed, IsOver, IsCyclic, TellsBreach, IsDone};
-ghost use Rattle.netcalc_cli.specs.Counts.{Counts};
+ghost use Rattle.netcalc_cli.specs.Counts.{CountsOnCall};
 ghost use Rattle.outside.specs.Files.{IsTooLong, FirstIs};
 ghost use Rattle.netcalc_cli.specs.Files.{most_bytes};
 ghost use Rattle.netcalc_cli.specs.Reply.{commands, StandsOnFiles, MayReply, FailedAt};
@@ -154,7 +154,7 @@ pub fn run<I: Inputs, K: Sink, L: Ledger>(
     // exactly that.
     // Of `measure` one step after the folds. Of `curve` those that are counted as its statements find something: one for
     // each operator that is looked at, and of a closure those of its fold.
-    ensures counts { Counts I.content (command_of (texts words.now)) inputs.old result steps.old steps.new }
+    ensures counts { CountsOnCall I.content (command_of (texts words.now)) inputs.old result steps.old steps.new }
 {
     let Some(alloc) = taken(words) else {
         return give(out, Status::Usage, USAGE.as_bytes());
