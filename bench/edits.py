@@ -262,7 +262,7 @@ class Counted:
 
 def in_cells(text: str) -> float:
     """The millions of instructions that cells take which are made anew: of the calls of that function in a file of callgrind."""
-    name = re.search(r"^cfn=(\(\d+\)) cell_rules::cell_values::anew::made_anew", text, re.MULTILINE)
+    name = re.search(r"^c?fn=(\(\d+\)) cell_rules::cell_values::anew::made_anew", text, re.MULTILINE)
     calls = re.findall(rf"^cfn={re.escape(name[1])}.*\ncalls=.*\n\S+ (\d+)$", text, re.MULTILINE) if name else []
     return sum(map(int, calls)) / 1e6
 

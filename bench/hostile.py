@@ -198,6 +198,17 @@ def gate_before_a_late_list() -> str:
     )
 
 
+def gate_of_odd_numbers(cycle: str, slot: str) -> str:
+    """A gate whose cycle and slot have large denominators, with a stair above a bucket, and a second server."""
+    return (
+        "version = 2\n"
+        + server("s0", "100", gate(cycle, slot), EIGHT)
+        + server("s1")
+        + flow("f0", stair(2000), ["s0:1", "s1"])
+        + flow("f1", bucket(12, "3/50000"), ["s0:2", "s1"], 12)
+    )
+
+
 LARGE = 2**24
 CASES = {
     # name: (word, text, wanted status)
@@ -240,6 +251,8 @@ CASES = {
     "stairs of 96, 1000 and 3996 above a bucket of a priority server": ("analyse", three_stairs(), 0),
     "stairs of a priority server, and a closure with a tail at 99900": ("analyse", stairs_above_a_closure(), 7),
     "a gate, and behind it a list with a tail at 10^6": ("analyse", gate_before_a_late_list(), 7),
+    "a gate of cycle 11988/125, a stair above a bucket": ("analyse", gate_of_odd_numbers("11988/125", "2999997/125000"), 6),
+    "a gate of cycle 9970/991, a stair above a bucket": ("analyse", gate_of_odd_numbers("9970/991", "997/8388608"), 6),
     "stairs with a jitter of 2^100": ("analyse", stairs_pair("1", "3", 2**100), 7),
     "stairs with a jitter of 10^9": ("analyse", stairs_pair("1", "3", 10**9), 7),
     "script: below stair(1, 1, 0), stair(1, 1048577, 0)": ("curve", "below stair(1, 1, 0), stair(1, 1048577, 0)\n", 7),
@@ -295,6 +308,12 @@ def worked_off(cycles: int) -> str:
     return f"enter,0,f0,{cycles}\n{works}leave,{100 * (cycles - 1) + 1}/10,s0,0\nend,{10 * cycles}\n"
 
 
+def stalled_gate(cycles: int) -> dict[str, str]:
+    """A gate of cycle 10 that stalls for its first two, and a packet so many cycles later: its curve is written out up to there."""
+    net = "version = 2\n" + one_gate(10, 10, 5, 1, bucket(10, 1))
+    return {"n": net, "t": f"packet,0,f0,1\npacket,{10 * cycles},f0,1\nstall,s0,0,20\n"}
+
+
 STALL = "stall,s0,2000,2300\n"
 
 RUNS = {
@@ -310,6 +329,8 @@ RUNS = {
         "n": one_gate(96, 96, 32, LARGE, bucket(10, 1)), "t": odd_packets(40) + STALL}, 9),
     "a gate, 84 odd packets, the first two crowded, a stall": ("simulate n t", {
         "n": one_gate(96, 96, 32, LARGE, bucket(10, 1)), "t": odd_packets(84) + STALL}, 9),
+    "a gate that stalls, and a packet 10^6 cycles later": ("simulate n t", stalled_gate(10**6), 9),
+    "a gate that stalls, and a packet 10^7 cycles later": ("simulate n t", stalled_gate(10**7), 9),
     "a lawful run, a bit a cycle for 4,000 cycles of a gate": ("check n r", {
         "n": one_gate(10, 10, "1/10", 4000, bucket(4000, "1/100")), "r": worked_off(4000)}, 0),
 }

@@ -14,7 +14,8 @@ as short as can be, and longer in larger networks: 10 times the branches are the
 examples/avionics_real has the tables of seed 1 and size 1 with short names. Paths of larger networks are longer, since
 branches go over: 10 times the branches are 10.9 times the nodes of trees.
 
-Processor time is that of each child, the least of twenty runs, taken in turn at each size, of the Python one run. The largest
+Each child asks for large pages, as the launcher has netbound do, unless GLIBC_TUNABLES is set (set to nothing, none does). Processor
+time is that of each child, the least of twenty runs, taken in turn at each size, of the Python one run. The largest
 memory is that which /usr/bin/time tells of a run by itself (where there is none it is not told: what the system tells of a child begins with
 what its parent has). The branches a second are those of netbound, and the last lines say how much longer a larger network takes. Where there
 is a cargo, the same is timed in plain Rust (bench/twin, src/tables.rs). It ends with 1 where they print unlike lines.
@@ -222,6 +223,10 @@ class Network:
 
 
 def main(words):
+    if not words or "--help" in words:
+        print(__doc__.strip())
+        return 0 if words else 2
+    os.environ.setdefault("GLIBC_TUNABLES", "glibc.malloc.hugetlb=1")  # as the launcher does
     names = SHORT if words[:1] == ["--short"] else LONG
     words = words[1:] if names is SHORT else words
     if words[:1] == ["--write"]:

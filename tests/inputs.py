@@ -24,6 +24,7 @@ LARGEST = 2**127 - 1
 
 
 LONGEST = 2**20  # bytes of a file
+ODD = os.fsdecode(b"\xe9.toml")  # a name that is not UTF-8
 USAGE = (
     "netcalc: usage: netcalc analyse NET [--json], edit NET EDITS [--json], simulate NET TRACE, exercise N, check NET RUN, "
     "measure NET TRACE FLOW RATE, curve FILE\n"
@@ -75,6 +76,16 @@ INPUTS = {
         ["check", "n", "r"], {"n": ONE_FLOW, "r": "#" * (2**20 + 1)}, 1, "netcalc: r: too long\n"),
     "edits that are missing": (["edit", "n", "e"], {"n": ONE_FLOW}, 3, "netcalc: cannot read e\n"),
     "edits that are missing, and no network": (["edit", "n", "e"], {"n": "x"}, 3, "netcalc: cannot read e\n"),
+    "a file without UTF-8 in its name": (["analyse", ODD], {ODD: ONE_FLOW}, 3, "netcalc: cannot read \ufffd.toml\n"),
+    "a file that is not there, beside one that is named as it is told": (
+        ["analyse", ODD], {"\ufffd.toml": ONE_FLOW}, 3, "netcalc: cannot read \ufffd.toml\n"),
+    "a file with U+FFFD in its name": (["analyse", "\ufffd.toml"], {"\ufffd.toml": ONE_FLOW}, 3, "netcalc: cannot read \ufffd.toml\n"),
+    "a file with other signs in its name": (["analyse", "\u00e9\ufffc.toml"], {"\u00e9\ufffc.toml": ONE_FLOW}, 0, REPORT),
+    "a trace without UTF-8 in its name": (["simulate", "n", ODD], {"n": ONE_FLOW, ODD: ""}, 3, "netcalc: cannot read \ufffd.toml\n"),
+    "a long name without UTF-8": (["analyse", "n" * 300 + ODD], {}, 3, f"netcalc: cannot read {'n' * 300}\ufffd.toml\n"),
+    "a flow without UTF-8": (
+        ["measure", "n", "t", ODD, "1"], {"n": ONE_FLOW, "t": "packet,0,f1,1\n"}, 1, "netcalc: unknown flow \ufffd.toml\n"),
+    "a command without UTF-8": (["analyse" + ODD, "n"], {"n": ONE_FLOW}, 2, USAGE),
     "a folder in place of a file": (["analyse", "."], {}, 3, "netcalc: cannot read .\n"),
     "a network of 4,096 bytes": (["analyse", "n"], {"n": of_bytes(4096)}, 0, REPORT),
     "a network of 4,097 bytes": (["analyse", "n"], {"n": of_bytes(4097)}, 0, REPORT),

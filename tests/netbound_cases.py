@@ -7,6 +7,7 @@ PROGRAM with its first words is tried, as `python3 bench/plain_document.py` for 
 no words, so cases of words are left out there.
 """
 
+import os
 import subprocess
 import sys
 import tempfile
@@ -174,11 +175,21 @@ def too_long(program):
             yield f"{more} bytes more than a table may have", wanted, run(program, folder, ["ports.csv", "links.csv"])
 
 
+def odd_names(program):
+    """A table by a name that is not UTF-8, or that has U+FFFD, is told as one that cannot be read."""
+    with tempfile.TemporaryDirectory() as folder:
+        (Path(folder) / "ports.csv").write_text(PORTS)
+        for name in (b"\xe9.csv", "\ufffd.csv".encode()):
+            (Path(folder) / os.fsdecode(name)).write_text(LINKS)
+            yield f"a table by the name {name}", (3, "netbound: cannot read \ufffd.csv\n".encode()), run(program, folder, ["ports.csv", name])
+
+
 def main(program):
     program = [str(Path(word).resolve()) if Path(word).exists() else word for word in program]
     plain = any(word.endswith("plain_document.py") for word in program)
     passed = failed = 0
-    for name, wanted, got in [*in_folders(program, plain), *in_rows(program), *too_long(program)]:
+    names = [] if plain else odd_names(program)
+    for name, wanted, got in [*in_folders(program, plain), *in_rows(program), *too_long(program), *names]:
         passed += got == wanted
         if got != wanted:
             failed += 1

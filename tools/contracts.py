@@ -11,7 +11,7 @@ import pathlib
 import re
 import sys
 
-DEFINITION = re.compile(r'^(abbrev pub|unfoldable pub|pub record|pub data|pub define|infix\w*)\s+([^\s:({]+)')
+DEFINITION = re.compile(r'^\s*(abbrev pub|unfoldable pub|pub record|pub data|pub define|infix\w*)\s+([^\s:({]+)')
 LEMMA = re.compile(r'^(?:pub )?(\S+) : ')
 NO_TEXT = re.compile(r'^\s*(--|use |pub use |pub mod |mod |module )')
 NO_CODE = re.compile(r'^\s*(//|ghost use|use )')

@@ -1,7 +1,6 @@
 """Network files as Python values, their text, and the program's answers: what the tools beside it share. Needs Python
 3.11."""
 
-import atexit
 import datetime
 import functools
 import hashlib
@@ -10,10 +9,8 @@ import json
 import os
 import pathlib
 import re
-import shutil
 import subprocess
 import sys
-import tempfile
 import tomllib
 from fractions import Fraction
 
@@ -203,24 +200,11 @@ def the_program(program):
     """The program that runs behind a name: of the launcher the one that it would run, built where it has to be, so that
     each call does not look at all sources again; another program is itself."""
     if pathlib.Path(program).resolve() != PROGRAM.resolve():
-        return plain(str(program))
+        return str(program)
     run = subprocess.run([str(program), "--program"], stdout=subprocess.PIPE, check=False)
     if run.returncode:
         raise Fault(f"{program} has no program to run")
-    return plain(os.fsdecode(run.stdout.removesuffix(b"\n")))
-
-
-def plain(program):
-    """The path of a program in UTF-8, as the program asks for: where it has another one, that of a link to it."""
-    try:
-        program.encode()
-        return program
-    except UnicodeEncodeError:
-        folder = tempfile.mkdtemp(prefix="netcalc_")
-        atexit.register(shutil.rmtree, folder, True)
-        link = os.path.join(folder, "netcalc")
-        os.symlink(os.path.abspath(program), link)
-        return link
+    return os.fsdecode(run.stdout.removesuffix(b"\n"))
 
 
 def analyse(path, program=PROGRAM, seconds=None):

@@ -44,7 +44,7 @@ fn add_link(network: &Network, rates: &mut [Vec<u128>], number: usize)
     let link = &network.links[number];
     let rate = link_rate(link.frame * GRAINS, link.gap);
     for node in &link.nodes {
-        add_at(rates, node.port, node.queue, rate);
+        add_at(rates, node.port as usize, node.queue as usize, rate);
     }
 }
 

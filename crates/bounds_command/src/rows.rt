@@ -136,7 +136,7 @@ fn last_port(network: &Network, end: &BranchEnd) -> usize
     requires { IsBranchOf network.now end.now }
     ensures { result ≡ spec.last_port network.now (end_view end.now) }
 {
-    network.links[end.link].nodes[end.node].port
+    network.links[end.link].nodes[end.node].port as usize
 }
 
 // The bound of a node of a link.

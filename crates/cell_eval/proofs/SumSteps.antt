@@ -5,7 +5,9 @@ use Rattle.upp_limits.specs.declared.op_kind.OpKind.TheVariants.{Sum}
 use Rattle.upp_limits.specs.declared.op_kind.OpFault.{OpFault}
 use Rattle.upp_limits.specs.declared.op_kind.OpFault.TheVariants.{NoMemory}
 use Rattle.upp_curve.specs.Curve.{SpecCurve}
-use Rattle.curve_call.specs.Calls.{Applies}
+use Rattle.curve_call.specs.Calls.{Applies, IsApplied}
+use Rattle.plain_operators.specs.declared.pointwise.straight.Straight.{Straight}
+use Rattle.plain_operators.specs.pointwise.Straight.{straight_curve}
 use Rattle.outcomes.specs.Calls.{goes_on}
 use Rattle.residuals.specs.calls.InTurn.{on_the_way}
 use Rattle.net_cells.specs.declared.cell.Cell.{Cell}
@@ -116,6 +118,42 @@ pub adds_sum : (at : CellTable) (cells : List Cell) (f g : SpecCurve) (cell : Ce
     → IsSummed at cells f → at cell ≡ Some (curve g) → Applies Sum f g r → new ≡ old + 1 → Adds at cells (cell ∷ []) old new (sum_made r)
 adds_sum at cells f g cell old new (Ok h) = adds_made at cells f g h cell old new
 adds_sum at cells f g cell old new (Err fault) = adds_refused at cells f g fault cell old new
+
+-- of lines whose numbers alone are kept
+pub adds_line : (at : CellTable) (cells : List Cell) (f g : SpecCurve) (s : Straight) (cell : Cell) (old new : ℕ) → IsSummed at cells f
+    → at cell ≡ Some (curve g) → IsApplied Sum f g (straight_curve s) → new ≡ old + 1
+    → Adds at cells (cell ∷ []) old new (Ok (Made (straight_curve s)))
+adds_line at cells f g s cell old new = adds_made at cells f g (straight_curve s) cell old new
+
+-- where there is no memory for the curve of those so far
+pub adds_unmade : (at : CellTable) (cells : List Cell) (f : SpecCurve) (cell : Cell) (old : ℕ) → IsSumOf at cells f
+    → Adds at cells (cell ∷ []) old old (Err NoMemory)
+adds_unmade at cells f cell old s =
+    let some = s.some in
+    let l = longer cells cell in (
+      record {
+        counted = length cells - 1;
+        fails = fails_more at cells (cell ∷ []) NoMemory (length cells - 1) (fails at cells NoMemory (length cells - 1) (omega (arith, some)) s.lacks);
+        count = omega arith;
+      },
+      omega arith,
+      omega (arith, l),
+    )
+
+pub all_unmade : (at : CellTable) (cells : List Cell) (old new : ℕ) (f : SpecCurve) → Adds at [] cells old new (Ok (Made f))
+    → Adds at [] cells old new (Err NoMemory)
+all_unmade at cells old new f a =
+    let s = a.0 in
+    let some = s.some in
+    let count = a.1 in (
+      record {
+        counted = length cells - 1;
+        fails = fails at cells NoMemory (length cells - 1) (omega (arith, some)) s.lacks;
+        count = omega (arith, count);
+      },
+      omega (arith, count),
+      omega (arith, count),
+    )
 
 pub adds_first : (at : CellTable) (cells : List Cell) (cell : Cell) (old : ℕ) → cells ≡ [] → Adds at cells (cell ∷ []) old old (Ok (One cell))
 adds_first at cells cell old e = subst (λ (cs : List Cell). Adds at cs (cell ∷ []) old old (Ok (One cell))) (sym e) (refl, refl)

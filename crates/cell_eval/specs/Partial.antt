@@ -10,6 +10,11 @@ use Rattle.net_cells.specs.Answers.{Answers}
 use Rattle.net_cells.specs.Refusals.{RefusedAt}
 use Rattle.cell_eval.specs.declared.curve_sums.Partial.{Partial}
 use Rattle.cell_eval.specs.declared.curve_sums.Partial.TheVariants.{Nothing, One, Made}
+use Rattle.cell_eval.specs.declared.curve_sums.Added.{Added}
+use Rattle.cell_eval.specs.declared.curve_sums.Added.TheVariants.{Lines, Whole}
+use Rattle.cell_eval.specs.declared.curve_sums.Growing.{Growing}
+use Rattle.cell_eval.specs.declared.curve_sums.Growing.TheVariants.{Empty, Single, More}
+use Rattle.plain_operators.specs.pointwise.Straight.{straight_curve}
 use Rattle.cell_numbers.specs.TableValues.{IsCurveAt}
 
 -- f is the sum of two cells or more; to hand it on there might be no memory
@@ -53,10 +58,24 @@ pub record IsSummed (at : CellTable) (cells : List Cell) (f : SpecCurve) : Type 
   pub answers : Answers at (sum_of_cells cells) (Ok (curve f))
 
 -- ---- sums that grow in place
--- a curve that was made is the sum of two cells or more
+-- of lines the numbers of the sum stand for its curve
+abbrev pub added_curve : Added → SpecCurve
+added_curve (Lines s) = straight_curve s
+added_curve (Whole f) = f
+
+abbrev pub partial_of : Growing → Partial
+partial_of Empty = Nothing
+partial_of (Single c) = One c
+partial_of (More a) = Made (added_curve a)
+
+-- what was made is the sum of two cells or more
 abbrev pub sum_made : Result SpecCurve OpFault → Result Partial OpFault
 sum_made (Ok f) = Ok (Made f)
 sum_made (Err fault) = Err fault
+
+abbrev pub added_made : Result Added OpFault → Result Partial OpFault
+added_made (Ok a) = Ok (Made (added_curve a))
+added_made (Err fault) = Err fault
 
 -- what is answered, with the sum as it is then
 abbrev pub in_place : {U : Type 0} → Partial → Result U OpFault → Result Partial OpFault

@@ -45,15 +45,7 @@ impl<T: Table<Value>> Inputs<'_, T> {
     {
         let place = place_of(self.net, flow, hop);
         let others = Pick::InQueue(place.1);
-        let made = flows_sum(
-            self.alloc,
-            self.table,
-            self.net,
-            place.0,
-            others,
-            Some(flow),
-            steps,
-        );
+        let made = flows_sum(self, place.0, others, Some(flow), steps);
         summed(self.alloc, self.table, made)
     }
 
@@ -67,7 +59,7 @@ impl<T: Table<Value>> Inputs<'_, T> {
             return self.parts_sum(place, steps);
         }
         let all = Pick::InQueue(place.1);
-        let made = flows_sum(self.alloc, self.table, self.net, place.0, all, None, steps);
+        let made = flows_sum(self, place.0, all, None, steps);
         summed(self.alloc, self.table, made)
     }
 
@@ -77,7 +69,7 @@ impl<T: Table<Value>> Inputs<'_, T> {
         ensures { Evaluates self.now.net.now (T.at self.now.table.now) (cell_of Higher place.0 place.1) steps.old steps.new
             (answer_of meaning_of result) }
     {
-        let made = queues_sum(self.alloc, self.table, place.0, place.1, steps);
+        let made = queues_sum(self, place.0, place.1, steps);
         summed(self.alloc, self.table, made)
     }
 

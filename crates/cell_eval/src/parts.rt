@@ -85,10 +85,10 @@ fn cut<L: Ledger>(
 // The sum of a part that comes over a link, cut by that.
 fn cut_sum<L: Ledger>(
     alloc: Global,
-    flows: &Curve,
     net: &Network,
     place: (u32, u32),
     part: u64,
+    flows: &Curve,
     steps: &mut Steps<L>,
 ) -> Result<Partial, OpFault>
     requires link { 1 ≤ part }
@@ -113,59 +113,62 @@ fn cut_sum<L: Ledger>(
 
 // The same, where the part has a hop.
 fn cut_part<T: Table<Value>, L: Ledger>(
-    alloc: Global,
+    inputs: &Inputs<'_, T>,
     flows: Partial,
-    table: &T,
-    net: &Network,
     place: (u32, u32),
     part: u64,
     steps: &mut Steps<L>,
 ) -> Result<Partial, OpFault>
     requires link { 1 ≤ part }
     requires few { part ≤ 64 }
-    requires ready { IsReady (T.at table.now) flows }
-    ensures part { (old : ℕ) → Adds (T.at table.now) [] (map (at_visit In) (in_part net.now place.0 place.1 part))
-        old steps.old (Ok flows) → MakesPart (T.at table.now) net.now place.0 place.1 part result }
-    ensures refused { IfErr result (λ fault. (old : ℕ) → Adds (T.at table.now) []
-        (map (at_visit In) (in_part net.now place.0 place.1 part)) old steps.old (Ok flows) →
-        RefusedAt (T.at table.now) (part_sum net.now part (in_part net.now place.0 place.1 part)) fault
+    requires ready { IsReady (T.at inputs.now.table.now) flows }
+    ensures part { (old : ℕ) → Adds (T.at inputs.now.table.now) [] (map (at_visit In) (in_part inputs.now.net.now place.0 place.1 part))
+        old steps.old (Ok flows) → MakesPart (T.at inputs.now.table.now) inputs.now.net.now place.0 place.1 part result }
+    ensures refused { IfErr result (λ fault. (old : ℕ) → Adds (T.at inputs.now.table.now) []
+        (map (at_visit In) (in_part inputs.now.net.now place.0 place.1 part)) old steps.old (Ok flows) →
+        RefusedAt (T.at inputs.now.table.now) (part_sum inputs.now.net.now part (in_part inputs.now.net.now place.0 place.1 part)) fault
         (steps.new - old)) }
-    ensures counts { (old : ℕ) → Adds (T.at table.now) [] (map (at_visit In) (in_part net.now place.0 place.1 part))
-        old steps.old (Ok flows) → Counts (part_work net.now place.0 place.1 part) old steps.new
-        (part_answer (T.at table.now) result) }
+    ensures counts { (old : ℕ) → Adds (T.at inputs.now.table.now) [] (map (at_visit In) (in_part inputs.now.net.now place.0 place.1 part))
+        old steps.old (Ok flows) → Counts (part_work inputs.now.net.now place.0 place.1 part) old steps.new
+        (part_answer (T.at inputs.now.table.now) result) }
 {
     match flows {
         Partial::Nothing => Ok(Partial::Nothing),
-        Partial::One(cell) => cut_sum(alloc, curve_at(table, cell), net, place, part, steps),
-        Partial::Made(made) => cut_sum(alloc, &made, net, place, part, steps),
+        Partial::One(cell) => cut_sum(
+            inputs.alloc,
+            inputs.net,
+            place,
+            part,
+            curve_at(inputs.table, cell),
+            steps,
+        ),
+        Partial::Made(made) => cut_sum(inputs.alloc, inputs.net, place, part, &made, steps),
     }
 }
 
 // The sum of a part.
 fn part_made<T: Table<Value>, L: Ledger>(
-    alloc: Global,
-    table: &T,
-    net: &Network,
+    inputs: &Inputs<'_, T>,
     place: (u32, u32),
     part: u64,
     steps: &mut Steps<L>,
 ) -> Result<Partial, OpFault>
     requires few { part ≤ 64 }
-    requires curves { (i k : ℕ) → chosen net.now place.0 (InPart place.1 part) None i ≡ visit_list i (Some k) →
-        IsCurveAt (T.at table.now) (cell_of In i k) }
-    ensures part { MakesPart (T.at table.now) net.now place.0 place.1 part result }
-    ensures refused { IfErr result (λ fault. RefusedAt (T.at table.now)
-        (part_sum net.now part (in_part net.now place.0 place.1 part)) fault (steps.new - steps.old)) }
-    ensures counts { Counts (part_work net.now place.0 place.1 part) steps.old steps.new
-        (part_answer (T.at table.now) result) }
+    requires curves { (i k : ℕ) → chosen inputs.now.net.now place.0 (InPart place.1 part) None i ≡ visit_list i (Some k) →
+        IsCurveAt (T.at inputs.now.table.now) (cell_of In i k) }
+    ensures part { MakesPart (T.at inputs.now.table.now) inputs.now.net.now place.0 place.1 part result }
+    ensures refused { IfErr result (λ fault. RefusedAt (T.at inputs.now.table.now)
+        (part_sum inputs.now.net.now part (in_part inputs.now.net.now place.0 place.1 part)) fault (steps.new - steps.old)) }
+    ensures counts { Counts (part_work inputs.now.net.now place.0 place.1 part) steps.old steps.new
+        (part_answer (T.at inputs.now.table.now) result) }
 {
     let pick = Pick::InPart(place.1, part);
-    match flows_sum(alloc, table, net, place.0, pick, None, steps) {
+    match flows_sum(inputs, place.0, pick, None, steps) {
         Ok(flows) => {
             if part == 0 {
                 Ok(flows)
             } else {
-                cut_part(alloc, flows, table, net, place, part, steps)
+                cut_part(inputs, flows, place, part, steps)
             }
         }
         Err(fault) => Err(fault),
@@ -187,24 +190,22 @@ fn keep(parts: &mut Parts, part: Partial)
 
 // The parts of a queue that have a hop, in their order.
 fn parts_made<T: Table<Value>, L: Ledger>(
-    alloc: Global,
-    table: &T,
-    net: &Network,
+    inputs: &Inputs<'_, T>,
     place: (u32, u32),
     steps: &mut Steps<L>,
 ) -> Result<Parts, OpFault>
-    requires { (part i k : ℕ) → part ≤ length net.now.servers →
-        chosen net.now place.0 (InPart place.1 part) None i ≡ visit_list i (Some k) →
-        IsCurveAt (T.at table.now) (cell_of In i k) }
-    ensures made { IfOk result (λ parts. AreMade (T.at table.now) net.now place.0 place.1
-        (suc (length net.now.servers)) parts.items steps.old steps.new) }
-    ensures refused { IfErr result (λ fault. AreRefused (T.at table.now) net.now place.0 place.1 fault
+    requires { (part i k : ℕ) → part ≤ length inputs.now.net.now.servers →
+        chosen inputs.now.net.now place.0 (InPart place.1 part) None i ≡ visit_list i (Some k) →
+        IsCurveAt (T.at inputs.now.table.now) (cell_of In i k) }
+    ensures made { IfOk result (λ parts. AreMade (T.at inputs.now.table.now) inputs.now.net.now place.0 place.1
+        (suc (length inputs.now.net.now.servers)) parts.items steps.old steps.new) }
+    ensures refused { IfErr result (λ fault. AreRefused (T.at inputs.now.table.now) inputs.now.net.now place.0 place.1 fault
         steps.old steps.new) }
 {
-    let count = net.servers().len() as u64 + 1;
+    let count = inputs.net.servers().len() as u64 + 1;
     let mut parts = Parts::new();
     for part in 0..count {
-        match part_made(alloc, table, net, place, part, steps) {
+        match part_made(inputs, place, part, steps) {
             Ok(made) => keep(&mut parts, made),
             Err(fault) => return Err(fault),
         }
@@ -304,7 +305,7 @@ impl<T: Table<Value>> Inputs<'_, T> {
             (parts_sum self.now.net.now place.0 place.1 (part_numbers self.now.net.now)) fault (steps.new - steps.old)) }
         ensures counts { Counts (parts_work self.now.net.now place.0 place.1) steps.old steps.new (answer_of meaning_of result) }
     {
-        match parts_made(self.alloc, self.table, self.net, place, steps) {
+        match parts_made(self, place, steps) {
             Ok(parts) => added_up(self.alloc, self.table, &parts, steps),
             Err(fault) => Err(fault),
         }

@@ -10,3 +10,4 @@ pub mod Homes
 pub mod Marking
 pub mod Searched
 pub mod SameLeft
+pub mod PathMarks

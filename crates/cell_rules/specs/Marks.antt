@@ -1,27 +1,28 @@
--- Which servers are marked where touched cells are sought server by server: each that has a candidate, and each at which
--- a cell is made of a touched one that was found. Own choice.
-use Rattle.std.specs.Prelude.{◌≡◌, ℕ, suc, ◌<◌, List, ◌++◌, Bool, true, false, ◌&&◌, Contains, slice_index, slice_index_or}
+-- Which servers are marked where touched cells are sought server by server, each that has a candidate and each at which a
+-- cell is made of a touched one that was found; and which flows, where those of whole paths are sought. Own choice.
+use Rattle.std.specs.Prelude.{◌≡◌, ◌⊎◌, ℕ, suc, ◌<◌, List, ◌++◌, Bool, true, false, ◌&&◌, Contains, slice_index, slice_index_or}
 use Rattle.net_model.specs.Networks.{Net}
 use Rattle.net_model.specs.Orders.{IsOrder}
 use Rattle.net_cells.specs.declared.cell.Cell.{Cell}
 use Rattle.net_cells.specs.declared.cell.Kind.{Kind}
 use Rattle.net_cells.specs.declared.cell.Kind.TheVariants.{Out}
+use Rattle.net_cells.specs.declared.cell.Scope.TheVariants.{EachPath}
 use Rattle.net_cells.specs.Numbered.{hops, server_of_hop}
-use Rattle.net_cells.specs.Cells.{cell_of}
+use Rattle.net_cells.specs.Cells.{cell_of, scope_of}
 use Rattle.net_cells.specs.Formulas.{leaves}
 use Rattle.net_cells.specs.CellFormulas.{formula}
 use Rattle.net_cells.specs.Order.{server_cells, evaluation_order}
 use Rattle.cell_rules.specs.cell_changes.Changes.{Touched, TouchedOf}
 use Rattle.cell_rules.specs.declared.site.Site.{Site}
 use Rattle.cell_rules.specs.Sites.{is_among, passes, is_candidate}
-use Rattle.cell_rules.specs.Finding.{AreFlags, IsBareAtFirst, flag_of}
+use Rattle.cell_rules.specs.Finding.{AreFlags, IsBareAtFirst, IsTold, IsNoted, flag_of}
 
 abbrev pub is_output : Kind → Bool
 is_output Out = true
 is_output _ = false
 
 -- ---- marks
--- by a list of flags; each server past its end is marked
+-- by a list of flags; each number past its end is marked
 abbrev pub is_marked : List Bool → ℕ → Bool
 is_marked marks s = slice_index_or marks s true
 
@@ -68,6 +69,30 @@ abbrev pub MarksReached : Net → Net → (front : List Cell) → List Bool → 
 MarksReached old net front marks =
     (s : ℕ) (c d : Cell) → Contains (server_cells net s) c → Contains (leaves (formula net c)) d → Contains front d
     → Touched old net d → is_marked marks s ≡ true
+
+-- ---- flows
+-- those of which there is one of some cells; the number of a server marks a flow too, of which more is looked at then
+abbrev pub MarksOwn : List Cell → List Bool → Type 0
+MarksOwn cells marks = (c : Cell) → Contains cells c → is_marked marks c.a ≡ true
+
+-- those below a number that pass a server
+abbrev pub MarksPassing : Net → ℕ → List Bool → (count : ℕ) → Type 0
+MarksPassing net s marks count = (i : ℕ) → i < count → passes net i s ≡ true → is_marked marks i ≡ true
+
+-- those of whose whole path a cell is a candidate
+abbrev pub MarksPaths : Site → Net → Net → List Bool → Type 0
+MarksPaths site old net marks =
+    (c : Cell) → scope_of c.kind ≡ EachPath → is_candidate site old net c ≡ true → is_marked marks c.a ≡ true
+
+-- cells of whole paths
+abbrev pub AreOfPaths : List Cell → Type 0
+AreOfPaths cells = (c : Cell) → Contains cells c → scope_of c.kind ≡ EachPath
+
+-- one of these is looked at where its flow is marked, and else is untouched
+pub record IsLookedAt (old net : Net) (marks : List Bool) (c : Cell) (flags more : List Bool) (touched longer : List Cell) : Type 0 where
+  pub told : Bool
+  pub noted : IsNoted c told flags more touched longer
+  pub why : ((is_marked marks c.a ≡ true) × IsTold old net flags c told) ⊎ ((is_marked marks c.a ≡ false) × (told ≡ false))
 
 -- ---- searches
 -- some cells stand right behind a front, in an order of the cells

@@ -21,6 +21,10 @@ TellsSame x y false = x ≢ y
 abbrev pub TellsFormula : Net → Net → Kind → ℕ → ℕ → Bool → Type 0
 TellsFormula old new kind a b tells = TellsSame (formula_of old kind a b) (formula_of new kind a b) tells
 
+-- two networks have the same flows, if that is told of them
+abbrev pub HaveSameFlows : Bool → Net → Net → Type 0
+HaveSameFlows told old new = told ≡ true → old.flows ≡ new.flows
+
 -- the server and the queue of a hop
 abbrev pub hop_queue : Net → ℕ → ℕ → ℕ × ℕ
 hop_queue net i k = (server_of_hop net i k, queue_of_hop net i k)

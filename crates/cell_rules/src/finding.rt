@@ -16,8 +16,9 @@ ghost use Rattle.cell_rules.specs.Marks.{KeepsMarks, MarksCandidates, StandSomew
 
 use crate::cell_changes::{SLOTS, slot};
 use crate::marks::{first_marks, is_marked, mark_onward};
-use crate::rule::{has_cell, same_rule};
-use crate::site::{Site, is_candidate, others_keep_their_rule};
+use crate::path_search::search_paths;
+use crate::rule::{has_cell, same_rule_by};
+use crate::site::{Site, is_candidate, keeps_flows, others_keep_their_rule};
 use net_cells::{Cell, cells, operands};
 use net_model::Network;
 use std::alloc::{AllocError, Global};
@@ -73,14 +74,14 @@ fn is_changed(site: Site, old: &Network, net: &Network, cell: Cell) -> bool
 {
     others_keep_their_rule();
     if is_candidate(site, old, net, cell) {
-        !same_rule(cell, old, net)
+        !same_rule_by(keeps_flows(site), cell, old, net)
     } else {
         false
     }
 }
 
-// Whether a cell is touched: it is changed, or made of a flagged one.
-fn is_touched(
+/// Whether a cell is touched: it is changed, or made of a flagged one.
+pub(crate) fn is_touched(
     alloc: Global,
     old: &Network,
     net: &Network,
@@ -102,8 +103,8 @@ fn is_touched(
     reads_flagged(alloc, net, cell, flags, touched)
 }
 
-// Flags a touched cell, and puts it after the others.
-fn note(
+/// Flags a touched cell, and puts it after the others.
+pub(crate) fn note(
     flags: &mut Vec<bool>,
     touched: &mut Vec<Cell>,
     cell: Cell,
@@ -209,7 +210,8 @@ fn search_server(
 /// The touched cells of a network that another one came before, in the order in which they are taken, by an order of
 /// its servers: those that the other one has not or makes of other things, and those that are made of touched ones.
 /// Looks only at the servers where the two networks differ, at those where what leaves a touched hop arrives, and at
-/// the whole paths; and compares what a cell is made of only where it may differ.
+/// the whole paths of flows that have a candidate or a touched cell; and compares what a cell is made of only where it
+/// may differ.
 pub fn touched_cells(
     alloc: Global,
     old: &Network,
@@ -242,7 +244,7 @@ pub fn touched_cells(
             &mut touched,
         )?;
     }
-    search(alloc, old, net, site, &paths, &mut flags, &mut touched)?;
+    search_paths(&paths, alloc, site, old, net, &mut touched, &mut flags)?;
     Ok(touched)
 }
 

@@ -9,6 +9,7 @@ mod finding;
 mod lists;
 mod marks;
 mod of_number;
+mod path_search;
 mod reads;
 mod rule;
 mod services;

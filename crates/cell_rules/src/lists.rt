@@ -7,7 +7,7 @@ ghost use Rattle.net_cells.specs.Visits as visiting;
 ghost use Rattle.net_cells.specs.QueueParts.{part_numbers};
 ghost use Rattle.net_cells.specs.CellFormulas.{parts_sum};
 ghost use Rattle.cell_numbers.specs.Chosen.{all_chosen};
-ghost use Rattle.cell_rules.specs.Rules.{TellsSame, TellsFormula, link_of, longest_meant, one_part};
+ghost use Rattle.cell_rules.specs.Rules.{TellsSame, TellsFormula, HaveSameFlows, link_of, longest_meant, one_part};
 
 use crate::reads::same_number;
 use cell_numbers::{Pick, chosen_at, longest_at, rate};
@@ -15,7 +15,7 @@ use net_cells::{queue_of_hop, server_of_hop};
 use net_model::Network;
 
 /// How many numbers flows have at most.
-const MOST_FLOWS: u32 = 256;
+pub(crate) const MOST_FLOWS: u32 = 256;
 
 /// How many parts a queue has at most: one of flows that enter there, and one for each server.
 const MOST_PARTS: u64 = 65;
@@ -146,22 +146,40 @@ pub(crate) fn same_total(old: &Network, new: &Network, server: u32, queue: u32) 
     same_hops(old, place, new, place, None)
 }
 
-/// Whether the longest packet of the hops that are meant has as many bits in both networks.
-pub(crate) fn same_longest(old: &Network, new: &Network, server: u32, pick: Pick) -> bool
+/// Whether the longest packet of the hops that are meant has as many bits in both networks. Nothing is compared where it
+/// is told that they have the same flows.
+pub(crate) fn same_longest(
+    told: bool,
+    old: &Network,
+    new: &Network,
+    server: u32,
+    pick: Pick,
+) -> bool
+    requires { HaveSameFlows told old.now new.now }
     ensures { TellsSame (longest_meant old.now server pick) (longest_meant new.now server pick) result }
 {
+    if told {
+        return true;
+    }
     let bits = longest_at(old, server, pick);
     let new_bits = longest_at(new, server, pick);
     bits == new_bits
 }
 
 /// Whether the longest packet of each of the first queues has.
-pub(crate) fn same_longest_each(old: &Network, new: &Network, server: u32, count: u32) -> bool
+pub(crate) fn same_longest_each(
+    told: bool,
+    old: &Network,
+    new: &Network,
+    server: u32,
+    count: u32,
+) -> bool
+    requires { HaveSameFlows told old.now new.now }
     ensures { TellsSame (map (visiting.longest old.now server) (range_with_len 0 count))
         (map (visiting.longest new.now server) (range_with_len 0 count)) result }
 {
     for queue in 0..count {
-        if !same_longest(old, new, server, Pick::InQueue(queue)) {
+        if !same_longest(told, old, new, server, Pick::InQueue(queue)) {
             return false;
         }
     }

@@ -1,4 +1,5 @@
-//! Servers at which cells may be touched, marked by a list of flags. Those past its end are all marked.
+//! Servers at which cells may be touched, and flows of whose paths cells may be, marked by lists of flags at their numbers.
+//! Those past a list's end are all marked.
 
 ghost use Rattle.std.specs.Prelude.{◌≡◌, IfOk, Contains, length, slice_set, true};
 ghost use Rattle.net_model.specs.Networks.{Net};
@@ -10,7 +11,7 @@ ghost use Rattle.cell_rules.specs.Marks as spec;
 ghost use Rattle.cell_rules.specs.Marks.{KeepsMarks, MarksEach, MarksPath, MarksBehind, MarksNext, MarksOnward, MarksCandidates};
 
 use crate::cell_changes::slot;
-use crate::lists::is_by_links;
+use crate::lists::{MOST_FLOWS, is_by_links};
 use crate::site::Site;
 use net_cells::{Cell, Kind, live_flow, server_of_hop};
 use net_model::Network;
@@ -19,14 +20,11 @@ use std::alloc::{AllocError, Global};
 /// How many servers a network has at most.
 const MOST_SERVERS: usize = 64;
 
-/// How many numbers flows have at most.
-const MOST_FLOWS: u32 = 256;
-
-/// Whether a server is marked.
-pub(crate) fn is_marked(marks: &[bool], server: u32) -> bool
-    ensures { result ≡ spec.is_marked marks.now server }
+/// Whether a server, or a flow, is marked.
+pub(crate) fn is_marked(marks: &[bool], number: u32) -> bool
+    ensures { result ≡ spec.is_marked marks.now number }
 {
-    let place = server as usize;
+    let place = number as usize;
     if place < marks.len() {
         marks[place]
     } else {
@@ -34,23 +32,23 @@ pub(crate) fn is_marked(marks: &[bool], server: u32) -> bool
     }
 }
 
-// Marks a server.
-fn mark(marks: &mut Vec<bool>, server: u32)
-    ensures { marks.new.items ≡ slice_set marks.old.items server true }
+/// Marks a server, or a flow.
+pub(crate) fn mark(marks: &mut Vec<bool>, number: u32)
+    ensures { marks.new.items ≡ slice_set marks.old.items number true }
 {
-    let place = server as usize;
+    let place = number as usize;
     if place < marks.len() {
         marks[place] = true;
     }
 }
 
-// Marks a server in a case.
-fn mark_if(marks: &mut Vec<bool>, is_so: bool, server: u32)
+/// Marks a server, or a flow, in a case.
+pub(crate) fn mark_if(marks: &mut Vec<bool>, is_so: bool, number: u32)
     ensures kept { KeepsMarks marks.old.items marks.new.items }
-    ensures here { is_so ≡ true → spec.is_marked marks.new.items server ≡ true }
+    ensures here { is_so ≡ true → spec.is_marked marks.new.items number ≡ true }
 {
     if is_so {
-        mark(marks, server);
+        mark(marks, number);
     }
 }
 

@@ -6,7 +6,7 @@ ghost use Rattle.net_cells.specs.Cells.{has_cell};
 ghost use Rattle.net_cells.specs.CellFormulas.{formula};
 ghost use Rattle.net_cells.specs.Numbered as at;
 ghost use Rattle.cell_rules.specs.cell_changes.Changes.{HasSameRule};
-ghost use Rattle.cell_rules.specs.Rules.{TellsSame, TellsFormula};
+ghost use Rattle.cell_rules.specs.Rules.{TellsSame, TellsFormula, HaveSameFlows};
 
 use crate::lists::{same_cross, same_longest, same_total};
 use crate::reads::{same_arrival, same_links, same_packet, same_place};
@@ -68,7 +68,8 @@ fn same_path(old: &Network, new: &Network, flow: u32) -> bool
 }
 
 // Of a cell of both.
-fn same_formula(cell: Cell, old: &Network, new: &Network) -> bool
+fn same_formula(told: bool, cell: Cell, old: &Network, new: &Network) -> bool
+    requires flows { HaveSameFlows told old.now new.now }
     requires old { IsTrue (has_cell old.now cell) }
     requires new { IsTrue (has_cell new.now cell) }
     ensures { TellsSame (formula old.now cell) (formula new.now cell) result }
@@ -77,10 +78,10 @@ fn same_formula(cell: Cell, old: &Network, new: &Network) -> bool
         Kind::In => same_in(old, new, cell.a, cell.b),
         Kind::Cross => same_cross(old, new, cell.a, cell.b),
         Kind::Total => same_total(old, new, cell.a, cell.b),
-        Kind::QueueService => same_queue_service(old, new, cell.a, cell.b),
+        Kind::QueueService => same_queue_service(told, old, new, cell.a, cell.b),
         Kind::Theta => same_place(old, new, cell.a, cell.b),
         Kind::Residual => same_place(old, new, cell.a, cell.b),
-        Kind::QueueBacklog => same_longest(old, new, cell.a, Pick::InQueue(cell.b)),
+        Kind::QueueBacklog => same_longest(told, old, new, cell.a, Pick::InQueue(cell.b)),
         Kind::HopDelay => same_place(old, new, cell.a, cell.b),
         Kind::DeconvOut => same_packet(old, new, cell.a),
         Kind::PathService => same_path(old, new, cell.a),
@@ -90,10 +91,18 @@ fn same_formula(cell: Cell, old: &Network, new: &Network) -> bool
     }
 }
 
+/// Whether two networks both have a cell and make it of the same, where it may be told that they have the same flows.
+pub(crate) fn same_rule_by(told: bool, cell: Cell, old: &Network, new: &Network) -> bool
+    requires { HaveSameFlows told old.now new.now }
+    ensures { IsTrue result ↔ HasSameRule old.now new.now cell }
+{
+    has_cell(old, cell) && has_cell(new, cell) && same_formula(told, cell, old, new)
+}
+
 /// Whether two networks both have a cell and make it of the same: the same operators on the same cells, with the same
 /// curves, packets, quanta and links. It takes no memory.
 pub fn same_rule(cell: Cell, old: &Network, new: &Network) -> bool
     ensures { IsTrue result ↔ HasSameRule old.now new.now cell }
 {
-    has_cell(old, cell) && has_cell(new, cell) && same_formula(cell, old, new)
+    same_rule_by(false, cell, old, new)
 }

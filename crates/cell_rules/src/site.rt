@@ -3,7 +3,9 @@
 ghost use Rattle.std.specs.Prelude.{◌≡◌};
 ghost use Rattle.net_cells.specs.QueueParts.{in_part};
 ghost use Rattle.cell_rules.specs.Sites as spec;
-ghost use Rattle.cell_rules.specs.Sites.{OthersKeepTheirRule};
+ghost use Rattle.cell_rules.specs.Sites.{IsSameBut, OthersKeepTheirRule};
+ghost use Rattle.cell_rules.specs.Rules.{HaveSameFlows};
+ghost use Rattle.net_model.specs.Networks.{Net};
 
 use crate::lists::{is_by_links, is_unused};
 use cell_numbers::Pick;
@@ -29,8 +31,8 @@ fn is_among(number: u32, numbers: &[u32]) -> bool
     false
 }
 
-// Whether a flow passes a server.
-fn passes(net: &Network, flow: u32, server: u32) -> bool
+/// Whether a flow passes a server.
+pub(crate) fn passes(net: &Network, flow: u32, server: u32) -> bool
     ensures { result ≡ spec.passes net.now flow server }
 {
     match live_flow(net, flow) {
@@ -85,6 +87,16 @@ fn reads_flow(old: &Network, new: &Network, flow: u32, cell: Cell) -> bool
             cell.a == flow || comes_by(old, new, flow, server)
         }
         _ => cell.a == flow,
+    }
+}
+
+/// Whether two networks that differ at one place alone are told to have the same flows.
+pub(crate) fn keeps_flows(site: Site) -> bool
+    ensures { (old new : Net) → IsSameBut site old new → HaveSameFlows result old new }
+{
+    match site {
+        Site::Server(_) => true,
+        Site::Anywhere | Site::Flow(_) => false,
     }
 }
 

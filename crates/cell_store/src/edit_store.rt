@@ -2,6 +2,7 @@
 
 mod faults;
 mod plan;
+mod spare;
 mod store;
 
 pub use store::Store;

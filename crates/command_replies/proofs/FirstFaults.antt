@@ -11,20 +11,12 @@ use Rattle.net_draft.specs.Faults.{Fault, fault_of}
 use Rattle.net_draft.proofs.KindsOfTables.{faults_are_of_tables}
 use Rattle.net_text.specs.Becoming.{limit_fault}
 use Rattle.net_text.specs.Firsts.{PlacedCurve, FirstCurveOver, curves_of}
-use Rattle.net_text.specs.Laws.{EachFileSaysOneThing}
 use Rattle.net_text.specs.Reading.{CurveFault, FirstFault, IsAnswered}
-use Rattle.net_text.proofs.OneThing.{each_file_says_one_thing}
-use Rattle.net_text.specs.FoldLimits.{OverFold}
-use Rattle.net_text.proofs.OneLimit.{fold_has_one_limit}
 use Rattle.command_replies.specs.Replies.{Reply, breaks_rule, curve_over}
 use Rattle.command_replies.specs.Faults.{reply_of_kind, fault_reply}
 use Rattle.command_replies.specs.OnFiles.{IsBroken, IsNoNetwork}
 use Rattle.replies.specs.declared.answer.Answer.{Answer}
 use Rattle.command_replies.specs.View.{reply_of}
-
--- a file says one thing
-pub says : EachFileSaysOneThing OverFold
-says = each_file_says_one_thing OverFold fold_has_one_limit
 
 -- ---- the reply on a fault
 -- a curve over a limit at a place
@@ -33,7 +25,7 @@ record IsLimit (f : Fault) : Type 0 where
   place : List ℕ
   is : f ≡ limit_fault limit place
 
-of_curves : (es : List PlacedCurve) (f : Fault) → FirstCurveOver OverFold es f → IsLimit f
+of_curves : (es : List PlacedCurve) (f : Fault) → FirstCurveOver es f → IsLimit f
 of_curves [] f h = absurd h
 of_curves (e ∷ es) f (inl here) = record { limit = here.limit; place = e.place; is = here.is }
 of_curves (e ∷ es) f (inr later) = of_curves es f later.1
@@ -65,31 +57,31 @@ pub on_broken : (file bytes : List ℕ) (reply : Reply) (h : IsBroken file bytes
 on_broken file bytes reply h =
     h.is ∙ sym (of_tables file h.fault h.fault.kind (faults_are_of_tables bytes h.fault h.first))
 
-on_curve : (file bytes : List ℕ) (f : Fault) → CurveFault OverFold bytes f → IsLimit f
+on_curve : (file bytes : List ℕ) (f : Fault) → CurveFault bytes f → IsLimit f
     → IsNoNetwork file bytes (fault_reply file f)
 on_curve file bytes f h l = inr (
   l.limit,
   record {
     place = l.place;
-    first = subst (CurveFault OverFold bytes) l.is h;
+    first = subst (CurveFault bytes) l.is h;
     is = ap (fault_reply file) l.is ∙ on_limit file l.place l.limit;
   },
 )
 
-pub on_first : (file bytes : List ℕ) (f : Fault) → FirstFault OverFold bytes f
+pub on_first : (file bytes : List ℕ) (f : Fault) → FirstFault bytes f
     → IsNoNetwork file bytes (fault_reply file f)
 on_first file bytes f (inl tables) =
     inl (record { fault = f; first = tables; is = of_tables file f f.kind (faults_are_of_tables bytes f tables) })
 on_first file bytes f (inr curve) = on_curve file bytes f curve (of_curves (curves_of curve.draft) f curve.first)
 
 -- where a fault is told, it is the first
-pub first_told : (bytes : List ℕ) (f : NetFault) → IsAnswered OverFold bytes f → f.kind ≢ NoMemory
-    → FirstFault OverFold bytes (fault_of f)
+pub first_told : (bytes : List ℕ) (f : NetFault) → IsAnswered bytes f → f.kind ≢ NoMemory
+    → FirstFault bytes (fault_of f)
 first_told bytes f (inl wants) told = absurd (told wants)
 first_told bytes f (inr first) told = first
 
 -- a call that answers on a fault, if anything, answers that the file gives no network
-pub on_told : {E : Type 0} (file bytes : List ℕ) (f : NetFault) (r : Result Answer E) → IsAnswered OverFold bytes f
+pub on_told : {E : Type 0} (file bytes : List ℕ) (f : NetFault) (r : Result Answer E) → IsAnswered bytes f
     → IfOk r (λ a. reply_of a ≡ fault_reply file (fault_of f)) → IfOk r (λ a. f.kind ≢ NoMemory)
     → IfOk r (λ a. IsNoNetwork file bytes (reply_of a))
 on_told file bytes f (Ok a) answered is told =

@@ -9,7 +9,7 @@ use Rattle.net_model.specs.Orders.{IsOrder}
 use Rattle.net_draft.specs.Faults.{Fault}
 use Rattle.net_text.specs.Becoming.{limit_fault}
 use Rattle.net_text.specs.Reading.{IsNetworkOf, FirstFault}
-use Rattle.net_text.specs.FoldLimits.{OverFold}
+use Rattle.net_text.proofs.OneThing.{each_file_says_one_thing}
 use Rattle.net_cells.specs.Meanings.{CellTable}
 use Rattle.net_cells.specs.FirstOver.{AnswersAll}
 use Rattle.net_cells.specs.Order.{evaluation_order}
@@ -18,7 +18,7 @@ use Rattle.report_text.specs.CellWords.{cell_words}
 use Rattle.command_replies.specs.Replies.{Reply, AreSame, cell_over}
 use Rattle.command_replies.specs.Faults.{fault_reply}
 use Rattle.command_replies.specs.OnFiles.{IsNoNetwork, OnCycle, OnCellOver, IsOver}
-use Rattle.command_replies.proofs.FirstFaults.{says, on_broken, on_limit}
+use Rattle.command_replies.proofs.FirstFaults.{on_broken, on_limit}
 
 pub equal : (x y : Reply) → x ≡ y → AreSame x y
 equal x y same = record {
@@ -29,7 +29,7 @@ equal x y same = record {
 -- ---- a file that gives no network
 pub record OnFault (file bytes : List ℕ) (reply : Reply) : Type 0 where
   pub fault : Fault
-  pub first : FirstFault OverFold bytes fault
+  pub first : FirstFault bytes fault
   pub is : reply ≡ fault_reply file fault
 
 pub on_fault : (file bytes : List ℕ) (reply : Reply) → IsNoNetwork file bytes reply → OnFault file bytes reply
@@ -41,11 +41,11 @@ on_fault file bytes reply (inr (limit, h)) =
 
 pub one_fault : (file bytes : List ℕ) (x y : Reply) → OnFault file bytes x → OnFault file bytes y → x ≡ y
 one_fault file bytes x y h k =
-    h.is ∙ ap (fault_reply file) ((says bytes).one_fault h.fault k.fault h.first k.first) ∙ sym k.is
+    h.is ∙ ap (fault_reply file) ((each_file_says_one_thing bytes).one_fault h.fault k.fault h.first k.first) ∙ sym k.is
 
 pub no_network : (file bytes : List ℕ) (reply : Reply) (net : Net) → OnFault file bytes reply
-    → IsNetworkOf OverFold bytes net → ⊥
-no_network file bytes reply net h reads = (says bytes).not_both net h.fault reads h.first
+    → IsNetworkOf bytes net → ⊥
+no_network file bytes reply net h reads = (each_file_says_one_thing bytes).not_both net h.fault reads h.first
 
 -- ---- a cycle
 pub one_cycle : (net : Net) (x y : Reply) → OnCycle net x → OnCycle net y → AreSame x y

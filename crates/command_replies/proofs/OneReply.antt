@@ -9,7 +9,6 @@ use Rattle.net_model.specs.Walks.{IsFeedForward}
 use Rattle.net_model.proofs.net_graph.OneOrders.{one_order}
 use Rattle.net_model.proofs.net_graph.Returns.{cycle_is_closed, order_or_cycle}
 use Rattle.net_text.specs.Reading.{IsNetworkOf}
-use Rattle.net_text.specs.FoldLimits.{OverFold}
 use Rattle.net_cells.specs.declared.cell.Cell.{Cell}
 use Rattle.net_cells.specs.FirstOver.{FirstOver}
 use Rattle.net_cells.specs.Meanings.{CellTable}
@@ -17,7 +16,7 @@ use Rattle.command_replies.specs.OnFiles.{IsNoNetwork, IsNetOf, OnFile, OnCycle,
 use Rattle.command_replies.specs.OnFiles.{OnOrder, OnTable}
 use Rattle.command_replies.specs.Replies.{Reply}
 use Rattle.outcomes.specs.Stages.{AreAlike, GoOnAlike, stops, goes_on}
-use Rattle.command_replies.proofs.FirstFaults.{says}
+use Rattle.net_text.proofs.OneThing.{each_file_says_one_thing}
 use Rattle.command_replies.proofs.OneRefusal.{on_fault, one_fault, no_network, one_over, no_answers}
 use Rattle.outcomes.proofs.Stages.{one_staged, on_one}
 
@@ -30,7 +29,7 @@ module _ (Alike : Reply → Reply → Type 0) (same : (x y : Reply) → x ≡ y 
       one_staged (IsNoNetwork file bytes) (IsNetOf bytes) Said Alike
       (λ r net h given. no_network file bytes r net (on_fault file bytes r h) given.reads)
       (λ x y h k. same x y (one_fault file bytes x y (on_fault file bytes x h) (on_fault file bytes y k)))
-      (on_one (IsNetOf bytes) Said Alike (λ m n h k. (says bytes).one_network m n h.reads k.reads) each)
+      (on_one (IsNetOf bytes) Said Alike (λ m n h k. (each_file_says_one_thing bytes).one_network m n h.reads k.reads) each)
 
   pub order_alike : (net : Net) (order : List ℕ) (Told : CellTable → Reply → Type 0) → IsAccepted net
       → IsOrder net order → GoOnAlike Alike (IsTableOf net order) Told → AreAlike Alike (OnOrder net Told order)
@@ -56,11 +55,11 @@ pub record IsSaidOfNet (net : Net) (Said : Net → Reply → Type 0) (reply : Re
   pub said : Said net reply
 
 pub file_reached : (file bytes : List ℕ) (Said : Net → Reply → Type 0) (net : Net) (reply : Reply)
-    → IsNetworkOf OverFold bytes net → OnFile file bytes Said reply → IsSaidOfNet net Said reply
+    → IsNetworkOf bytes net → OnFile file bytes Said reply → IsSaidOfNet net Said reply
 file_reached file bytes Said net reply reads (stops h) =
     absurd (no_network file bytes reply net (on_fault file bytes reply h) reads)
 file_reached file bytes Said net reply reads (goes_on other given h) =
-    let one = (says bytes).one_network other net given.reads reads in
+    let one = (each_file_says_one_thing bytes).one_network other net given.reads reads in
     record { accepted = subst IsAccepted one given.accepted; said = subst (λ n. Said n reply) one h }
 
 pub order_reached : (net : Net) (order : List ℕ) (Told : CellTable → Reply → Type 0) (reply : Reply)

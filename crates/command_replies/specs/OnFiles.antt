@@ -11,7 +11,6 @@ use Rattle.net_draft.specs.Drafts.{draft_of}
 use Rattle.net_draft.specs.Faults.{Fault}
 use Rattle.net_text.specs.Becoming.{limit_fault}
 use Rattle.net_text.specs.Reading.{IsNetworkOf, CurveFault}
-use Rattle.net_text.specs.FoldLimits.{OverFold}
 use Rattle.net_cells.specs.declared.cell.Cell.{Cell}
 use Rattle.net_cells.specs.Equations.{MeetsEquations}
 use Rattle.net_cells.specs.FirstOver.{AnswersAll, FirstOver}
@@ -34,7 +33,7 @@ pub record IsBroken (file bytes : List ℕ) (reply : Reply) : Type 0 where
 -- they break none, and this is the first curve that is over a limit, a closure in the place of its curve
 pub record IsCurveOver (limit : OverLimit) (bytes : List ℕ) (reply : Reply) : Type 0 where
   pub place : List ℕ
-  pub first : CurveFault OverFold bytes (limit_fault limit place)
+  pub first : CurveFault bytes (limit_fault limit place)
   pub is : reply ≡ curve_over limit place
 
 -- the reply on a file that gives no network
@@ -44,7 +43,7 @@ IsNoNetwork file bytes reply = IsBroken file bytes reply ⊎ ((limit : OverLimit
 -- ---- networks
 -- the network that the file gives, with all that a network keeps
 pub record IsNetOf (bytes : List ℕ) (net : Net) : Type 0 where
-  pub reads : IsNetworkOf OverFold bytes net
+  pub reads : IsNetworkOf bytes net
   pub accepted : IsAccepted net
 
 -- the reply on a file: its first fault, or what is said of its network

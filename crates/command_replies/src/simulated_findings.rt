@@ -5,4 +5,4 @@ mod finding;
 mod told;
 
 pub use finding::find;
-pub use simulator::net_simulator::SimFault;
+pub use simulator::SimFault;

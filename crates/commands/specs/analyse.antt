@@ -1,2 +1,2 @@
 pub mod OnFiles
-pub mod AnswerLaws
+pub mod Laws

@@ -1,4 +1,4 @@
 pub mod Checked
 pub mod OnRuns
 pub mod CheckCounts
-pub mod CheckLaws
+pub mod Laws

@@ -4,5 +4,5 @@ pub mod Answered
 pub mod Said
 pub mod OnEdits
 pub mod EditCounts
-pub mod EditLaws
+pub mod Laws
 pub mod EditCauses

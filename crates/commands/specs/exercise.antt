@@ -1,2 +1,2 @@
 pub mod OnSeeds
-pub mod ExerciseLaws
+pub mod Laws

@@ -1,4 +1,4 @@
 pub mod OnMeasures
 pub mod MeasureCauses
-pub mod MeasureLaws
+pub mod Laws
 pub mod MeasureCounts

@@ -8,7 +8,7 @@ mod on_net;
 mod refusals;
 
 pub use laws::{
-    admissible_runs_are_within_bounds, check_replies_are_complete, check_replies_are_determined,
-    check_reports_guarantee, check_statuses_have_causes, verdicts_tell_runs,
+    admissible_runs_are_within_bounds, replies_are_complete, replies_are_determined,
+    reports_guarantee, statuses_have_causes, verdicts_tell_runs,
 };
 pub use on_files::answer_on;

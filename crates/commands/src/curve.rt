@@ -4,5 +4,5 @@
 mod laws;
 mod on_file;
 
-pub use laws::{answers_are_determined, replies_are_complete};
+pub use laws::{replies_are_complete, replies_are_determined, statuses_have_causes};
 pub use on_file::answer_on;

@@ -7,7 +7,6 @@ mod row;
 mod rows;
 
 pub use laws::{
-    edit_replies_are_complete, edit_replies_are_determined, edit_reports_are_guaranteed,
-    edit_statuses_have_causes,
+    replies_are_complete, replies_are_determined, reports_guarantee, statuses_have_causes,
 };
 pub use on_files::answer_on;

@@ -7,6 +7,6 @@ mod on_workload;
 
 pub use answering::answer_on;
 pub use laws::{
-    exercise_replies_are_complete, exercise_replies_are_determined, exercise_statuses_have_causes,
-    quiet_summaries_are_within_bounds, summaries_guarantee, summary_tells_premises,
+    quiet_summaries_are_within_bounds, replies_are_complete, replies_are_determined,
+    statuses_have_causes, summaries_guarantee, summary_tells_premises,
 };

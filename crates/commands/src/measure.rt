@@ -7,7 +7,7 @@ mod on_trace;
 mod refusals;
 
 pub use laws::{
-    measure_replies_are_complete, measure_replies_are_determined, measure_reports_are_least,
-    measure_statuses_are_four, measure_statuses_have_causes,
+    replies_are_complete, replies_are_determined, reports_are_least, statuses_are_four,
+    statuses_have_causes,
 };
 pub use on_files::answer_on;

@@ -6,8 +6,7 @@ mod on_files;
 mod on_net;
 
 pub use laws::{
-    open_servers_break_nothing, quiet_runs_are_within_bounds, run_replies_are_complete,
-    run_replies_are_determined, run_reports_guarantee, run_statuses_have_causes,
-    status_tells_premises,
+    open_servers_break_nothing, quiet_runs_are_within_bounds, replies_are_complete,
+    replies_are_determined, reports_guarantee, status_tells_premises, statuses_have_causes,
 };
 pub use on_files::answer_on;

@@ -1,12 +1,10 @@
 //! The table of a network's cells, or the answer where there is none.
 
-ghost use Rattle.std.specs.Prelude.{◌≡◌, ◌+◌, ℕ, List, IfErr, IfOk};
+ghost use Rattle.std.specs.Prelude.{IfErr, IfOk};
 ghost use Rattle.net_model.specs.Accepted.{IsAccepted};
 ghost use Rattle.net_model.specs.Orders.{IsOrder};
-ghost use Rattle.command_replies.specs.CellWork.{work_of_cells};
 ghost use Rattle.command_replies.specs.View.{reply_of};
-ghost use Rattle.command_replies.specs.run_findings.CellCounts.{CountsOnCells};
-ghost use Rattle.commands.specs.Tabled.{HasTable, IsStopped};
+ghost use Rattle.commands.specs.Tabled.{HasTable, IsStopped, CountsOnTable};
 
 use cell_eval::flow_analysis::analyse;
 use command_replies::{Answer, cell_too_many, cell_too_wide, goes_round};
@@ -28,9 +26,7 @@ fn in_order<L: Ledger>(
     requires order { IsOrder net.now order.now }
     ensures table { IfOk result (λ t. HasTable net.now (⟦<Analysis<Value> as Table<Value>>⟧.at t)) }
     ensures stopped { IfErr result (λ told. IfOk told (λ r. IsStopped net.now (reply_of r))) }
-    ensures exact { IfOk result (λ t. (order : List ℕ) → IsOrder net.now order
-        → steps.new ≡ steps.old + work_of_cells net.now order) }
-    ensures cells { CountsOnCells net.now 5 steps.old steps.new }
+    ensures counts { CountsOnTable net.now steps.old steps.new result }
 {
     match analyse(alloc, net, order, steps) {
         Ok(table) => Ok(table),
@@ -51,9 +47,7 @@ pub(crate) fn table_of<L: Ledger>(
     requires { IsAccepted net.now }
     ensures table { IfOk result (λ t. HasTable net.now (⟦<Analysis<Value> as Table<Value>>⟧.at t)) }
     ensures stopped { IfErr result (λ told. IfOk told (λ r. IsStopped net.now (reply_of r))) }
-    ensures exact { IfOk result (λ t. (order : List ℕ) → IsOrder net.now order
-        → steps.new ≡ steps.old + work_of_cells net.now order) }
-    ensures cells { CountsOnCells net.now 5 steps.old steps.new }
+    ensures counts { CountsOnTable net.now steps.old steps.new result }
 {
     match order(alloc, net) {
         Ok(servers) => in_order(alloc, net, &servers, steps),

@@ -1,6 +1,6 @@
 -- The convolution of two curves in a call within both limits: its pieces have room, and it repeats from the last period of its window on.
-use Rattle.std.specs.Prelude.{◌≡◌, ◌+◌, pos, List}
-use Rattle.std.proofs.Common.{arith, sym, ap, ◌∙◌, subst, inl, inr}
+use Rattle.std.specs.Prelude.{◌≡◌, ◌+◌, pos, List, Result, IfOk, Vec}
+use Rattle.std.proofs.Common.{arith, sym, ap, ◌∙◌, subst, inl, inr, Global}
 use Rattle.rational.specs.Rational.{ℚ, ◌+ℚ◌, ◌-ℚ◌, ◌*ℚ◌, ◌≤ℚ◌, ◌<ℚ◌, int}
 use Rattle.rational.specs.Grid.{Whole}
 use Rattle.rational.specs.Extended.{◌<ₑ◌}
@@ -44,6 +44,12 @@ pub windows : (f g : SpecCurve) (r : Frame) (ls rs : List Piece) (F : IsConvolve
 windows f g r ls rs F el er =
     let A = operands f g r.start r.period r.end (F.number + 1) F.sizes ls rs F.call el er in
     record { sizes = F.sizes; limited = F.call.limited; some = some_end f g r.start r.period r.end (F.number + 1) F.sizes F.call; left = A.left; right = A.right }
+
+-- what is convolved is what is written out of them
+pub convolved_window : {E : Type 0} (r : Result (Vec Piece Global) E) (f g : SpecCurve) (end : ℚ) (ls rs : List Piece) → ls ≡ unroll f end → rs ≡ unroll g end → IfOk r (λ v. IsConvolutionWindow ls rs end v.items)
+    → IfOk r (λ v. IsConvolutionWindow (unroll f end) (unroll g end) end v.items)
+convolved_window r f g end ls rs el er h =
+    subst (λ z. IfOk r (λ v. IsConvolutionWindow z (unroll g end) end v.items)) el (subst (λ z. IfOk r (λ v. IsConvolutionWindow ls z end v.items)) er h)
 
 -- ---- the rise stands
 

@@ -7,12 +7,14 @@ ghost use Rattle.rational.specs.Extended.{◌<ₑ◌};
 ghost use Rattle.upp_curve.specs.Curve.{value_at};
 ghost use Rattle.min_plus.specs.Convolution.{IsConvolution};
 ghost use Rattle.upp_curve.specs.Steady.{rate, rise_over};
+ghost use Rattle.upp_curve.specs.Unrolled.{unroll};
 ghost use Rattle.upp_curve.specs.Curves.{IsCurve};
 ghost use Rattle.upp_limits.specs.Outcome.{IsWithin, IsCauseOf, KeepsLimits};
 ghost use Rattle.upp_limits.specs.declared.op_kind.OpKind.TheVariants.{Convolve};
 ghost use Rattle.curve_call.specs.FirstWindows.{IsFirstWindow};
 ghost use Rattle.curve_call.specs.Rises.{CurveRiseFits};
 ghost use Rattle.plain_operators.specs.pointwise.Lattice.{RisesBy};
+ghost use Rattle.element_envelope.specs.ConvolutionWindows.{IsConvolutionWindow};
 ghost use Rattle.curve_conv.specs.ConvolveCall.{IsConvolveFrame};
 
 use crate::{is_slower_curve, late_bounds, late_periods};
@@ -25,6 +27,7 @@ use outcomes::Steps;
 use std::alloc::{AllocError, Global};
 use std::sync::ledger::Ledger;
 use upp_curve::Curve;
+use upp_curve::affine_segment::Piece;
 use upp_limits::{OpFault, OpKind, tally_over};
 use upp_normal::unrolled;
 
@@ -55,15 +58,29 @@ fn repetition(f: &Curve, g: &Curve, frame: &Frame) -> (Frac, Frac)
     )
 }
 
+// The pieces of the convolution in the window of a call within both limits. What is written out of the operands is let go
+// here, before the answer is made.
+fn convolved_pieces(
+    alloc: Global,
+    f: &Curve,
+    g: &Curve,
+    frame: &Frame,
+) -> Result<Vec<Piece>, AllocError>
+    requires { IsConvolveFrame f.now g.now frame.now }
+    ensures { IfOk result (λ v. IsConvolutionWindow (unroll f.now frame.now.end) (unroll g.now frame.now.end) frame.now.end v.items) }
+{
+    let left = unrolled(f, frame.end)?;
+    let right = unrolled(g, frame.end)?;
+    window_convolution(alloc, &left, &right, frame.end)
+}
+
 // The convolution of two curves in a call within both limits, where the number of periods is enough.
 fn convolved_within(alloc: Global, f: &Curve, g: &Curve, frame: &Frame) -> Result<Curve, AllocError>
     requires { IsConvolveFrame f.now g.now frame.now }
     ensures { IfOk result (λ c. (t : ℚ) → int (pos 0) ≤ℚ t
         → IsConvolution (value_at f.now) (value_at g.now) t (value_at c t)) }
 {
-    let left = unrolled(f, frame.end)?;
-    let right = unrolled(g, frame.end)?;
-    let pieces = window_convolution(alloc, &left, &right, frame.end)?;
+    let pieces = convolved_pieces(alloc, f, g, frame)?;
     let repeats = repetition(f, g, frame);
     framed_answer(alloc, pieces, repeats.0, repeats.1, frame)
 }

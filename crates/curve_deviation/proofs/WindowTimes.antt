@@ -16,7 +16,7 @@ use Rattle.min_plus.specs.Functions.{IsFinite}
 use Rattle.upp_curve.specs.Steady.{steady}
 use Rattle.upp_limits.specs.Periods.{common_period, periods_after}
 use Rattle.upp_limits.specs.Windows.{window_at}
-use Rattle.upp_limits.specs.Limits.{Sizes, sizes_of, gauge_of, curve_numbers}
+use Rattle.upp_limits.specs.Limits.{Sizes, curve_numbers}
 use Rattle.upp_limits.specs.Sized.{Stands}
 use Rattle.upp_normal.specs.Operand.{AreLimited}
 use Rattle.upp_normal.specs.Ahead.{IsTimeIn}
@@ -173,8 +173,3 @@ few_within f g k m F G first second small =
 
     early_m : (T K M S H d : ℚ) → int (pos 0) ≤ℚ T → int (pos 0) <ℚ d → int (pos 0) ≤ℚ K → S ≡ (T +ℚ K) +ℚ d → H -ℚ d ≡ S +ℚ M → M ≤ℚ H
     early_m T K M S H d a b m e f = with6 T K M S H d (λ c. omega (arith, c.le, c.lt, c.same))
-
--- ---- the gauge as it is found
-pub gauge_found : (f g : SpecCurve) (k m n : ℕ) (end : ℚ) → end ≡ window_at Horizontal f g k m → n ≡ gauge_of (sizes_of end (numbers_over Horizontal f g end)) → n ≡ gauge_at Horizontal f g k m
-unfolding gauge_over
-gauge_found f g k m n end e h = h ∙ ap (λ x. gauge_of (sizes_of x (numbers_over Horizontal f g x))) e

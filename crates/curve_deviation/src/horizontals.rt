@@ -330,25 +330,28 @@ fn guessed_call(f: &Curve, g: &Curve) -> Option<FoundCall>
     Some(FoundCall { periods, frame })
 }
 
-/// The horizontal deviation whose numbers of periods have to be looked for.
-fn searched(f: &Curve, g: &Curve) -> Result<Ext, OpFault>
+/// The call with its numbers of periods: of most calls they are guessed right, and one look at the sizes is enough; else
+/// they are looked for.
+fn found_call(f: &Curve, g: &Curve) -> Result<FoundCall, OpFault>
     requires both { AreFinite f.now g.now }
     requires known { ¬ (IsKnownAtOnce OpKind.Horizontal f.now g.now) }
-    ensures value { IfOk result (IsHorizontalDeviation (value_at f.now) (value_at g.now)) }
+    ensures found { IfOk result (IsFoundCall f.now g.now) }
     ensures limits { KeepsLimits OpKind.Horizontal f.now g.now result }
     ensures memory { IfErr result (λ e. ¬ (e ≡ OpFault.NoMemory)) }
 {
     f.keeps();
     g.keeps();
+    if let Some(call) = guessed_call(f, g) {
+        return Ok(call);
+    }
     let Some(periods) = periods_of(f, g) else {
         return Err(OpFault::TooWide);
     };
     let frame = within_both(&OpKind::Horizontal, f, g, periods.first, periods.second)?;
-    Ok(deviation_in(f, g, &periods, &frame))
+    Ok(FoundCall { periods, frame })
 }
 
-/// The horizontal deviation that has to be looked for: of most calls the numbers of periods are guessed right, and one
-/// look at the sizes is enough.
+/// The horizontal deviation that has to be looked for.
 fn looked_for(f: &Curve, g: &Curve) -> Result<Ext, OpFault>
     requires both { AreFinite f.now g.now }
     requires known { ¬ (IsKnownAtOnce OpKind.Horizontal f.now g.now) }
@@ -356,12 +359,8 @@ fn looked_for(f: &Curve, g: &Curve) -> Result<Ext, OpFault>
     ensures limits { KeepsLimits OpKind.Horizontal f.now g.now result }
     ensures memory { IfErr result (λ e. ¬ (e ≡ OpFault.NoMemory)) }
 {
-    f.keeps();
-    g.keeps();
-    match guessed_call(f, g) {
-        None => searched(f, g),
-        Some(call) => Ok(deviation_in(f, g, &call.periods, &call.frame)),
-    }
+    let call = found_call(f, g)?;
+    Ok(deviation_in(f, g, &call.periods, &call.frame))
 }
 
 /// The horizontal deviation of two curves that rise, the second finite: the supremum, over all times t from 0 on, of

@@ -17,7 +17,7 @@ use curve_call::{CallWindow, call_window};
 use fraction128::{Frac, difference, is_less};
 use rational::Extended;
 use upp_curve::Curve;
-use upp_limits::{OpKind, call_numbers};
+use upp_limits::{OpKind, narrow_grids};
 
 /// What is looked for.
 #[derive(Clone, Copy)]
@@ -36,12 +36,8 @@ pub(crate) fn narrow_window(f: &Curve, g: &Curve, k: u128, m: u128) -> Option<Ca
 {
     let op = OpKind::Horizontal;
     let window = call_window(&op, f, g, k, m)?;
-    let numbers = call_numbers(&op, f, g, window.end)?;
-    if numbers.gauge >= 1 << 120 {
-        None
-    } else {
-        Some(window)
-    }
+    narrow_grids(&op, f, g, window.end)?;
+    Some(window)
 }
 
 /// The window with k and m periods, of which the gauge is known to be below 2^120.

@@ -1,5 +1,5 @@
 -- What is found by a call or a kind of curve whose answer is kept.
-use Rattle.std.specs.Prelude.{◌≡◌, ◌⊎◌, ◌↔◌, ℕ, ◌+◌, ◌≤◌, Result, Ok, Err, IfOk, IfErr}
+use Rattle.std.specs.Prelude.{◌≡◌, ◌⊎◌, ◌↔◌, ℕ, Result, Ok, Err, IfOk, IfErr}
 use Rattle.std.proofs.Common.{refl, sym, ap, subst, ◌∙◌, inl, inr}
 use Rattle.rational.specs.Rational.{ℚ, ◌≤ℚ◌}
 use Rattle.min_plus.specs.Functions.{zero_q}
@@ -12,6 +12,8 @@ use Rattle.upp_limits.specs.declared.op_kind.OpFault.TheVariants as calls
 use Rattle.upp_limits.specs.Outcome.{IsCauseOf}
 use Rattle.curve_call.specs.Answers.{IsMadeBy}
 use Rattle.curve_call.specs.Calls.{Applies}
+use Rattle.outcomes.specs.Stages.{IsEqual}
+use Rattle.outcomes.specs.Spending.{SpendsSteps}
 use Rattle.curve_library.specs.declared.fault.CurveFault.{CurveFault}
 use Rattle.curve_library.specs.declared.fault.CurveFault.TheVariants as kinds
 use Rattle.subadd_closure.specs.Folds.{CloseAnswer}
@@ -36,23 +38,20 @@ call_found op f g (Ok c) r a (inr e) = subst (CurveFinds op f g) (sym e) a.withi
 call_found op f g (Err fault) r a e = subst (CurveFinds op f g) (sym e) (refused op f g (IsMadeBy op f g) fault a)
 
 -- and of a closure
--- what it says of its steps, where it makes a curve, where memory is wanting, and at most
-pub record HasCounted (f : SpecCurve) (made : Result SpecCurve OpFault) (old new : ℕ) : Type 0 where
-  pub all : IfOk made (λ h. new ≡ old + fold_work f)
-  pub memory : made ≡ Err calls.NoMemory → CloseWants f old new
-  pub most : new ≤ old + fold_work f
+abbrev CloseSpends : SpecCurve → (old new : ℕ) → Result SpecCurve OpFault → Type 0
+CloseSpends f old new made = SpendsSteps (IsEqual (fold_work f)) calls.NoMemory (CloseWants f) old new made
 
-close_refused : (f : SpecCurve) (fault : OpFault) (old new : ℕ) → CloseAnswer f (Err fault) → HasCounted f (Err fault) old new
+close_refused : (f : SpecCurve) (fault : OpFault) (old new : ℕ) → CloseAnswer f (Err fault) → CloseSpends f old new (Err fault)
     → CloseFinds f (Err (told_call fault)) old new
-close_refused f calls.TooMany old new h n = (h, n.most)
-close_refused f calls.TooWide old new h n = (h, n.most)
+close_refused f calls.TooMany old new h n = (h, (n.counts (fold_work f) refl).most)
+close_refused f calls.TooWide old new h n = (h, (n.counts (fold_work f) refl).most)
 close_refused f calls.NoMemory old new h n = inl (n.memory refl)
 
 pub close_found : (f : SpecCurve) (made : Result SpecCurve OpFault) (r : Found) (old new : ℕ) → CloseAnswer f made → IfOk made IsCurve
-    → IfOk made (λ h. (t : ℚ) → zero_q ≤ℚ t → IsSubadditiveClosure (value_at f) t (value_at h t)) → HasCounted f made old new → CallKept made r
+    → IfOk made (λ h. (t : ℚ) → zero_q ≤ℚ t → IsSubadditiveClosure (value_at f) t (value_at h t)) → CloseSpends f old new made → CallKept made r
     → CloseFinds f r old new
-close_found f (Ok h) r old new a kept values n (inl e) = subst (λ s. CloseFinds f s old new) (sym e) (a, kept, values, n.all)
-close_found f (Ok h) r old new a kept values n (inr e) = subst (λ s. CloseFinds f s old new) (sym e) (inr (h, a, n.all))
+close_found f (Ok h) r old new a kept values n (inl e) = subst (λ s. CloseFinds f s old new) (sym e) (a, kept, values, (n.counts (fold_work f) refl).exact)
+close_found f (Ok h) r old new a kept values n (inr e) = subst (λ s. CloseFinds f s old new) (sym e) (inr (h, a, (n.counts (fold_work f) refl).exact))
 close_found f (Err fault) r old new a kept values n e = subst (λ s. CloseFinds f s old new) (sym e) (close_refused f fault old new a n)
 
 -- ---- kinds

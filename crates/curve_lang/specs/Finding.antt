@@ -2,7 +2,7 @@
 -- operators on curves are counted, `old` of them before and `new` by then. Want of memory may come at each place where a
 -- call takes any, and what is counted by then tells which operators were made before it: so the limit of an operator that
 -- is counted is never told as want of memory. (Own choice.)
-use Rattle.std.specs.Prelude.{◌≡◌, ◌⊎◌, ℕ, pos, ◌+◌, ◌≤◌, ◌<◌, ◌^◌, Result, Ok, Err}
+use Rattle.std.specs.Prelude.{◌≡◌, ◌⊎◌, ℕ, pos, ◌+◌, ◌-◌, ◌≤◌, ◌<◌, ◌^◌, Result, Ok, Err}
 use Rattle.rational.specs.Rational.{ℚ, int, ◌≤ℚ◌, ◌<ℚ◌}
 use Rattle.rational.specs.MinMax.{max_q}
 use Rattle.rational.specs.Extended.{Ext}
@@ -132,7 +132,7 @@ CloseFinds f (Ok h) old new = CloseAnswer f (Ok h) × IsCurve h
 CloseFinds f (Err TooMany) old new = CloseAnswer f (Err call_faults.TooMany) × (new ≤ old + fold_work f)
 CloseFinds f (Err TooWide) old new = CloseAnswer f (Err call_faults.TooWide) × (new ≤ old + fold_work f)
 CloseFinds f (Err NoMemory) old new =
-    CloseWants f old new ⊎ ((h : SpecCurve) × CloseAnswer f (Ok h) × (new ≡ old + fold_work f))
+    CloseWants f (new - old) ⊎ ((h : SpecCurve) × CloseAnswer f (Ok h) × (new ≡ old + fold_work f))
 CloseFinds f (Err k) old new = ⊥
 
 abbrev pub OneFinds : CurveOperator → SpecCurve → Found → (old new : ℕ) → Type 0

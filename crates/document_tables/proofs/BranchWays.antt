@@ -205,7 +205,7 @@ module _ (ports : Ports) (overhead : ℕ) (table : LinkTable) (trees : AreTrees 
       let many = ap length is.over in
       let a = length-map b.path (slice_get ports.names) in
       let c = length-map is.text.path Some in
-      let way = way_of ports.ports key.priority (paths_of b.link bs) tree.0 b.path (trees.each b.link tree.0 tree.1) (omega (arith, many, a, c, says.some_port)) (one_of_paths bs k b there) in record {
+      let way = way_of ports.ports key.priority (paths_of b.link bs) tree.0 b.path (trees.of_paths.each b.link tree.0 tree.1) (omega (arith, many, a, c, says.some_port)) (one_of_paths bs k b there) in record {
         name = is.name;
         is_named = is.is_named;
         of_link = is.of_link;

@@ -21,5 +21,6 @@ pub mod BranchFacts
 pub mod LinkFacts
 pub mod GridRanges
 pub mod NetworkFacts
+pub mod ShortNodes
 pub mod BranchRows
 pub mod BranchWays

@@ -151,7 +151,7 @@ module _ (link : ℕ) (before : Links) (path : List ℕ) (deadline : Option Amou
 -- the tree of a link
 pub tree_there : (table : LinkTable) (link : ℕ) (tree : Tree) → AreTrees table → link < length table.keys.items → tree ≡ get_or table.trees.items link tree
     → IsTreeOf (paths_of link (branches_of table)) tree
-tree_there table link tree kept below is = kept.each link tree (slice_get-get_or table.trees.items link tree (omega (arith, kept.trees, below)) ∙ ap Some (sym is))
+tree_there table link tree kept below is = kept.of_paths.each link tree (slice_get-get_or table.trees.items link tree (omega (arith, kept.trees, below)) ∙ ap Some (sym is))
 
 module _ (ports : Ports) (overhead link : ℕ) (before : Links) (row : LinkText) where
   abbrev pub ports_read : CellRead (List ℕ)

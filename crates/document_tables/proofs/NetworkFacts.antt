@@ -99,7 +99,7 @@ place_within stops (Some q) some =
     let w = position-Some (nat_eq q) (map (λ (s : Stop). s.0) stops) j 0 h in
     omega (arith, n, w.0))
 
-hangs_before : (stops : List Stop) (i : ℕ) (after : Option ℕ) → Follows stops i after → HangsBefore i (place_after stops after)
+pub hangs_before : (stops : List Stop) (i : ℕ) (after : Option ℕ) → Follows stops i after → HangsBefore i (place_after stops after)
 hangs_before stops i None f = f
 hangs_before stops i (Some q) f = subst (HangsBefore i) (sym f.2) f.1
 

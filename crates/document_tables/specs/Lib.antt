@@ -9,6 +9,7 @@ pub mod Links
 pub mod Ranges
 pub mod LinkTrees
 pub mod Grids
+pub mod Short
 pub mod Documents
 pub mod Ways
 pub mod FaultLines

@@ -26,7 +26,7 @@ pub record AreTreesOf (branches : List BranchText) (trees : List Tree) : Type 0 
 pub record AreTrees (table : LinkTable) : Type 0 where
   pub names : length table.names ≡ length table.keys.items
   pub trees : length table.trees.items ≡ length table.keys.items
-  pub each : (k : ℕ) (tree : Tree) → slice_get table.trees.items k ≡ Some tree → IsTreeOf (paths_of k (branches_of table)) tree
+  pub of_paths : AreTreesOf (branches_of table) table.trees.items
   pub others : (k : ℕ) → length table.keys.items ≤ k → paths_of k (branches_of table) ≡ []
   pub hung : (k : ℕ) (b : Branch) → slice_get table.branches.items k ≡ Some b → IsHung table.passed.items (branches_of table) b
 

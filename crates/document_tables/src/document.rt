@@ -9,6 +9,7 @@ ghost use Rattle.document_tables.specs.Links.{BranchText, branches_of, links_vie
 ghost use Rattle.document_tables.specs.LinkTrees.{AreTrees, AreTreesOf};
 ghost use Rattle.document_tables.specs.Ports.{ports_view};
 ghost use Rattle.document_tables.specs.Ranges.{IsPortText, AreLinkKeys};
+ghost use Rattle.document_tables.specs.Short.{HaveShortNodes};
 ghost use Rattle.document_tables.specs.Tables.{line_row, row_view};
 ghost use Rattle.document_tables.specs.Ways.{AreBranchesOf};
 ghost use Rattle.document_tables.specs.declared.fault.DocumentError.TheVariants as errors;
@@ -89,6 +90,7 @@ fn network_of(
     requires ports { All IsPortText (ports_view ports.now).ports }
     requires keys { All AreLinkKeys keys.now }
     requires count { length trees.old.items ≡ length keys.now }
+    requires short { HaveShortNodes (ports_view ports.now).ports keys.now trees.old.items }
     ensures ports { IfOk result (λ n. map grids.grid_port n.ports.items
         ≡ map grids.port_on_grid (ports_view ports.now).ports) }
     ensures links { (branches : List BranchText) → AreTreesOf branches trees.old.items → IfOk result (λ n.
@@ -110,6 +112,7 @@ fn document_with(
     requires ports { All IsPortText (ports_view ports).ports }
     requires keys { All AreLinkKeys table.keys.items }
     requires trees { AreTrees table }
+    requires short { HaveShortNodes (ports_view ports).ports table.keys.items table.trees.items }
     ensures { IfOk result (λ d. spec.document_view d
         ≡ spec.document_with overhead (ports_view ports) (links_view table)) }
 {

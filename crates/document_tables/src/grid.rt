@@ -1,6 +1,6 @@
 //! Tables on the grid of networks.
 
-ghost use Rattle.std.specs.Prelude.{◌≡◌, ◌≤◌, ◌<◌, ℕ, List, Some, All, map, length, slice_get, IfOk};
+ghost use Rattle.std.specs.Prelude.{◌≡◌, ◌≤◌, ◌<◌, ◌^◌, ℕ, List, Some, All, map, length, slice_get, IfOk, IfSome};
 ghost use Rattle.document_rows.specs.Disciplines.{discipline_view};
 ghost use Rattle.document_rows.specs.PortRows.{port_view};
 ghost use Rattle.document_tables.specs.Grids as spec;
@@ -8,6 +8,7 @@ ghost use Rattle.document_tables.specs.Links.{BranchText};
 ghost use Rattle.document_tables.specs.LinkTrees.{AreTreesOf};
 ghost use Rattle.document_tables.specs.Ports.{ports_view};
 ghost use Rattle.document_tables.specs.Ranges.{IsGate, IsPortText, AreLinkKeys};
+ghost use Rattle.document_tables.specs.Short.{IsShort, HasShortNodes, HaveShortNodes};
 ghost use Rattle.document_tables.specs.Stops.{Stop};
 
 use crate::links::LinkKeys;
@@ -78,6 +79,27 @@ pub(crate) fn ports_on_grid(alloc: Global, rows: &[PortRow]) -> Result<Vec<Port>
     Ok(ports)
 }
 
+// The queue of a priority at the port of a number.
+fn queue_of(ports: &PortTable, port: usize, priority: usize) -> usize
+    ensures { result ≡ spec.queue_of (slice_get (ports_view ports.now).ports port) priority }
+{
+    match ports.ports.get(port) {
+        Some(row) => queue_at(&row.discipline, priority),
+        None => 0,
+    }
+}
+
+// A place that is short.
+fn short(place: Option<usize>) -> Option<u16>
+    requires { IfSome place (λ p. p < 2 ^ 16) }
+    ensures { result ≡ place }
+{
+    match place {
+        Some(place) => Some(place as u16),
+        None => None,
+    }
+}
+
 // The node of a port of a tree, and of the one after which it comes.
 fn node_of(
     ports: &PortTable,
@@ -86,16 +108,15 @@ fn node_of(
     port: usize,
     after: Option<usize>,
 ) -> Node
+    requires { IsShort (spec.node_of (ports_view ports.now).ports priority tree.now.stops (port, after)) }
     ensures { result ≡ spec.node_of (ports_view ports.now).ports priority tree.now.stops (port, after) }
 {
-    let queue = match ports.ports.get(port) {
-        Some(row) => queue_at(&row.discipline, priority),
-        None => 0,
-    };
+    let queue = queue_of(ports, port, priority);
+    let from = tree.place_after(after);
     Node {
-        port,
-        queue,
-        from: tree.place_after(after),
+        port: port as u16,
+        queue: queue as u8,
+        from: short(from),
     }
 }
 
@@ -106,6 +127,7 @@ fn nodes_of(
     priority: usize,
     tree: &Tree,
 ) -> Result<Vec<Node>, AllocError>
+    requires { HasShortNodes (ports_view ports.now).ports priority tree.now.stops }
     ensures { IfOk result (λ nodes. nodes.items
         ≡ spec.nodes_of (ports_view ports.now).ports priority tree.now.stops) }
 {
@@ -127,6 +149,7 @@ fn link_of(
 ) -> Result<Link, AllocError>
     requires overhead { overhead ≤ 1048576 }
     requires keys { AreLinkKeys keys }
+    requires short { HasShortNodes (ports_view ports.now).ports keys.priority tree.now.stops }
     ensures { IfOk result (λ link. spec.grid_link link
         ≡ spec.link_on_grid (ports_view ports.now).ports overhead keys tree.now.stops) }
 {
@@ -159,6 +182,7 @@ pub(crate) fn links_on_grid(
     requires overhead { overhead ≤ 1048576 }
     requires keys { All AreLinkKeys keys.now }
     requires count { length trees.old.items ≡ length keys.now }
+    requires short { HaveShortNodes (ports_view ports.now).ports keys.now trees.old.items }
     ensures { (branches : List BranchText) → AreTreesOf branches trees.old.items → IfOk result (λ links.
         map spec.grid_link links.items ≡ spec.links_from (ports_view ports.now).ports overhead branches 0 keys.now) }
 {

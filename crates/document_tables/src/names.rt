@@ -13,14 +13,17 @@ use std::marker::Model;
 // How many slots there are.
 const SLOTS: u64 = 8_192;
 
+// How many of the names of a slot are looked at, the newest first.
+const MOST_IN_SLOT: usize = 4;
+
 /// Names by their numbers, in the order in which they came: contracts see the list of their texts. Each is found among
-/// the others in their order, so that no choice of names makes it slow; most are found before at the number that their
-/// slot has, or had before that. The many short texts are let go last: behind them, a large list that goes would have the
+/// the others in their order, so that no choice of names makes it slow; most are found before at one of the last numbers
+/// that their slot had. These have 2 bytes each, so that they stay near. The many short texts are let go last: behind them, a large list that goes would have the
 /// allocator join them all.
 #[derive(Drop)]
 pub struct Names {
-    slots: Vec<usize>,
-    earlier: Vec<usize>,
+    slots: Vec<u16>,
+    earlier: Vec<u16>,
     texts: Vec<String>,
     numbers: BTreeMap<String, usize>,
 }
@@ -105,7 +108,7 @@ fn slot_of(name: &str) -> usize {
 // The number of the name that took the slot of this one last.
 fn number_in_slot(names: &Names, name: &str) -> usize {
     match names.slots.get(slot_of(name)) {
-        Some(number) => *number,
+        Some(number) => *number as usize,
         None => 0,
     }
 }
@@ -113,7 +116,7 @@ fn number_in_slot(names: &Names, name: &str) -> usize {
 // The number that the slot of a name had before this one.
 fn number_before(names: &Names, number: usize) -> usize {
     match names.earlier.get(number) {
-        Some(number) => *number,
+        Some(number) => *number as usize,
         None => 0,
     }
 }
@@ -121,36 +124,35 @@ fn number_before(names: &Names, number: usize) -> usize {
 // Puts a number into the slot of its name, and the one that it had behind those of the other slots.
 fn take_slot(
     alloc: Global,
-    slots: &mut Vec<usize>,
-    earlier: &mut Vec<usize>,
+    slots: &mut Vec<u16>,
+    earlier: &mut Vec<u16>,
     name: &str,
     number: usize,
 ) -> Result<(), AllocError> {
     if slots.is_empty() {
-        *slots = vec![in alloc; 0; SLOTS as usize]?;
+        *slots = vec![in alloc; 0u16; SLOTS as usize]?;
     }
     let slot = slot_of(name);
-    if slot < slots.len() {
+    if slot < slots.len() && number <= u16::MAX as usize {
         earlier.push(slots[slot])?;
-        slots[slot] = number;
+        slots[slot] = number as u16;
     }
     Ok(())
 }
 
-// The number of a name, where it is this one, or that in its slot, or the one before that.
+// The number of a name, where it is this one, or one of the last that its slot had.
 fn near_number(names: &Names, name: &str, near: usize) -> Option<usize>
     ensures { IfSome result (λ n. slice_get names.now n ≡ Some name.now) }
 {
     if is_named(names, near, name) {
         return Some(near);
     }
-    let number = number_in_slot(names, name);
-    if is_named(names, number, name) {
-        return Some(number);
-    }
-    let earlier = number_before(names, number);
-    if is_named(names, earlier, name) {
-        return Some(earlier);
+    let mut number = number_in_slot(names, name);
+    for _turn in 0..MOST_IN_SLOT {
+        if is_named(names, number, name) {
+            return Some(number);
+        }
+        number = number_before(names, number);
     }
     None
 }

@@ -63,7 +63,7 @@ nothing_arches T end low high y h A = tt
 pub infinite_middle : (x v : Ext) → v ≡ Inf → x ≤ₑ v +ₑ v
 infinite_middle x v e = subst (λ w. x ≤ₑ w +ₑ w) (sym e) (le_inf x)
 
-line_middle : (l : Line) (y h : ℚ) → line_at l (y -ℚ h) +ℚ line_at l (y +ℚ h) ≡ line_at l y +ℚ line_at l y
+pub line_middle : (l : Line) (y h : ℚ) → line_at l (y -ℚ h) +ℚ line_at l (y +ℚ h) ≡ line_at l y +ℚ line_at l y
 line_middle l y h =
     let i = l.icept in
     let p = l.slope *ℚ y in

@@ -79,7 +79,7 @@ lead_upto end x ps some = elim (le_or_lt x (int (pos 0))) [
 ]
 
 -- ---- where the pieces stand
-line_later_stands : (z : Sizes) (end x v : ℚ) (l : Option Line) → AreLimited z end → WindowTime z end x → IsGridValue z v → OperandLineAt z l → SumLineAt z (line_later x v l)
+pub line_later_stands : (z : Sizes) (end x v : ℚ) (l : Option Line) → AreLimited z end → WindowTime z end x → IsGridValue z v → OperandLineAt z l → SumLineAt z (line_later x v l)
 line_later_stands z end x v None A X V L = tt
 line_later_stands z end x v (Some l) A X V L =
     let rise = l.slope *ℚ x in

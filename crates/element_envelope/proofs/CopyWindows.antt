@@ -1,5 +1,5 @@
 -- The window of the least of copies: of one start, and from those of two halves of the starts; and the convolution of it.
-use Rattle.std.specs.Prelude.{◌≡◌, ◌⊎◌, ◌≤◌, ℕ, drop, pos, List, [], ◌∷◌, ◌++◌, Option, None, Result, Ok, Err, IfOk, Vec}
+use Rattle.std.specs.Prelude.{◌≡◌, ◌⊎◌, ◌≤◌, ℕ, drop, pos, List, [], ◌∷◌, ◌++◌, Option, Some, None, Result, Ok, Err, IfOk, IfSome, Vec}
 use Rattle.std.proofs.Common.{arith, sym, ap, ◌∙◌, refl, subst, inl, inr, length, get_or, Global}
 use Rattle.rational.specs.Rational.{ℚ, ◌+ℚ◌, ◌-ℚ◌, ◌≤ℚ◌, ◌<ℚ◌, int, neg_ℚ}
 use Rattle.rational.specs.Ratio.{SumFits}
@@ -289,7 +289,7 @@ side_room from end f g ks O r = record {
   copied = r.right;
 }
 
-pub own_room : (from end : ℚ) (f g rest : List Piece) (p : Piece) → g ≡ p ∷ rest → WindowsFrom from end f g → CopyRoom from end (p ∷ []) f
+unfoldable pub own_room : (from end : ℚ) (f g rest : List Piece) (p : Piece) → g ≡ p ∷ rest → WindowsFrom from end f g → CopyRoom from end (p ∷ []) f
 own_room from end f g rest p e r =
     record { sizes = r.sizes; limited = r.limited; some = r.some; late = r.late; starts = ((subst (Each (WindowPiece r.sizes end)) e r.right.each).0, tt); copied = r.left }
 
@@ -340,6 +340,9 @@ turned f g from end ps C = record {
   stands = λ r. C.stands (swapped from end f g r);
   arches = λ r. C.arches (swapped from end f g r);
 }
+
+pub some_turned : (o : Option (Vec Piece Global)) (v : Vec Piece Global) (from end : ℚ) (f g : List Piece) → o ≡ Some v → IfSome o (λ w. IsConvolutionFrom g f from end w.items) → IsConvolutionFrom f g from end v.items
+some_turned o v from end f g e k = turned f g from end v.items (subst (λ z. IfSome z (λ w. IsConvolutionFrom g f from end w.items)) e k)
 
 pub ok_turned : {E : Type 0} (r : Result (Vec Piece Global) E) (from end : ℚ) (f g : List Piece) → IfOk r (λ w. IsConvolutionFrom g f from end w.items) → IfOk r (λ w. IsConvolutionFrom f g from end w.items)
 ok_turned (Ok w) from end f g k = turned f g from end w.items k

@@ -27,6 +27,8 @@ pub mod PaceSteps
 pub mod NearCopies
 pub mod OneSide
 pub mod LimitSplits
+pub mod RunningLines
+pub mod RunningWindows
 pub mod FoundPairs
 pub mod FoundEnvelopes
 pub mod OwnWindows

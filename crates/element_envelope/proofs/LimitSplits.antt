@@ -22,7 +22,7 @@ use Rattle.upp_curve.specs.affine_segment.Pieces.{RisesFrom, StartsAtZero}
 use Rattle.upp_curve.specs.affine_segment.Reading.{piece_value, read}
 use Rattle.upp_curve.proofs.affine_segment.PieceIn.{value_past, value_by, read_first, read_stop, read_go, read_one}
 use Rattle.upp_curve.proofs.affine_segment.LineValues.{line_found}
-use Rattle.min_plus.specs.Convolution.{Split}
+use Rattle.min_plus.specs.Convolution.{Split, IsConvolution}
 use Rattle.min_plus.proofs.best_splits.LineSplits.{least_at_ends}
 use Rattle.element_envelope.specs.Copies.{IsPieceOf, StartSplit, start_sum}
 use Rattle.element_envelope.specs.LimitCopies.{afters, befores_from, befores, LimitsSuffice}
@@ -32,10 +32,10 @@ use Rattle.element_envelope.proofs.ArchBends.{smaller}
 use Rattle.element_envelope.proofs.StartTurns.{line_down, line_up, one_pos, Before, After, after_more, before_more, before_start}
 
 -- ---- the lists with limits
-after_of : Piece → Piece
+unfoldable pub after_of : Piece → Piece
 after_of p = record { x = p.x; at = line_value p.line p.x; line = p.line }
 
-rises_afters : (x : ℚ) (ps : List Piece) → RisesFrom x ps → RisesFrom x (afters ps)
+pub rises_afters : (x : ℚ) (ps : List Piece) → RisesFrom x ps → RisesFrom x (afters ps)
 rises_afters x [] h = tt
 rises_afters x (p ∷ ps) h = (h.0, rises_afters p.x ps h.1)
 
@@ -43,7 +43,7 @@ pub starts_afters : (ps : List Piece) → StartsAtZero ps → StartsAtZero (afte
 starts_afters [] h = h
 starts_afters (p ∷ ps) h = (h.0, rises_afters p.x ps h.1)
 
-rises_befores : (before : Option Line) (x : ℚ) (ps : List Piece) → RisesFrom x ps → RisesFrom x (befores_from before ps)
+pub rises_befores : (before : Option Line) (x : ℚ) (ps : List Piece) → RisesFrom x ps → RisesFrom x (befores_from before ps)
 rises_befores before x [] h = tt
 rises_befores before x (p ∷ ps) h = (h.0, rises_befores p.line p.x ps h.1)
 
@@ -93,7 +93,7 @@ inside_before p ps l w v late on is =
     down : (x d : ℚ) → int (pos 0) <ℚ d → x -ℚ d <ℚ x
     down x d h = with2 x d (λ c. omega (arith, c.le, c.lt, c.same))
 
-after_value : (p : Piece) (w : ℚ) → p.x ≤ℚ w → piece_value (after_of p) w ≡ line_value p.line w
+pub after_value : (p : Piece) (w : ℚ) → p.x ≤ℚ w → piece_value (after_of p) w ≡ line_value p.line w
 unfolding after_of
 after_value p w h = elim (le_or_lt w p.x) [
   | inl k ↦ value_by (after_of p) w k ∙ ap (line_value p.line) (antisym (h, k))
@@ -128,7 +128,7 @@ afters_read p (q ∷ qs) w v r late is = elim (le_or_lt q.x w) [
     before : (y w n room : ℚ) → room +ℚ room ≡ n -ℚ w → int (pos 0) <ℚ room → y ≤ℚ w +ℚ room → y <ℚ n
     before y w n room e p q = with4 y w n room (λ c. omega (arith, c.le, c.lt, c.same))
 
-before_of : Option Line → Piece → Piece
+unfoldable pub before_of : Option Line → Piece → Piece
 before_of before p = record { x = p.x; at = line_value before p.x; line = p.line }
 
 befores_read : (p : Piece) (ps : List Piece) (b : Option Line) (w v : ℚ) → RisesFrom p.x ps → p.x <ℚ w → read (befores_from b (p ∷ ps)) w ≡ Fin v → IsBefore (p ∷ ps) p.x w v
@@ -406,18 +406,26 @@ any_below f g t a b s hf hg x y = by (line_in f s.first a hf s.first_nonneg x) (
         subst (IsLimitBelow f g t) (ap₂ (λ (v w : ℚ). v +ℚ w) (fin_same (sym F.value ∙ x)) (fin_same (sym G.value ∙ y))) (lines_below f g t s.first s.second F G s.whole)
 
 -- ---- the law
-pub limits_suffice : LimitsSuffice
+-- a sum of which one time is a start, by values or by the limits beside both times
+abbrev pub LimitStart : (f g : List Piece) → ℚ → Type 0
+LimitStart f g t =
+    (StartSplit f t ⊎ StartSplit g t) ⊎ ((StartSplit (befores f) t ⊎ StartSplit (afters g) t) ⊎ (StartSplit (afters f) t ⊎ StartSplit (befores g) t))
+
+abbrev pub limit_sum : (f g : List Piece) (t : ℚ) → LimitStart f g t → Ext
+limit_sum f g t =
+    either (either (start_sum f g t) (start_sum g f t))
+    (either (either (start_sum (befores f) (afters g) t) (start_sum (afters g) (befores f) t)) (either (start_sum (afters f) (befores g) t) (start_sum (befores g) (afters f) t)))
+
+-- their infimum is the convolution
+pub limits_convolve : (f g : List Piece) (t : ℚ) (v : Ext) → StartsAtZero f → StartsAtZero g → IsInfimum (limit_sum f g t) v → IsConvolution (read f) (read g) t v
 unfolding turned_split
-limits_suffice f g t a b c d e h hf hg low P Q R =
+limits_convolve f g t v hf hg U =
     let F = λ (s : Split t). read f s.first +ₑ read g s.second in
     record {
       below = λ s. at_most_finite v (F s) (λ q is. under s q is);
       near = λ y l. let (i, k) = U.near y l in close i y k;
     }
   where
-    v : Ext
-    v = min_ext (min_ext a b) (min_ext (min_ext c d) (min_ext e h))
-
     one : StartSplit f t ⊎ StartSplit g t → Ext
     one = either (start_sum f g t) (start_sum g f t)
 
@@ -426,14 +434,6 @@ limits_suffice f g t a b c d e h hf hg low P Q R =
 
     three : StartSplit (afters f) t ⊎ StartSplit (befores g) t → Ext
     three = either (start_sum (afters f) (befores g) t) (start_sum (befores g) (afters f) t)
-
-    U : IsInfimum (either one (either two three)) v
-    U =
-        infimum_union one (either two three) (min_ext a b) (min_ext (min_ext c d) (min_ext e h))
-        (infimum_union (start_sum f g t) (start_sum g f t) a b P.first P.second)
-        (infimum_union two three (min_ext c d) (min_ext e h)
-        (infimum_union (start_sum (befores f) (afters g) t) (start_sum (afters g) (befores f) t) c d Q.first Q.second)
-        (infimum_union (start_sum (afters f) (befores g) t) (start_sum (befores g) (afters f) t) e h R.first R.second))
 
     under_one : (q : ℚ) → IsLimitBelow f g t q → v ≤ₑ Fin q
     under_one q (inl (i, k)) = le_ext_trans v (one i) (Fin q) (U.below (inl i)) k
@@ -470,3 +470,21 @@ limits_suffice f g t a b c d e h hf hg low P Q R =
     close (inl i) y l = close_one i y l
     close (inr (inl i)) y l = near_limits f g t y hf hg i l
     close (inr (inr i)) y l = close_three i y l
+
+pub limits_suffice : LimitsSuffice
+limits_suffice f g t a b c d e h hf hg low P Q R =
+    limits_convolve f g t (min_ext (min_ext a b) (min_ext (min_ext c d) (min_ext e h))) hf hg
+    (infimum_union one (either two three) (min_ext a b) (min_ext (min_ext c d) (min_ext e h))
+    (infimum_union (start_sum f g t) (start_sum g f t) a b P.first P.second)
+    (infimum_union two three (min_ext c d) (min_ext e h)
+    (infimum_union (start_sum (befores f) (afters g) t) (start_sum (afters g) (befores f) t) c d Q.first Q.second)
+    (infimum_union (start_sum (afters f) (befores g) t) (start_sum (befores g) (afters f) t) e h R.first R.second)))
+  where
+    one : StartSplit f t ⊎ StartSplit g t → Ext
+    one = either (start_sum f g t) (start_sum g f t)
+
+    two : StartSplit (befores f) t ⊎ StartSplit (afters g) t → Ext
+    two = either (start_sum (befores f) (afters g) t) (start_sum (afters g) (befores f) t)
+
+    three : StartSplit (afters f) t ⊎ StartSplit (befores g) t → Ext
+    three = either (start_sum (afters f) (befores g) t) (start_sum (befores g) (afters f) t)

@@ -24,7 +24,7 @@ use Rattle.element_envelope.proofs.Members.{Matched, matched_out}
 
 -- ---- what is read of pieces
 -- none starts before the first
-from_first : (p : Piece) (ps : List Piece) (q : Piece) → RisesFrom p.x ps → IsPieceOf q (p ∷ ps) → p.x ≤ℚ q.x
+pub from_first : (p : Piece) (ps : List Piece) (q : Piece) → RisesFrom p.x ps → IsPieceOf q (p ∷ ps) → p.x ≤ℚ q.x
 from_first p ps q r (inl e) = subst (λ z. p.x ≤ℚ z.x) (sym e) (le_refl p.x)
 from_first p [] q r (inr k) = absurd k
 from_first p (s ∷ ps) q r (inr k) = le_trans (le_of_lt r.0) (from_first s ps q r.1 k)

@@ -17,4 +17,5 @@ pub mod LimitCopies
 pub mod NearStarts
 pub mod Pace
 pub mod OneSide
+pub mod RunningLines
 pub mod Found

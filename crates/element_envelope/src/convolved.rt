@@ -1,12 +1,11 @@
 //! The convolution of two windows.
 
-ghost use Rattle.std.specs.Prelude.{IfOk};
+ghost use Rattle.std.specs.Prelude.{IfOk, IfSome};
 ghost use Rattle.element_envelope.specs.ConvolutionWindows.{OperandWindows, IsConvolutionWindow};
 ghost use Rattle.element_envelope.specs.ConvolutionWindows.{WindowsFrom, IsConvolutionFrom};
 ghost use Rattle.element_envelope.specs.Copies.{LowAtStarts};
 ghost use Rattle.element_envelope.specs.CopyWindows.{CopyRoom, IsCopyWindow};
 ghost use Rattle.element_envelope.specs.Turnings.{AreCopies};
-ghost use Rattle.element_envelope.specs.OneSide.{IsOneSided};
 
 use crate::copies::{copy_window, least_copies};
 use crate::cutting::cut;
@@ -14,6 +13,7 @@ use crate::least::{MadePieces, envelope};
 use crate::near::{lowest, near_starts};
 use crate::one_side::starts_of_one_side;
 use crate::pace::pace_of;
+use crate::running::{only_line, running_lines};
 use crate::starts::{are_low_at_starts, turning_starts};
 use curve_call::window_lower;
 use fraction128::Frac;
@@ -61,42 +61,25 @@ fn by_starts(alloc: Global, f: &[Piece], g: &[Piece], from: Frac, end: Frac) -> 
     window_lower(alloc, &left, &right, end)
 }
 
-// By the copies of g at some starts of f, and that of f at the first start of g.
+// By the copies of g at those starts of f that count, and that of f at the first start of g; none where that may not be enough.
 fn by_one_side(
     alloc: Global,
-    starts: &[Piece],
     f: &[Piece],
     g: &[Piece],
     from: Frac,
     end: Frac,
-) -> MadePieces
+) -> Result<Option<Vec<Piece>>, AllocError>
     requires windows { WindowsFrom from end f.now g.now }
     requires left { LowAtStarts f.now }
     requires right { LowAtStarts g.now }
-    requires starts { IsOneSided f.now g.now starts.now }
-    ensures { IfOk result (λ v. IsConvolutionFrom f.now g.now from end v.items) }
+    ensures { IfOk result (λ made. IfSome made (λ v. IsConvolutionFrom f.now g.now from end v.items)) }
 {
-    let copies = near_copies(alloc, starts, g, from, end)?;
+    let Some(starts) = starts_of_one_side(alloc, f, g)? else {
+        return Ok(None);
+    };
+    let copies = near_copies(alloc, &starts, g, from, end)?;
     let own = copy_window(alloc, &g[0], f, from, end)?;
-    window_lower(alloc, &copies, &own, end)
-}
-
-// By the copies of f at some starts of g, and that of g at the first start of f.
-fn by_other_side(
-    alloc: Global,
-    starts: &[Piece],
-    f: &[Piece],
-    g: &[Piece],
-    from: Frac,
-    end: Frac,
-) -> MadePieces
-    requires windows { WindowsFrom from end f.now g.now }
-    requires left { LowAtStarts f.now }
-    requires right { LowAtStarts g.now }
-    requires starts { IsOneSided g.now f.now starts.now }
-    ensures { IfOk result (λ v. IsConvolutionFrom f.now g.now from end v.items) }
-{
-    by_one_side(alloc, starts, g, f, from, end)
+    Ok(Some(window_lower(alloc, &copies, &own, end)?))
 }
 
 // By copies: at the starts of one of both alone, where that is enough.
@@ -106,11 +89,11 @@ fn by_copies(alloc: Global, f: &[Piece], g: &[Piece], from: Frac, end: Frac) -> 
     requires right { LowAtStarts g.now }
     ensures { IfOk result (λ v. IsConvolutionFrom f.now g.now from end v.items) }
 {
-    if let Some(starts) = starts_of_one_side(alloc, f, g)? {
-        return by_one_side(alloc, &starts, f, g, from, end);
+    if let Some(made) = by_one_side(alloc, f, g, from, end)? {
+        return Ok(made);
     }
-    if let Some(starts) = starts_of_one_side(alloc, g, f)? {
-        return by_other_side(alloc, &starts, f, g, from, end);
+    if let Some(made) = by_one_side(alloc, g, f, from, end)? {
+        return Ok(made);
     }
     by_starts(alloc, f, g, from, end)
 }
@@ -138,11 +121,30 @@ fn by_pairs(alloc: Global, f: &[Piece], g: &[Piece], from: Frac, end: Frac) -> M
     envelope(alloc, &xs, &ys, end)
 }
 
+// Where g is one line: by the lowest of that at the starts of f, and the copy of f at its start.
+fn by_line(
+    alloc: Global,
+    f: &[Piece],
+    g: &[Piece],
+    from: Frac,
+    end: Frac,
+) -> Result<Option<Vec<Piece>>, AllocError>
+    requires { WindowsFrom from end f.now g.now }
+    ensures { IfOk result (λ made. IfSome made (λ v. IsConvolutionFrom f.now g.now from end v.items)) }
+{
+    let Some(line) = only_line(g) else {
+        return Ok(None);
+    };
+    let lines = running_lines(alloc, &line, f)?;
+    let own = copy_window(alloc, &g[0], f, from, end)?;
+    Ok(Some(window_lower(alloc, &lines, &own, end)?))
+}
+
 /// The convolution of two windows, at each time from `from` on and before `end`, as pieces. Are both nowhere above the
 /// limits beside a start, then it is made from the copies of each at the starts of the other at which that does not bend
 /// downwards, and of these the pieces that are over before `from` are left out; at those of one of both alone, where the
 /// other never falls and gains no more than the first one's lines rise that rise. Else it is made from all pairs of their
-/// elements. Only a lack of memory is an error.
+/// elements. Is one of both a line from its start on, it is made in one pass. Only a lack of memory is an error.
 pub fn window_convolution_from(
     alloc: Global,
     f: &[Piece],
@@ -153,6 +155,12 @@ pub fn window_convolution_from(
     requires { WindowsFrom from end f.now g.now }
     ensures { IfOk result (λ v. IsConvolutionFrom f.now g.now from end v.items) }
 {
+    if let Some(made) = by_line(alloc, f, g, from, end)? {
+        return Ok(made);
+    }
+    if let Some(made) = by_line(alloc, g, f, from, end)? {
+        return Ok(made);
+    }
     if !are_low_at_starts(f) {
         return by_pairs(alloc, f, g, from, end);
     }

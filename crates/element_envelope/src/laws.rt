@@ -7,6 +7,7 @@ ghost use Rattle.element_envelope.specs.Copies.{StartsSuffice, CopyRules};
 ghost use Rattle.element_envelope.specs.LimitCopies.{LimitsSuffice};
 ghost use Rattle.element_envelope.specs.Turnings.{TurnsSuffice};
 ghost use Rattle.element_envelope.specs.OneSide.{OneSideSuffices};
+ghost use Rattle.element_envelope.specs.RunningLines.{RunningSuffices};
 ghost use Rattle.element_envelope.specs.RoomLaws.{ElementsStand, JoinedStand};
 ghost use Rattle.element_envelope.specs.Found.{PairsExist, EnvelopesExist};
 ghost use Rattle.element_envelope.specs.Found.{ConvolutionsFromExist, ConvolutionWindowsExist};
@@ -59,6 +60,12 @@ pub fn turns_suffice()
 /// other count that no level line follows, and the one copy at its own first start.
 pub fn one_side_suffices()
     ensures { OneSideSuffices }
+{}
+
+/// Where one is a line from 0 on, which starts on it or below it, the convolution is the lesser of the other's copy at its start, and
+/// of the line itself, moved to the lowest, by then, of the other's values at starts and of the limits beside them.
+pub fn running_lines_suffice()
+    ensures { RunningSuffices }
 {}
 
 /// Of any two windows, with spikes and infinite parts, the convolution is the least of the copies of each at the starts of

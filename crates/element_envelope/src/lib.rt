@@ -11,6 +11,7 @@ mod near;
 mod one_side;
 mod pace;
 mod pair;
+mod running;
 mod starts;
 mod window;
 

@@ -14,8 +14,8 @@ use rational::Extended;
 use std::alloc::{AllocError, Global};
 use upp_curve::affine_segment::{Line, Piece, value};
 
-// Whether a value is at most that of a line at x; no line is infinity.
-fn is_below(v: Ext, line: &Option<Line>, x: Frac) -> bool
+/// Whether a value is at most that of a line at x; no line is infinity.
+pub(crate) fn is_below(v: Ext, line: &Option<Line>, x: Frac) -> bool
     requires { LineFitsAt x line.now }
     ensures { IsTrue result → v ≤ₑ line_value line.now x }
 {

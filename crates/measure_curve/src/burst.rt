@@ -1,10 +1,12 @@
 //! The least bucket of a rate above a curve.
 
-ghost use Rattle.std.specs.Prelude.{◌≡◌, ◌+◌, ◌≤◌, Err, IfOk, OnOk};
+ghost use Rattle.std.specs.Prelude.{◌≡◌, IfOk};
 ghost use Rattle.rational.specs.Rational.{◌≤ℚ◌};
 ghost use Rattle.rational.specs.declared.Extended.TheVariants as extended;
 ghost use Rattle.min_plus.specs.Functions.{zero_q, IsFinite};
 ghost use Rattle.min_plus.specs.Deviations.{IsVerticalDeviation};
+ghost use Rattle.outcomes.specs.Spending.{SpendsSteps};
+ghost use Rattle.outcomes.specs.Stages.{IsEqual};
 ghost use Rattle.upp_curve.specs.Curve.{value_at};
 ghost use Rattle.upp_curve.specs.Kinds.{bucket};
 ghost use Rattle.measure_curve.specs.Bursts.{IsBounded, IsLeastBurst, KeepsBurstLimits};
@@ -41,14 +43,11 @@ pub fn least_burst<L: Ledger>(
 ) -> Result<Frac, OpFault>
     requires bounded { IsBounded (value_at curve.now) }
     requires rate { zero_q ≤ℚ rate }
-    ensures from { steps.old ≤ steps.new }
-    ensures most { steps.new ≤ steps.old + 1 }
-    ensures count { OnOk result (steps.new ≡ steps.old + 1) }
+    ensures spends { SpendsSteps (IsEqual 1) OpFault.NoMemory (IsEqual 0) steps.old steps.new result }
     ensures value { IfOk result (λ b.
         IsVerticalDeviation (value_at curve.now) (value_at (bucket zero_q rate)) (extended.Fin b)) }
     ensures least { IfOk result (IsLeastBurst (value_at curve.now) rate) }
     ensures limits { KeepsBurstLimits curve.now rate result }
-    ensures memory { result ≡ Err OpFault.NoMemory → steps.new ≡ steps.old }
 {
     let line = line_of(curve.allocator(), rate)?;
     match vertical(curve, &line, steps)? {

@@ -1,7 +1,7 @@
 //! Cells and their kinds.
 
 /// What a cell says. First those at a server, in the order in which they are taken there, then those of a whole path.
-#[derive(Debug, Clone, Copy, PartialEq, Eq, PartialOrd, Ord)]
+#[derive(Debug, Clone, Copy, PartialEq, Eq)]
 pub enum Kind {
     /// With what curve a flow comes to a hop.
     In,
@@ -76,7 +76,7 @@ pub enum Scope {
 
 /// A cell. `a` and `b` are, by what its kind has cells for: a flow's number and the place of a hop on its path, from 0;
 /// a server's number and a queue there; a flow's number and 0.
-#[derive(Debug, Clone, Copy, PartialEq, Eq, PartialOrd, Ord)]
+#[derive(Debug, Clone, Copy, PartialEq, Eq)]
 pub struct Cell {
     pub kind: Kind,
     pub a: u32,

@@ -1,9 +1,9 @@
 -- What edits of one flow give.
-use Rattle.std.proofs.Common.{◌≡◌, ℕ, ◌<◌, ◌≤◌, List, length, ◌^◌, cond, Option, Some, None, Bool, true, false, refl, sym, ap, ◌∙◌, subst, inl, inr}
+use Rattle.std.proofs.Common.{◌≡◌, ℕ, ◌≤◌, List, length, ◌^◌, cond, Option, Some, None, Bool, true, false, refl, sym, ap, ◌∙◌, subst, inl, inr}
 use Rattle.std.specs.Prelude.{Ok, Err, pos, negsuc, ℤ, nat_le, slice_get, slice_index, is_some, IsSome, ◌&&◌, not}
 use Rattle.std.proofs.lemmas.Bool.{cases_lt, and_parts, and_from, not_from_false, leb-true}
 use Rattle.std.proofs.lemmas.List.{get_or_past, length-map}
-use Rattle.std.proofs.lemmas.Option.{slice_get-get_or, get_or_from_slice_get, slice_get_within}
+use Rattle.std.proofs.lemmas.Option.{slice_get-get_or, get_or_from_slice_get}
 use Rattle.rational.specs.Rational.{ℚ, int, ◌≤ℚ◌, ◌<ℚ◌}
 use Rattle.rational.proofs.Integers.{nat_nonneg}
 use Rattle.min_plus.specs.Functions.{zero_q}
@@ -40,9 +40,6 @@ place_of net i f e =
 pub live_at : (net : Net) (i : ℕ) (f : NetFlow) → slice_get net.flows i ≡ Some (Some f) → IsSome (flow_at net i)
 live_at net i f e =
     let at : flow_at net i ≡ Some f = get_or_from_slice_get net.flows i (Some f) None e in ap (λ (o : Option NetFlow). is_some o) at
-
-pub inside_of : (net : Net) (i : ℕ) (f : NetFlow) → slice_get net.flows i ≡ Some (Some f) → i < length net.flows
-inside_of net i f e = slice_get_within net.flows i (Some f) e
 
 pub packet_at : (net : Net) (i : ℕ) (f : NetFlow) → slice_get net.flows i ≡ Some (Some f) → packet net i ≡ f.packet
 packet_at net i f e = ap packet_of (get_or_from_slice_get net.flows i (Some f) None e)

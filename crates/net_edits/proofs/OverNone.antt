@@ -14,15 +14,15 @@ use Rattle.net_edits.specs.Lookups.{server_number, flow_number, server_numbers, 
 use Rattle.net_edits.specs.Values.{whole_that, is_length, is_name, entry_queues, may_be_path, quanta_fit}
 use Rattle.net_edits.specs.Changed.{at_server, with_link, with_quantum, at_flow, with_arrival, with_packet, with_path, dropped, with_more}
 use Rattle.net_edits.specs.Edited.{MadeCurve, Edited, is_negative, fitting, new_flow, only_if_free, only_if_left, link_edited, quantum_edited, bucket_edited, packet_edited, route_edited, drop_edited, add_edited}
-use Rattle.net_edits.specs.Replies.{IsMadeWithin, MakesNone, IsOverNone}
+use Rattle.net_edits.specs.Replies.{MadeCurveFits, MakesNone, IsOverNone}
 
 -- ---- an edit whose curve is over none
-pub within_none : (r : Or Edited) (edited : Edited) → r ≡ Ok edited → IsMadeWithin edited.made → IsOverNone r
+pub within_none : (r : Or Edited) (edited : Edited) → r ≡ Ok edited → MadeCurveFits edited.made → IsOverNone r
 within_none r edited e h = subst IsOverNone (sym e) h
 
 -- nothing was made for a curve, for want of memory
 pub memory_within : (made : Option MadeCurve) (fault : EditFault) → MakesNone made fault → fault ≡ NoMemory
-    → IsMadeWithin made
+    → MadeCurveFits made
 memory_within made fault h e = subst (MakesNone made) e h
 
 -- ---- steps
@@ -43,7 +43,7 @@ free_none : (test : Bool) (name : List ℕ) (r : Or Edited) → IsOverNone r →
 free_none true name r h = h
 free_none false name r h = tt
 
-left_none : (test : Bool) (edited : Edited) → IsMadeWithin edited.made → IsOverNone (only_if_left test edited)
+left_none : (test : Bool) (edited : Edited) → MadeCurveFits edited.made → IsOverNone (only_if_left test edited)
 left_none true edited h = h
 left_none false edited h = tt
 

@@ -21,26 +21,39 @@ same_parts v w ss ts fs gs p q r =
     ∙ ap (λ (x : List NetServer). of_parts w x fs) q
     ∙ ap (λ (x : List (Option NetFlow)). of_parts w ts x) r
 
-pub server_replaced : (net copy : Net) (version : ℕ) (ss : List Server) (fs : List (Option Flow)) (i : ℕ) (server : Server) → copy ≡ net
-    → version ≡ net.version → servers_of ss ≡ copy.servers → flows_of fs ≡ copy.flows
+server_replaced : (net : Net) (version : ℕ) (ss : List Server) (fs : List (Option Flow)) (i : ℕ) (server : Server)
+    → version ≡ net.version → servers_of ss ≡ net.servers → flows_of fs ≡ net.flows
     → net_of version (slice_set ss i server) fs ≡ put_server net i (server_of server)
-server_replaced net copy version ss fs i server is own servers flows =
+server_replaced net version ss fs i server own servers flows =
     same_parts version net.version (servers_of (slice_set ss i server)) (slice_set net.servers i (server_of server)) (flows_of fs) net.flows
     own
     (map-set server_of ss i server
-    ∙ ap (λ (xs : List NetServer). slice_set xs i (server_of server)) (servers ∙ ap (λ (n : Net). n.servers) is))
-    (flows ∙ ap (λ (n : Net). n.flows) is)
+    ∙ ap (λ (xs : List NetServer). slice_set xs i (server_of server)) servers)
+    flows
 
-pub flow_replaced : (net copy : Net) (version : ℕ) (ss : List Server) (fs : List (Option Flow)) (i : ℕ) (place : Option Flow) → copy ≡ net
-    → version ≡ net.version → servers_of ss ≡ copy.servers → flows_of fs ≡ copy.flows
+flow_replaced : (net : Net) (version : ℕ) (ss : List Server) (fs : List (Option Flow)) (i : ℕ) (place : Option Flow)
+    → version ≡ net.version → servers_of ss ≡ net.servers → flows_of fs ≡ net.flows
     → net_of version ss (slice_set fs i place) ≡ put_flow net i (option_map flow_of place)
-flow_replaced net copy version ss fs i place is own servers flows =
+flow_replaced net version ss fs i place own servers flows =
     same_parts version net.version (servers_of ss) net.servers (flows_of (slice_set fs i place))
     (slice_set net.flows i (option_map flow_of place))
     own
-    (servers ∙ ap (λ (n : Net). n.servers) is)
+    servers
     (map-set (option_map flow_of) fs i place
-    ∙ ap (λ (xs : List (Option NetFlow)). slice_set xs i (option_map flow_of place)) (flows ∙ ap (λ (n : Net). n.flows) is))
+    ∙ ap (λ (xs : List (Option NetFlow)). slice_set xs i (option_map flow_of place)) flows)
+
+-- with lists that were changed in place
+pub server_set : (net : Net) (version : ℕ) (ss more : List Server) (fs : List (Option Flow)) (i : ℕ) (server : Server)
+    → more ≡ slice_set ss i server → version ≡ net.version → servers_of ss ≡ net.servers → flows_of fs ≡ net.flows
+    → net_of version more fs ≡ put_server net i (server_of server)
+server_set net version ss more fs i server is own servers flows =
+    ap (λ (xs : List Server). net_of version xs fs) is ∙ server_replaced net version ss fs i server own servers flows
+
+pub flow_set : (net : Net) (version : ℕ) (ss : List Server) (fs more : List (Option Flow)) (i : ℕ) (flow : Option Flow)
+    → more ≡ slice_set fs i flow → version ≡ net.version → servers_of ss ≡ net.servers → flows_of fs ≡ net.flows
+    → net_of version ss more ≡ put_flow net i (option_map flow_of flow)
+flow_set net version ss fs more i flow is own servers flows =
+    ap (λ (xs : List (Option Flow)). net_of version ss xs) is ∙ flow_replaced net version ss fs i flow own servers flows
 
 -- ---- ends of paths
 no_lanes : (net : Net) (path : List ℕ) → are_queues net path [] ≡ true

@@ -1,6 +1,6 @@
 -- What edits of one server give.
-use Rattle.std.proofs.Common.{◌≡◌, ℕ, List, Option, Some, None, Bool, true, false, refl, sym, ap, ◌∙◌}
-use Rattle.std.specs.Prelude.{Result, Ok, Err, slice_get, ℤ, not, ◌&&◌}
+use Rattle.std.proofs.Common.{◌≡◌, ℕ, List, Option, Some, None, Bool, true, false, refl, ap, ◌∙◌}
+use Rattle.std.specs.Prelude.{Ok, Err, slice_get, ℤ, not, ◌&&◌}
 use Rattle.std.proofs.lemmas.Bool.{and_from, not_from_false}
 use Rattle.rational.specs.Rational.{ℚ, ◌≤ℚ◌, ◌<ℚ◌}
 use Rattle.min_plus.specs.Functions.{zero_q}
@@ -9,16 +9,15 @@ use Rattle.net_model.specs.Accepted.{IsLength, IsServer, IsAccepted}
 use Rattle.net_model.specs.Quanta.{is_quantum_of}
 use Rattle.net_model.proofs.Quanta.{as_many}
 use Rattle.net_cells.specs.Numbered.{discipline, discipline_of}
-use Rattle.net_edits.specs.declared.fault.EditFault.{EditFault}
-use Rattle.net_edits.specs.declared.fault.EditFault.TheVariants.{UnknownName, NameTaken, BadValue, LimitReached, Cycle, TooMany, TooWide, NothingToUndo, NoMemory}
+use Rattle.net_edits.specs.declared.change.Change.{Change}
 use Rattle.net_edits.specs.Refusals.{Or, bad_value, and_then, only_if}
 use Rattle.net_edits.specs.Lookups.{server_number}
 use Rattle.net_edits.specs.Values.{whole_that, is_length, quanta_fit}
-use Rattle.net_edits.specs.Changed.{put_server, server_changed, at_server, with_rate, with_latency, with_link, with_quantum}
+use Rattle.net_edits.specs.Changed.{changed, put_server, server_changed, at_server, with_rate, with_latency, with_link, with_quantum}
 use Rattle.net_edits.specs.Edited.{MadeCurve, Edited, fitting, is_positive, is_negative, is_latency, has_latency, rate_made, latency_made, rate_edited, latency_edited, quantum_edited}
-use Rattle.net_edits.specs.Replies.{Refuses, Tells, IsReply}
+use Rattle.net_edits.specs.Replies.{IsChangeReply}
 use Rattle.net_edits.proofs.Signs.{positive_of, nonneg_of}
-use Rattle.net_edits.proofs.Steps.{then_ok, passed}
+use Rattle.net_edits.proofs.Steps.{then_ok, passed, stopped, change_reply}
 use Rattle.net_edits.proofs.Fitting.{accepted_fits}
 use Rattle.net_edits.proofs.Standing.{same_discipline, quanta_stand}
 use Rattle.net_edits.proofs.Making.{rate_server, latency_server, link_server, quantum_server}
@@ -96,38 +95,11 @@ quantum_edit net name s queue bits q b old found at is_queue is_bits =
     ∙ ap (λ (r : Or ℕ). and_then r (λ n. and_then (whole_that is_length bits) (λ m. fitting (put_server net s (with_quantum n m old)) None))) is_queue
     ∙ ap (λ (r : Or ℕ). and_then r (λ m. fitting (put_server net s (with_quantum q m old)) None)) is_bits
 
--- the network, or a bad value where quanta do not fit
-passes_fault : (after : Net) (r : Or Edited) (fault : EditFault) → Refuses {X = Net} (Ok after) fault → IsReply r (Err fault)
-passes_fault after r (UnknownName name) h = absurd (let bad : ⊥ = cc in bad)
-passes_fault after r (NameTaken name) h = absurd (let bad : ⊥ = cc in bad)
-passes_fault after r BadValue h = absurd (let bad : ⊥ = cc in bad)
-passes_fault after r LimitReached h = absurd (let bad : ⊥ = cc in bad)
-passes_fault after r (Cycle walk) h = absurd h
-passes_fault after r (TooMany cell) h = absurd h
-passes_fault after r (TooWide cell) h = absurd h
-passes_fault after r NothingToUndo h = absurd h
-passes_fault after r NoMemory h = tt
+-- a bad value where quanta do not fit, else what is put into the network
+pub unfit_reply : (after : Net) (r : Or Edited) → r ≡ fitting after None → quanta_fit after ≡ false → r ≡ Err bad_value
+unfit_reply after r e unfit = e ∙ stopped (quanta_fit after) _ unfit
 
-stops_fault : (r : Or Edited) (fault : EditFault) → r ≡ Err bad_value → Refuses {X = Net} (Err bad_value) fault → IsReply r (Err fault)
-stops_fault r (UnknownName name) e h = absurd (let bad : ⊥ = cc in bad)
-stops_fault r (NameTaken name) e h = absurd (let bad : ⊥ = cc in bad)
-stops_fault r BadValue e h = e
-stops_fault r LimitReached e h = absurd (let bad : ⊥ = cc in bad)
-stops_fault r (Cycle walk) e h = absurd h
-stops_fault r (TooMany cell) e h = absurd h
-stops_fault r (TooWide cell) e h = absurd h
-stops_fault r NothingToUndo e h = absurd h
-stops_fault r NoMemory e h = tt
-
-by_test : (test : Bool) (after : Net) (r : Or Edited) (x : Result Net EditFault)
-    → r ≡ only_if test (Ok (record { net = after; made = None })) → Tells (only_if test (Ok after)) x → IsReply r x
-by_test true after r (Ok n) e h =
-    let same : after ≡ n = cc in
-    record { edited = record { net = after; made = None }; is = e; net = sym same; within = tt }
-by_test true after r (Err fault) e h = passes_fault after r fault h
-by_test false after r (Ok n) e h = absurd (let bad : ⊥ = cc in bad)
-by_test false after r (Err fault) e h = stops_fault r fault e h
-
-pub fitting_reply : (after : Net) (r : Or Edited) (x : Result Net EditFault) → r ≡ fitting after None
-    → Tells (only_if (quanta_fit after) (Ok after)) x → IsReply r x
-fitting_reply after r x e h = by_test (quanta_fit after) after r x e h
+pub fitting_reply : (net : Net) (change : Change) (r : Or Edited) → r ≡ fitting (changed change net) None
+    → quanta_fit (changed change net) ≡ true → IsAccepted (changed change net) → IsChangeReply net r (Ok change)
+fitting_reply net change r e fits stands =
+    change_reply r (record { net = changed change net; made = None }) net change (e ∙ passed (quanta_fit (changed change net)) _ fits) refl tt stands

@@ -1,5 +1,6 @@
 -- Servers, flows and networks with one thing changed. Own choice.
 use Rattle.std.specs.Prelude.{ℕ, List, [], ◌∷◌, ◌++◌, Option, Some, None, slice_get, slice_set}
+use Rattle.std.specs.Option.{option_map}
 use Rattle.rational.specs.Rational.{ℚ}
 use Rattle.upp_curve.specs.Curve.{SpecCurve}
 use Rattle.upp_curve.specs.Kinds.{rate_latency, gate}
@@ -7,6 +8,9 @@ use Rattle.net_model.specs.declared.server.ServiceKind.{ServiceKind}
 use Rattle.net_model.specs.declared.server.ServiceKind.TheVariants.{Latency, Gate, Listed}
 use Rattle.net_model.specs.Networks.{Net, NetServer, NetFlow}
 use Rattle.net_model.specs.Quanta.{set_quantum}
+use Rattle.net_model.specs.Views.{server_of, flow_of}
+use Rattle.net_edits.specs.declared.change.Change.{Change}
+use Rattle.net_edits.specs.declared.change.Change.TheVariants.{Server, Flow, More}
 
 -- ---- one server of a network
 abbrev pub put_server : Net → ℕ → NetServer → Net
@@ -66,3 +70,15 @@ dropped flow = None
 -- one flow more, with the next number
 abbrev pub with_more : NetFlow → Net → Net
 with_more flow net = record net { flows = net.flows ++ Some flow ∷ [] }
+
+-- ---- a network with what an edit puts into it
+abbrev pub changed : Change → Net → Net
+changed (Server s server) net = put_server net s (server_of server)
+changed (Flow i place) net = put_flow net i (option_map flow_of place)
+changed (More flow) net = with_more (flow_of flow) net
+
+-- it is one flow more
+abbrev pub IsMore : Change → Type 0
+IsMore (Server s server) = ⊥
+IsMore (Flow i place) = ⊥
+IsMore (More flow) = Unit {0}

@@ -4,10 +4,13 @@ use Rattle.upp_limits.specs.declared.own_limits.OverLimit.{OverLimit}
 use Rattle.upp_limits.specs.declared.own_limits.OverLimit.TheVariants as limit
 use Rattle.upp_limits.specs.OwnLimits.{IsOver, IsWithinOwn}
 use Rattle.net_model.specs.Networks.{Net}
+use Rattle.net_model.specs.Accepted.{IsAccepted}
 use Rattle.net_cells.specs.declared.cell.Cell.{Cell}
+use Rattle.net_edits.specs.declared.change.Change.{Change}
 use Rattle.net_edits.specs.declared.fault.EditFault.{EditFault}
 use Rattle.net_edits.specs.declared.fault.EditFault.TheVariants.{UnknownName, NameTaken, BadValue, LimitReached, Cycle, TooMany, TooWide, NothingToUndo, NoMemory}
 use Rattle.net_edits.specs.Refusals.{unknown_name, name_taken, bad_value, no_number_left, Or}
+use Rattle.net_edits.specs.Changed.{changed}
 use Rattle.net_edits.specs.Edited.{MadeCurve, Edited}
 
 -- ---- refusals
@@ -29,14 +32,15 @@ Tells r (Ok x) = r ≡ Ok x
 Tells r (Err fault) = Refuses r fault
 
 -- ---- curves that are made
--- the curve that was made is over no limit, or over this one, and the cell is the one that it counts as
-abbrev pub IsMadeWithin : Option MadeCurve → Type 0
-IsMadeWithin None = Unit {0}
-IsMadeWithin (Some made) = IsWithinOwn made.curve
+-- the curve that was made is over no limit, where one was made
+abbrev pub MadeCurveFits : Option MadeCurve → Type 0
+MadeCurveFits None = Unit {0}
+MadeCurveFits (Some made) = IsWithinOwn made.curve
 
-abbrev pub IsMadeOver : Option MadeCurve → Cell → OverLimit → Type 0
-IsMadeOver None cell over = ⊥
-IsMadeOver (Some made) cell over = (cell ≡ made.cell) × IsOver made.curve over
+-- or over this one, and the cell is the one that it counts as
+abbrev pub MadeCurveIsOver : Option MadeCurve → Cell → OverLimit → Type 0
+MadeCurveIsOver None cell over = ⊥
+MadeCurveIsOver (Some made) cell over = (cell ≡ made.cell) × IsOver made.curve over
 
 -- why nothing was made for it: the limit that it is over, or want of memory, and that only where it is over none
 abbrev pub MakesNone : Option MadeCurve → EditFault → Type 0
@@ -45,14 +49,14 @@ MakesNone made (NameTaken name) = ⊥
 MakesNone made BadValue = ⊥
 MakesNone made LimitReached = ⊥
 MakesNone made (Cycle walk) = ⊥
-MakesNone made (TooMany cell) = IsMadeOver made cell limit.TooMany
-MakesNone made (TooWide cell) = IsMadeOver made cell limit.TooWide
+MakesNone made (TooMany cell) = MadeCurveIsOver made cell limit.TooMany
+MakesNone made (TooWide cell) = MadeCurveIsOver made cell limit.TooWide
 MakesNone made NothingToUndo = ⊥
-MakesNone made NoMemory = IsMadeWithin made
+MakesNone made NoMemory = MadeCurveFits made
 
 -- something for which a curve was made
 abbrev pub Makes : {X : Type 0} → Option MadeCurve → (X → Type 0) → Result X EditFault → Type 0
-Makes made P (Ok x) = P x × IsMadeWithin made
+Makes made P (Ok x) = P x × MadeCurveFits made
 Makes made P (Err fault) = MakesNone made fault
 
 -- ---- networks
@@ -61,28 +65,41 @@ pub record IsEdited (r : Or Edited) (given : Net) : Type 0 where
   pub edited : Edited
   pub is : r ≡ Ok edited
   pub net : given ≡ edited.net
-  pub within : IsMadeWithin edited.made
+  pub within : MadeCurveFits edited.made
 
 -- there would be an edited network, but its curve is over a limit
 pub record IsEditOver (r : Or Edited) (cell : Cell) (which : OverLimit) : Type 0 where
   pub edited : Edited
   pub is : r ≡ Ok edited
-  pub over : IsMadeOver edited.made cell which
+  pub over : MadeCurveIsOver edited.made cell which
 
 -- no limit is a cause to refuse the edit: where there would be an edited network, its curve is over none
 abbrev pub IsOverNone : Or Edited → Type 0
-IsOverNone (Ok edited) = IsMadeWithin edited.made
+IsOverNone (Ok edited) = MadeCurveFits edited.made
 IsOverNone (Err refusal) = Unit {0}
 
--- what an edit of one network answers: the network; the first refusal; or the limit that its curve is over
+-- what makes it answers something of it; the first refusal; or the limit that its curve is over
+abbrev pub IsReplyOf : {X : Type 0} → (X → Type 0) → Or Edited → Result X EditFault → Type 0
+IsReplyOf P r (Ok x) = P x
+IsReplyOf P r (Err (UnknownName name)) = Refuses r (UnknownName name)
+IsReplyOf P r (Err (NameTaken name)) = Refuses r (NameTaken name)
+IsReplyOf P r (Err BadValue) = Refuses r BadValue
+IsReplyOf P r (Err LimitReached) = Refuses r LimitReached
+IsReplyOf P r (Err (Cycle walk)) = ⊥
+IsReplyOf P r (Err (TooMany cell)) = IsEditOver r cell limit.TooMany
+IsReplyOf P r (Err (TooWide cell)) = IsEditOver r cell limit.TooWide
+IsReplyOf P r (Err NothingToUndo) = ⊥
+IsReplyOf P r (Err NoMemory) = Unit {0}
+
+-- what an edit of one network answers: the network, or why there is none
 abbrev pub IsReply : Or Edited → Result Net EditFault → Type 0
-IsReply r (Ok net) = IsEdited r net
-IsReply r (Err (UnknownName name)) = Refuses r (UnknownName name)
-IsReply r (Err (NameTaken name)) = Refuses r (NameTaken name)
-IsReply r (Err BadValue) = Refuses r BadValue
-IsReply r (Err LimitReached) = Refuses r LimitReached
-IsReply r (Err (Cycle walk)) = ⊥
-IsReply r (Err (TooMany cell)) = IsEditOver r cell limit.TooMany
-IsReply r (Err (TooWide cell)) = IsEditOver r cell limit.TooWide
-IsReply r (Err NothingToUndo) = ⊥
-IsReply r (Err NoMemory) = Unit {0}
+IsReply r result = IsReplyOf (IsEdited r) r result
+
+-- what is put into a network makes it the edited one, which keeps what every network keeps
+pub record IsChange (r : Or Edited) (net : Net) (change : Change) : Type 0 where
+  pub edited : IsEdited r (changed change net)
+  pub accepted : IsAccepted (changed change net)
+
+-- what an edit puts into a network, or why it puts in nothing
+abbrev pub IsChangeReply : Net → Or Edited → Result Change EditFault → Type 0
+IsChangeReply net r result = IsReplyOf (IsChange r net) r result

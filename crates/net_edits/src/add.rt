@@ -5,14 +5,14 @@ ghost use Rattle.rational.specs.Rational.{◌≤ℚ◌};
 ghost use Rattle.min_plus.specs.Functions.{zero_q};
 ghost use Rattle.net_model.specs.Views.{flow_of};
 ghost use Rattle.net_edits.specs.Edited as spec;
-ghost use Rattle.net_edits.specs.Replies.{IsReply};
+ghost use Rattle.net_edits.specs.Replies.{IsChangeReply};
 
+use crate::change::Change;
 use crate::fault::EditFault;
 use crate::flow_edits::bucket_of;
 use crate::names::{is_free, server_numbers};
 use crate::numbers::{is_negative, length_of};
 use crate::quanta::fits_along;
-use crate::replacing::with_more;
 use crate::ways::{entry_queues, may_be_path};
 use fraction128::Frac;
 use net_model::{Flow, Network, PathEntry, is_name};
@@ -50,8 +50,8 @@ pub(crate) fn add_edited(
     bits: i64,
     bucket: (Frac, Frac),
     entries: &[PathEntry],
-) -> Result<Network, EditFault>
-    ensures { IsReply (spec.add_edited net.now name.now bits bucket.0 bucket.1 entries.now) result }
+) -> Result<Change, EditFault>
+    ensures { IsChangeReply net.now (spec.add_edited net.now name.now bits bucket.0 bucket.1 entries.now) result }
 {
     let (burst, rate) = bucket;
     let path = server_numbers(alloc, net, entries)?;
@@ -79,5 +79,5 @@ pub(crate) fn add_edited(
         return Err(EditFault::LimitReached);
     }
     let flow = new_flow(alloc, name, bits, bucket, path, lanes)?;
-    Ok(with_more(net, flow)?)
+    Ok(Change::More(flow))
 }

@@ -7,12 +7,13 @@ ghost use Rattle.upp_curve.specs.Kinds as kinds;
 ghost use Rattle.net_model.specs.Views.{flow_of};
 ghost use Rattle.net_edits.specs.Changed as changed;
 ghost use Rattle.net_edits.specs.Edited as spec;
-ghost use Rattle.net_edits.specs.Replies.{Makes, IsReply, IsOverNone};
+ghost use Rattle.net_edits.specs.Replies.{Makes, IsChangeReply, IsOverNone};
 
+use crate::change::Change;
 use crate::fault::EditFault;
 use crate::names::{flow_number, flow_of_number, server_numbers};
 use crate::numbers::{is_negative, is_positive, length_of};
-use crate::replacing::{with_fitting_flow, with_flow};
+use crate::quanta::flow_fits;
 use crate::service::within_limits;
 use crate::ways::{entry_queues, may_be_path};
 use curve_library::{CurveFault, bucket, stair};
@@ -52,8 +53,8 @@ pub(crate) fn bucket_edited(
     name: &str,
     burst: Frac,
     rate: Frac,
-) -> Result<Network, EditFault>
-    ensures { IsReply (spec.bucket_edited net.now name.now burst rate) result }
+) -> Result<Change, EditFault>
+    ensures { IsChangeReply net.now (spec.bucket_edited net.now name.now burst rate) result }
 {
     let number = flow_number(alloc, net, name)?;
     if is_negative(burst) {
@@ -64,7 +65,7 @@ pub(crate) fn bucket_edited(
     }
     let arrival = bucket_of(alloc, burst, rate)?;
     let flow = with_arrival(flow_of_number(net, number), arrival)?;
-    Ok(with_flow(net, number, Some(flow))?)
+    Ok(Change::Flow(number, Some(flow)))
 }
 
 fn stair_at(
@@ -94,8 +95,8 @@ pub(crate) fn stair_edited(
     name: &str,
     period: Frac,
     jitter: Frac,
-) -> Result<Network, EditFault>
-    ensures reply { IsReply (spec.stair_edited net.now name.now period jitter) result }
+) -> Result<Change, EditFault>
+    ensures reply { IsChangeReply net.now (spec.stair_edited net.now name.now period jitter) result }
     ensures memory { result ≡ Err EditFault.NoMemory → IsOverNone (spec.stair_edited net.now name.now period jitter) }
 {
     let number = flow_number(alloc, net, name)?;
@@ -108,7 +109,7 @@ pub(crate) fn stair_edited(
     let old = flow_of_number(net, number);
     let arrival = stair_at(alloc, old.packet, period, jitter, number)?;
     let flow = with_arrival(old, arrival)?;
-    Ok(with_flow(net, number, Some(flow))?)
+    Ok(Change::Flow(number, Some(flow)))
 }
 
 fn with_packet(flow: &Flow, bits: u32) -> Result<Flow, AllocError>
@@ -125,13 +126,16 @@ pub(crate) fn packet_edited(
     net: &Network,
     name: &str,
     bits: i64,
-) -> Result<Network, EditFault>
-    ensures { IsReply (spec.packet_edited net.now name.now bits) result }
+) -> Result<Change, EditFault>
+    ensures { IsChangeReply net.now (spec.packet_edited net.now name.now bits) result }
 {
     let number = flow_number(alloc, net, name)?;
     let bits = length_of(bits)?;
     let flow = with_packet(flow_of_number(net, number), bits)?;
-    with_fitting_flow(net, number, flow)
+    if !flow_fits(net, &flow) {
+        return Err(EditFault::BadValue);
+    }
+    Ok(Change::Flow(number, Some(flow)))
 }
 
 fn with_path(flow: &Flow, path: Vec<u32>, lanes: Vec<u32>) -> Result<Flow, AllocError>
@@ -149,8 +153,8 @@ pub(crate) fn route_edited(
     net: &Network,
     name: &str,
     entries: &[PathEntry],
-) -> Result<Network, EditFault>
-    ensures { IsReply (spec.route_edited net.now name.now entries.now) result }
+) -> Result<Change, EditFault>
+    ensures { IsChangeReply net.now (spec.route_edited net.now name.now entries.now) result }
 {
     let number = flow_number(alloc, net, name)?;
     let path = server_numbers(alloc, net, entries)?;
@@ -159,14 +163,17 @@ pub(crate) fn route_edited(
         return Err(EditFault::BadValue);
     }
     let flow = with_path(flow_of_number(net, number), path, lanes)?;
-    with_fitting_flow(net, number, flow)
+    if !flow_fits(net, &flow) {
+        return Err(EditFault::BadValue);
+    }
+    Ok(Change::Flow(number, Some(flow)))
 }
 
 /// One flow less.
-pub(crate) fn drop_edited(alloc: Global, net: &Network, name: &str) -> Result<Network, EditFault>
-    ensures { IsReply (spec.drop_edited net.now name.now) result }
+pub(crate) fn drop_edited(alloc: Global, net: &Network, name: &str) -> Result<Change, EditFault>
+    ensures { IsChangeReply net.now (spec.drop_edited net.now name.now) result }
 {
     net.keeps();
     let number = flow_number(alloc, net, name)?;
-    Ok(with_flow(net, number, None)?)
+    Ok(Change::Flow(number, None))
 }

@@ -3,6 +3,7 @@
 
 mod add;
 mod all_kinds;
+mod change;
 mod fault;
 mod flow_edits;
 mod names;
@@ -13,5 +14,7 @@ mod server_edits;
 mod service;
 mod ways;
 
-pub use all_kinds::edited_network;
+pub use all_kinds::{change_of, edited_network};
+pub use change::{Change, changed, copied_flow};
 pub use fault::EditFault;
+pub use replacing::{with_flow, with_server};

@@ -4,12 +4,13 @@ ghost use Rattle.std.specs.Prelude.{◌≡◌, IfOk};
 ghost use Rattle.net_model.specs.Views.{server_of};
 ghost use Rattle.net_edits.specs.Changed as changed;
 ghost use Rattle.net_edits.specs.Edited as spec;
-ghost use Rattle.net_edits.specs.Replies.{IsReply, IsOverNone};
+ghost use Rattle.net_edits.specs.Replies.{IsChangeReply, IsOverNone};
 
+use crate::change::Change;
 use crate::fault::EditFault;
 use crate::names::{server_at, server_number};
 use crate::numbers::{is_negative, is_positive, length_of, quantum_of};
-use crate::replacing::{with_fitting_server, with_server};
+use crate::quanta::server_fits;
 use crate::service::{with_latency, with_rate};
 use fraction128::Frac;
 use net_model::{Network, Server, ServiceKind};
@@ -21,8 +22,8 @@ pub(crate) fn rate_edited(
     net: &Network,
     name: &str,
     rate: Frac,
-) -> Result<Network, EditFault>
-    ensures reply { IsReply (spec.rate_edited net.now name.now rate) result }
+) -> Result<Change, EditFault>
+    ensures reply { IsChangeReply net.now (spec.rate_edited net.now name.now rate) result }
     ensures memory { result ≡ Err EditFault.NoMemory → IsOverNone (spec.rate_edited net.now name.now rate) }
 {
     let number = server_number(alloc, net, name)?;
@@ -30,7 +31,7 @@ pub(crate) fn rate_edited(
         return Err(EditFault::BadValue);
     }
     let server = with_rate(alloc, server_at(net, number), number, rate)?;
-    Ok(with_server(net, number, server)?)
+    Ok(Change::Server(number, server))
 }
 
 fn has_latency(server: &Server) -> bool
@@ -49,8 +50,8 @@ pub(crate) fn latency_edited(
     net: &Network,
     name: &str,
     latency: Frac,
-) -> Result<Network, EditFault>
-    ensures reply { IsReply (spec.latency_edited net.now name.now latency) result }
+) -> Result<Change, EditFault>
+    ensures reply { IsChangeReply net.now (spec.latency_edited net.now name.now latency) result }
     ensures memory { result ≡ Err EditFault.NoMemory → IsOverNone (spec.latency_edited net.now name.now latency) }
 {
     let number = server_number(alloc, net, name)?;
@@ -62,7 +63,7 @@ pub(crate) fn latency_edited(
         return Err(EditFault::BadValue);
     }
     let server = with_latency(alloc, old, number, latency)?;
-    Ok(with_server(net, number, server)?)
+    Ok(Change::Server(number, server))
 }
 
 fn with_link(server: &Server, link: Frac) -> Result<Server, AllocError>
@@ -79,15 +80,15 @@ pub(crate) fn link_edited(
     net: &Network,
     name: &str,
     link: Frac,
-) -> Result<Network, EditFault>
-    ensures { IsReply (spec.link_edited net.now name.now link) result }
+) -> Result<Change, EditFault>
+    ensures { IsChangeReply net.now (spec.link_edited net.now name.now link) result }
 {
     let number = server_number(alloc, net, name)?;
     if is_negative(link) {
         return Err(EditFault::BadValue);
     }
     let server = with_link(server_at(net, number), link)?;
-    Ok(with_server(net, number, server)?)
+    Ok(Change::Server(number, server))
 }
 
 fn with_quantum(server: &Server, queue: u32, bits: u32) -> Result<Server, AllocError>
@@ -105,13 +106,16 @@ pub(crate) fn quantum_edited(
     name: &str,
     queue: i64,
     bits: i64,
-) -> Result<Network, EditFault>
-    ensures { IsReply (spec.quantum_edited net.now name.now queue bits) result }
+) -> Result<Change, EditFault>
+    ensures { IsChangeReply net.now (spec.quantum_edited net.now name.now queue bits) result }
 {
     let number = server_number(alloc, net, name)?;
     let old = server_at(net, number);
     let queue = quantum_of(&old.discipline, queue)?;
     let bits = length_of(bits)?;
     let server = with_quantum(old, queue, bits)?;
-    with_fitting_server(net, number, server)
+    if !server_fits(net, number, &server) {
+        return Err(EditFault::BadValue);
+    }
+    Ok(Change::Server(number, server))
 }

@@ -10,7 +10,7 @@ ghost use Rattle.net_model.specs.Accepted.{IsServer};
 ghost use Rattle.net_model.specs.Views.{server_of};
 ghost use Rattle.net_edits.specs.Changed as spec;
 ghost use Rattle.net_edits.specs.Edited.{made_by_kind, rate_made, latency_made, as_service, as_cell};
-ghost use Rattle.net_edits.specs.Replies.{Makes, MakesNone, IsMadeOver};
+ghost use Rattle.net_edits.specs.Replies.{Makes, MakesNone, MadeCurveIsOver};
 
 use crate::fault::EditFault;
 use curve_library::{CurveFault, gate, rate_latency};

@@ -16,7 +16,7 @@ use Rattle.net_draft.specs.Made.{IsMade}
 use Rattle.net_draft.specs.Texts.{CurveText}
 use Rattle.net_draft.proofs.MayStand.{made_may_stand}
 use Rattle.net_text.specs.Becoming.{IsCurveOf, Becomes, FailsAt, IsLimitFault, limit_kind, limit_fault}
-use Rattle.net_text.specs.Closing.{Closes}
+use Rattle.net_text.specs.Closing.{OverFold, Closes}
 
 pub made_is : (packet : ℕ) (d : CurveDraft) (c : SpecCurve) → IsArrivalDraft packet d → d.made ≡ Ok c → IsMade (text_of d.text) (Ok c)
 made_is packet d c h is = subst (IsMade (text_of d.text)) is h.made
@@ -32,26 +32,24 @@ pub limit_is_told : (limit : OverLimit) (place : List ℕ) (e : DraftFault) → 
 limit_is_told limit place answers.NoMemory is wants = is
 limit_is_told limit place (answers.Fault g) is wants = cc
 
--- where closures are made by folds of which Over says which limit they are over
-module _ (Over : SpecCurve → OverLimit → Type 0) where
-  closed_becomes : (closes : Bool) (text : CurveText) (c closed : SpecCurve) → closes ≡ true → IsCurveOf text c → Closes Over c (Ok closed) → Becomes Over closes text (Ok closed)
-  closed_becomes false text c closed e is h = absurd (true≢false (sym e))
-  closed_becomes true text c closed e is h = record { made = c; is = is; closes = h }
+closed_becomes : (closes : Bool) (text : CurveText) (c closed : SpecCurve) → closes ≡ true → IsCurveOf text c → Closes c (Ok closed) → Becomes closes text (Ok closed)
+closed_becomes false text c closed e is h = absurd (true≢false (sym e))
+closed_becomes true text c closed e is h = record { made = c; is = is; closes = h }
 
-  closed_fails : (closes : Bool) (text : CurveText) (c : SpecCurve) (place : List ℕ) (e : DraftFault) → closes ≡ true → IsCurveOf text c → FailsAt (Closes Over c) place e → FailsAt (Becomes Over closes text) place e
-  closed_fails closes text c place answers.NoMemory e is h = tt
-  closed_fails false text c place (answers.Fault f) e is h = absurd (true≢false (sym e))
-  closed_fails true text c place (answers.Fault f) e is h = record { limit = h.limit; over = inr (record { made = c; is = is; closes = h.over }); is = h.is }
+closed_fails : (closes : Bool) (text : CurveText) (c : SpecCurve) (place : List ℕ) (e : DraftFault) → closes ≡ true → IsCurveOf text c → FailsAt (Closes c) place e → FailsAt (Becomes closes text) place e
+closed_fails closes text c place answers.NoMemory e is h = tt
+closed_fails false text c place (answers.Fault f) e is h = absurd (true≢false (sym e))
+closed_fails true text c place (answers.Fault f) e is h = record { limit = h.limit; over = inr (record { made = c; is = is; closes = h.over }); is = h.is }
 
-  pub closed_ok : (closes : Bool) (text : CurveText) (c : SpecCurve) (r : Result SpecCurve DraftFault) → closes ≡ true → IsCurveOf text c → IfOk r (λ d. Closes Over c (Ok d)) → IfOk r (λ d. Becomes Over closes text (Ok d))
-  closed_ok closes text c (Ok d) e is h = closed_becomes closes text c d e is h
-  closed_ok closes text c (Err f) e is h = tt
+pub closed_ok : (closes : Bool) (text : CurveText) (c : SpecCurve) (r : Result SpecCurve DraftFault) → closes ≡ true → IsCurveOf text c → IfOk r (λ d. Closes c (Ok d)) → IfOk r (λ d. Becomes closes text (Ok d))
+closed_ok closes text c (Ok d) e is h = closed_becomes closes text c d e is h
+closed_ok closes text c (Err f) e is h = tt
 
-  pub closed_err : (closes : Bool) (text : CurveText) (c : SpecCurve) (place : List ℕ) (r : Result SpecCurve DraftFault) → closes ≡ true → IsCurveOf text c → IfErr r (FailsAt (Closes Over c) place) → IfErr r (FailsAt (Becomes Over closes text) place)
-  closed_err closes text c place (Ok d) e is h = tt
-  closed_err closes text c place (Err f) e is h = closed_fails closes text c place f e is h
+pub closed_err : (closes : Bool) (text : CurveText) (c : SpecCurve) (place : List ℕ) (r : Result SpecCurve DraftFault) → closes ≡ true → IsCurveOf text c → IfErr r (FailsAt (Closes c) place) → IfErr r (FailsAt (Becomes closes text) place)
+closed_err closes text c place (Ok d) e is h = tt
+closed_err closes text c place (Err f) e is h = closed_fails closes text c place f e is h
 
-  -- a fault of the kind of the limit that a fold is over tells that limit
-  pub limit_fails : (f : SpecCurve) (limit : OverLimit) (place : List ℕ) (e : DraftFault) → IsLimitFault limit place e → Over f limit → FailsAt (Closes Over f) place e
-  limit_fails f limit place answers.NoMemory is over = tt
-  limit_fails f limit place (answers.Fault g) is over = record { limit = limit; over = over; is = fault_is g limit place is.0 is.1 }
+-- a fault of the kind of the limit that a fold is over tells that limit
+pub limit_fails : (f : SpecCurve) (limit : OverLimit) (place : List ℕ) (e : DraftFault) → IsLimitFault limit place e → OverFold f limit → FailsAt (Closes f) place e
+limit_fails f limit place answers.NoMemory is over = tt
+limit_fails f limit place (answers.Fault g) is over = record { limit = limit; over = over; is = fault_is g limit place is.0 is.1 }

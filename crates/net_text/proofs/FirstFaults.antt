@@ -9,14 +9,13 @@ use Rattle.net_draft.specs.Faults.{Fault}
 use Rattle.net_draft.proofs.KindsOfTables.{faults_are_of_tables}
 use Rattle.net_text.specs.Becoming.{limit_kind}
 use Rattle.net_text.specs.Firsts.{PlacedCurve, FirstCurveOver, curves_of}
-use Rattle.net_text.specs.FileLaws.{NoFaultIsWantOfMemory}
-use Rattle.net_text.specs.FoldLimits.{OverFold}
+use Rattle.net_text.specs.Laws.{NoFaultIsWantOfMemory}
 
 no_limit : (limit : OverLimit) → limit_kind limit ≡ NoMemory → ⊥
 no_limit TooMany h = cc
 no_limit TooWide h = cc
 
-no_curve : (es : List PlacedCurve) (f : Fault) → FirstCurveOver OverFold es f → f.kind ≡ NoMemory → ⊥
+no_curve : (es : List PlacedCurve) (f : Fault) → FirstCurveOver es f → f.kind ≡ NoMemory → ⊥
 no_curve [] f a h = a
 no_curve (e ∷ es) f (inl over) h = no_limit over.limit (sym (ap (λ x. x.kind) over.is) ∙ h)
 no_curve (e ∷ es) f (inr later) h = no_curve es f later.1 h

@@ -2,8 +2,6 @@
 use Rattle.std.specs.List.{AllZip}
 use Rattle.std.proofs.Common.{◌≡◌, ℕ, ◌+◌, ◌<◌, false, List, [], ◌∷◌, ◌++◌, length, map, get_or, drop, sym, ap, ◌∙◌, subst, inl, inr}
 use Rattle.std.proofs.lemmas.List.{drop_more}
-use Rattle.upp_curve.specs.Curve.{SpecCurve}
-use Rattle.upp_limits.specs.declared.own_limits.OverLimit.{OverLimit}
 use Rattle.net_model.specs.Networks.{NetServer}
 use Rattle.net_draft.specs.declared.fault.DraftFault.{DraftFault}
 use Rattle.net_draft.specs.declared.fault.DraftFault.TheVariants as answers
@@ -36,28 +34,26 @@ arrivals_more ds i d within is = ap (λ l. arrivals_from i (map flow_text l)) (d
 pub texts_more : (ds : List FlowDraft) (i : ℕ) (d : FlowDraft) → i < length ds → d ≡ get_or ds i d → map flow_text (drop i ds) ≡ flow_text d ∷ map flow_text (drop (i + 1) ds)
 texts_more ds i d within is = ap (map flow_text) (drop_more ds i d within ∙ ap (λ t. t ∷ drop (i + 1) ds) (sym is))
 
--- where closures are made by folds of which Over says which limit they are over
-module _ (Over : SpecCurve → OverLimit → Type 0) where
-  -- the first of some curves that is over a limit is the first of the whole
-  abbrev pub Leads : List PlacedCurve → List PlacedCurve → Type 0
-  Leads es whole = (f : Fault) → FirstCurveOver Over es f → FirstCurveOver Over whole f
+-- the first of some curves that is over a limit is the first of the whole
+abbrev pub Leads : List PlacedCurve → List PlacedCurve → Type 0
+Leads es whole = (f : Fault) → FirstCurveOver es f → FirstCurveOver whole f
 
-  pub goes_on : (es whole : List PlacedCurve) (e : PlacedCurve) (rest : List PlacedCurve) → es ≡ e ∷ rest → Fits Over e → Leads es whole → Leads rest whole
-  goes_on es whole e rest same fits leads = λ f h. leads f (subst (λ l. FirstCurveOver Over l f) (sym same) (inr (fits, h)))
+pub goes_on : (es whole : List PlacedCurve) (e : PlacedCurve) (rest : List PlacedCurve) → es ≡ e ∷ rest → Fits e → Leads es whole → Leads rest whole
+goes_on es whole e rest same fits leads = λ f h. leads f (subst (λ l. FirstCurveOver l f) (sym same) (inr (fits, h)))
 
-  pub stops : (es whole : List PlacedCurve) (e : PlacedCurve) (rest : List PlacedCurve) (fault : DraftFault) → es ≡ e ∷ rest → FailsAt (Becomes Over e.closes e.text) e.place fault → Leads es whole → FailsFirst Over whole fault
-  stops es whole e rest answers.NoMemory same h leads = tt
-  stops es whole e rest (answers.Fault f) same h leads = leads (fault_of f) (subst (λ l. FirstCurveOver Over l (fault_of f)) (sym same) (inl h))
+pub stops : (es whole : List PlacedCurve) (e : PlacedCurve) (rest : List PlacedCurve) (fault : DraftFault) → es ≡ e ∷ rest → FailsAt (Becomes e.closes e.text) e.place fault → Leads es whole → FailsFirst whole fault
+stops es whole e rest answers.NoMemory same h leads = tt
+stops es whole e rest (answers.Fault f) same h leads = leads (fault_of f) (subst (λ l. FirstCurveOver l (fault_of f)) (sym same) (inl h))
 
-  -- ---- services before arrivals
-  -- where all services fit, the first is that of those after them
-  pub after_services : (n : ℕ) (ts : List ServerText) (ss : List NetServer) (more : List PlacedCurve) (f : Fault) → AllZip IsServerOf ts ss → FirstCurveOver Over more f
-      → FirstCurveOver Over (services_from n ts ++ more) f
-  after_services n [] [] more f z h = h
-  after_services n [] (s ∷ ss) more f z h = absurd z
-  after_services n (t ∷ ts) [] more f z h = absurd z
-  after_services n (t ∷ ts) (s ∷ ss) more f z h = inr (record { curve = s.service; is = z.0.service }, after_services (n + 1) ts ss more f z.1 h)
+-- ---- services before arrivals
+-- where all services fit, the first is that of those after them
+pub after_services : (n : ℕ) (ts : List ServerText) (ss : List NetServer) (more : List PlacedCurve) (f : Fault) → AllZip IsServerOf ts ss → FirstCurveOver more f
+    → FirstCurveOver (services_from n ts ++ more) f
+after_services n [] [] more f z h = h
+after_services n [] (s ∷ ss) more f z h = absurd z
+after_services n (t ∷ ts) [] more f z h = absurd z
+after_services n (t ∷ ts) (s ∷ ss) more f z h = inr (record { curve = s.service; is = z.0.service }, after_services (n + 1) ts ss more f z.1 h)
 
-  pub among_services : (es more : List PlacedCurve) (f : Fault) → FirstCurveOver Over es f → FirstCurveOver Over (es ++ more) f
-  among_services [] more f h = absurd h
-  among_services (e ∷ es) more f h = elim h [ inl over ↦ inl over | inr later ↦ inr (later.0, among_services es more f later.1) ]
+pub among_services : (es more : List PlacedCurve) (f : Fault) → FirstCurveOver es f → FirstCurveOver (es ++ more) f
+among_services [] more f h = absurd h
+among_services (e ∷ es) more f h = elim h [ inl over ↦ inl over | inr later ↦ inr (later.0, among_services es more f later.1) ]

@@ -1,5 +1,5 @@
 -- Steps of the closures of some flows, as a loop counts them.
-use Rattle.std.proofs.Common.{◌≡◌, ℕ, ◌+◌, ◌≤◌, ◌<◌, Bool, true, false, List, [], ◌∷◌, ◌++◌, length, map, get_or, take, Ok, refl, sym, ap, ◌∙◌, subst, arith, inl, inr, true≢false}
+use Rattle.std.proofs.Common.{◌≡◌, ℕ, ◌+◌, ◌-◌, ◌≤◌, ◌<◌, Bool, true, false, List, [], ◌∷◌, ◌++◌, length, map, get_or, take, Ok, refl, sym, ap, ◌∙◌, subst, arith, inl, inr, true≢false}
 use Rattle.upp_curve.specs.Curve.{SpecCurve}
 use Rattle.net_draft.specs.declared.flow_draft.FlowDraft.{FlowDraft}
 use Rattle.net_draft.specs.CurveTexts.{text_of}
@@ -7,84 +7,97 @@ use Rattle.net_draft.specs.Drafts.{draft_of}
 use Rattle.net_draft.specs.Texts.{CurveText, FlowText, DraftText}
 use Rattle.net_draft.specs.Views.{flow_text}
 use Rattle.net_draft.proofs.OverNone.{made_or_over}
-use Rattle.net_text.specs.Becoming.{IsCurveOf}
-use Rattle.net_text.specs.Folds.{FoldOf, HasTaken, FoldsOf, IsSumOf, StepsAtMost}
-use Rattle.net_text.proofs.OneThing.{one_made, same_draft, draft_or_fault}
+use Rattle.subadd_closure.specs.FoldWork.{fold_work}
+use Rattle.net_text.specs.Becoming.{IsCurveOf, Becomes}
+use Rattle.net_text.specs.Folds.{FoldOf, FoldsOf, IsSumOf, FoldsOfRead, FoldsOfFile}
+use Rattle.net_text.proofs.OneThing.{one_made}
 use Rattle.net_text.proofs.Zips.{texts_pushed}
 
 -- ---- drafts
--- where the fold of a curve has so many operators
-module _ (operators : SpecCurve → ℕ) where
-  -- the curve that was made is the one whose fold counts
-  pub fold_is : (closes : Bool) (text : CurveText) (c : SpecCurve) (k : ℕ) → closes ≡ true → IsCurveOf text c → FoldOf operators closes text k → k ≡ operators c
-  fold_is false text c k e is h = absurd (true≢false (sym e))
-  fold_is true text c k e is (inl h) = h.count_is ∙ ap operators (one_made text h.curve c h.is is)
-  fold_is true text c k e is (inr h) = absurd (made_or_over text c h.limit is.made h.over)
+-- the curve that was made is the one whose fold counts
+pub fold_is : (closes : Bool) (text : CurveText) (c : SpecCurve) (k : ℕ) → closes ≡ true → IsCurveOf text c → FoldOf closes text k → k ≡ fold_work c
+fold_is false text c k e is h = absurd (true≢false (sym e))
+fold_is true text c k e is (inl h) = h.count_is ∙ ap fold_work (one_made text h.curve c h.is is)
+fold_is true text c k e is (inr h) = absurd (made_or_over text c h.limit is.made h.over)
 
-  -- what is left of the whole number of steps
-  pub record StepsLeft (fs : List FlowText) (before now total : ℕ) : Type 0 where
-    pub rest : ℕ
-    pub folds : FoldsOf operators fs rest
-    pub within : now + rest ≤ before + total
+-- a curve that is not closed has none
+pub open_is : (closes : Bool) (text : CurveText) (k : ℕ) → closes ≡ false → FoldOf closes text k → k ≡ 0
+open_is false text k e h = h
+open_is true text k e h = absurd (true≢false e)
 
-  abbrev pub Spends : List FlowText → List FlowText → ℕ → ℕ → Type 0
-  Spends whole left before now = (total : ℕ) → FoldsOf operators whole total → StepsLeft left before now total
+-- what is left of the whole number of steps
+pub record StepsLeft (fs : List FlowText) (before now total : ℕ) : Type 0 where
+  pub rest : ℕ
+  pub folds : FoldsOf fs rest
+  pub within : now + rest ≤ before + total
 
-  pub spends_more : (whole left : List FlowText) (f : FlowText) (fs : List FlowText) (before now after : ℕ) → left ≡ f ∷ fs → ((k : ℕ) → FoldOf operators f.closes f.arrival k → after ≤ now + k) → Spends whole left before now
-      → Spends whole fs before after
-  spends_more whole left f fs before now after same most spends = λ total folds.
-      let l = spends total folds in
-      let s : IsSumOf (FoldOf operators f.closes f.arrival) (FoldsOf operators fs) l.rest = subst (λ gs. FoldsOf operators gs l.rest) same l.folds in
-      let first = most s.first s.is_first in
-      record { rest = s.rest; folds = s.is_rest; within = omega (arith, l.within, s.sum, first) }
+abbrev pub LeavesSteps : List FlowText → List FlowText → ℕ → ℕ → Type 0
+LeavesSteps whole left before now = (total : ℕ) → FoldsOf whole total → StepsLeft left before now total
 
-  pub spent : (whole left : List FlowText) (before now : ℕ) → Spends whole left before now → (total : ℕ) → FoldsOf operators whole total → now ≤ before + total
-  spent whole left before now spends total folds = omega (arith, (spends total folds).within)
+pub leaves_more : (whole left : List FlowText) (f : FlowText) (fs : List FlowText) (before now after : ℕ) → left ≡ f ∷ fs → ((k : ℕ) → FoldOf f.closes f.arrival k → after ≤ now + k) → LeavesSteps whole left before now
+    → LeavesSteps whole fs before after
+leaves_more whole left f fs before now after same most leaves = λ total folds.
+    let l = leaves total folds in
+    let s : IsSumOf (FoldOf f.closes f.arrival) (FoldsOf fs) l.rest = subst (λ gs. FoldsOf gs l.rest) same l.folds in
+    let first = most s.first s.is_first in
+    record { rest = s.rest; folds = s.is_rest; within = omega (arith, l.within, s.sum, first) }
 
-  -- ---- steps that were taken
-  pub closed_taken : (closes : Bool) (text : CurveText) (c : SpecCurve) (before after : ℕ) → closes ≡ true → IsCurveOf text c → after ≡ before + operators c → HasTaken operators closes text before after
-  closed_taken false text c before after e is sum = absurd (true≢false (sym e))
-  closed_taken true text c before after e is sum = record { count = operators c; is = inl (record { curve = c; is = is; count_is = refl }); sum = sum }
+pub at_most_all : (whole left : List FlowText) (before now : ℕ) → LeavesSteps whole left before now → (total : ℕ) → FoldsOf whole total → now ≤ before + total
+at_most_all whole left before now leaves total folds = omega (arith, (leaves total folds).within)
 
-  pub open_taken : (closes : Bool) (text : CurveText) (now : ℕ) → closes ≡ false → HasTaken operators closes text now now
-  open_taken false text now e = record { count = 0; is = refl; sum = omega arith }
-  open_taken true text now e = absurd (true≢false e)
+-- ---- there is one number of steps
+one_fold : (closes : Bool) (text : CurveText) (a b : ℕ) → FoldOf closes text a → FoldOf closes text b → a ≡ b
+one_fold false text a b g h = g ∙ sym h
+one_fold true text a b (inl g) (inl h) = g.count_is ∙ ap fold_work (one_made text g.curve h.curve g.is h.is) ∙ sym h.count_is
+one_fold true text a b (inl g) (inr h) = absurd (made_or_over text g.curve h.limit g.is.made h.over)
+one_fold true text a b (inr g) (inl h) = absurd (made_or_over text h.curve g.limit h.is.made g.over)
+one_fold true text a b (inr g) (inr h) = g.count_is ∙ sym h.count_is
 
-  folds_push : (fs : List FlowText) (f : FlowText) (t k : ℕ) → FoldsOf operators fs t → FoldOf operators f.closes f.arrival k → FoldsOf operators (fs ++ f ∷ []) (t + k)
-  folds_push [] f t k all one = record { first = k; rest = 0; is_first = one; is_rest = refl; sum = omega (arith, all) }
-  folds_push (g ∷ fs) f t k all one = record {
-    first = all.first;
-    rest = all.rest + k;
-    is_first = all.is_first;
-    is_rest = folds_push fs f all.rest k all.is_rest one;
-    sum = omega (arith, all.sum);
-  }
+pub one_folds : (fs : List FlowText) (a b : ℕ) → FoldsOf fs a → FoldsOf fs b → a ≡ b
+one_folds [] a b g h = g ∙ sym h
+one_folds (f ∷ fs) a b g h =
+    let first = one_fold f.closes f.arrival g.first h.first g.is_first h.is_first in
+    let rest = one_folds fs g.rest h.rest g.is_rest h.is_rest in
+    omega (arith, g.sum, h.sum, first, rest)
 
-  -- the flows so far have taken these steps
-  pub record HaveTaken (fs : List FlowText) (before now : ℕ) : Type 0 where
-    pub count : ℕ
-    pub folds : FoldsOf operators fs count
-    pub sum : now ≡ before + count
+-- the fold of what an arrival became
+has_fold : (closes : Bool) (text : CurveText) (c : SpecCurve) → Becomes closes text (Ok c) → (k : ℕ) × FoldOf closes text k
+has_fold false text c h = (0, refl)
+has_fold true text c h = (fold_work h.made, inl (record { curve = h.made; is = h.is; count_is = refl }))
 
-  pub none_taken : (now : ℕ) → HaveTaken [] now now
-  none_taken now = record { count = 0; folds = refl; sum = omega arith }
+-- ---- steps that were taken
+folds_push : (fs : List FlowText) (f : FlowText) (t k : ℕ) → FoldsOf fs t → FoldOf f.closes f.arrival k → FoldsOf (fs ++ f ∷ []) (t + k)
+folds_push [] f t k all one = record { first = k; rest = 0; is_first = one; is_rest = refl; sum = omega (arith, all) }
+folds_push (g ∷ fs) f t k all one = record {
+  first = all.first;
+  rest = all.rest + k;
+  is_first = all.is_first;
+  is_rest = folds_push fs f all.rest k all.is_rest one;
+  sum = omega (arith, all.sum);
+}
 
-  pub taken_more : (ds : List FlowDraft) (i : ℕ) (d : FlowDraft) (before now after : ℕ) → i < length ds → d ≡ get_or ds i d → HaveTaken (map flow_text (take i ds)) before now
-      → HasTaken operators d.closes (text_of d.arrival.text) now after → HaveTaken (map flow_text (take (i + 1) ds)) before after
-  taken_more ds i d before now after within is h one =
-      let folds = folds_push (map flow_text (take i ds)) (flow_text d) h.count one.count h.folds one.is in
-      record {
-        count = h.count + one.count;
-        folds = subst (λ fs. FoldsOf operators fs (h.count + one.count)) (sym (texts_pushed flow_text ds i d within is)) folds;
-        sum = omega (arith, h.sum, one.sum);
-      }
+-- the flows so far have taken these steps
+pub record HaveTaken (fs : List FlowText) (before now : ℕ) : Type 0 where
+  pub count : ℕ
+  pub folds : FoldsOf fs count
+  pub sum : now ≡ before + count
 
-  -- ---- files
-  pub no_steps : (bytes : List ℕ) (before after : ℕ) → after ≡ before → StepsAtMost operators bytes before after
-  no_steps bytes before after e = record { drafted = λ d total is folds. omega (arith, e); refused = λ f h. e }
+pub taken_more : (ds : List FlowDraft) (i : ℕ) (d : FlowDraft) (c : SpecCurve) (before now after : ℕ) → i < length ds → d ≡ get_or ds i d → HaveTaken (map flow_text (take i ds)) before now
+    → Becomes d.closes (text_of d.arrival.text) (Ok c) → ((k : ℕ) → FoldOf d.closes (text_of d.arrival.text) k → after ≡ now + k) → HaveTaken (map flow_text (take (i + 1) ds)) before after
+taken_more ds i d c before now after within is h became all =
+    let (k, one) = has_fold d.closes (text_of d.arrival.text) c became in
+    let sum = all k one in
+    let folds = folds_push (map flow_text (take i ds)) (flow_text d) h.count k h.folds one in
+    record {
+      count = h.count + k;
+      folds = subst (λ fs. FoldsOf fs (h.count + k)) (sym (texts_pushed flow_text ds i d within is)) folds;
+      sum = omega (arith, h.sum, sum);
+    }
 
-  pub fold_steps : (bytes : List ℕ) (d : DraftText) (before after : ℕ) → draft_of bytes ≡ Ok d → ((total : ℕ) → FoldsOf operators d.flows total → after ≤ before + total) → StepsAtMost operators bytes before after
-  fold_steps bytes d before after is most = record {
-    drafted = λ e total other folds. most total (subst (λ (x : DraftText). FoldsOf operators x.flows total) (same_draft e d (sym other ∙ is)) folds);
-    refused = λ f h. absurd (draft_or_fault d f (sym is ∙ h));
-  }
+-- by how many they are
+pub folds_taken : (fs : List FlowText) (before now : ℕ) → HaveTaken fs before now → FoldsOf fs (now - before)
+folds_taken fs before now h = let count : h.count ≡ now - before = omega (arith, h.sum) in subst (λ n. FoldsOf fs n) count h.folds
+
+-- ---- files
+pub folds_of_draft : (bytes : List ℕ) (d : DraftText) (n : ℕ) → draft_of bytes ≡ Ok d → FoldsOfFile bytes n → FoldsOf d.flows n
+folds_of_draft bytes d n is folds = subst (λ r. FoldsOfRead r n) is folds

@@ -11,8 +11,7 @@ use Rattle.outcomes.specs.Calls.{goes_on, stops}
 use Rattle.subadd_closure.specs.Folds.{CloseAnswer}
 use Rattle.subadd_closure.proofs.FoldStars.{close_answer}
 use Rattle.subadd_closure.proofs.OneFold.{close_once}
-use Rattle.net_text.specs.Closing.{KeepsClosing}
-use Rattle.net_text.specs.FoldLimits.{OverFold}
+use Rattle.net_text.specs.Closing.{OverFold, KeepsClosing}
 
 apart : (c : SpecCurve) (fault : OpFault) → (let r : Result SpecCurve OpFault = Ok c in r) ≡ Err fault → ⊥
 apart c fault h = cc
@@ -34,7 +33,7 @@ answers_curve f c (goes_on d a b) = b.curve
 answers_curve f c (stops fault a b) = absurd (apart c fault b)
 
 pub keeps_closing : (f : SpecCurve) (r : Result SpecCurve OpFault) → IsCurve f → IsFinite (value_at f)
-    → IsNonnegative (value_at f) → CloseAnswer f r → KeepsClosing OverFold f r
+    → IsNonnegative (value_at f) → CloseAnswer f r → KeepsClosing f r
 keeps_closing f (Ok c) own finite nonneg a = record {
   curve = answers_curve f c a;
   value = λ t late. close_answer f c t own.normal finite nonneg a late;

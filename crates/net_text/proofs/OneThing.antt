@@ -14,10 +14,11 @@ use Rattle.net_draft.proofs.OverNone.{made_or_over}
 use Rattle.net_draft.specs.Texts.{CurveText, Bucket, Stair, RateLatency, Gate, Listed, ServerText, FlowText, DraftText}
 use Rattle.net_text.specs.Becoming.{IsCurveOf, Becomes, limit_fault}
 use Rattle.net_text.specs.Built.{IsServerOf, IsFlowOf, IsLiveFlowOf, IsBuilt}
-use Rattle.net_text.specs.Closing.{IsClosureOf, HasOneLimit}
+use Rattle.net_text.specs.Closing.{OverFold, IsClosureOf}
 use Rattle.net_text.specs.Firsts.{PlacedCurve, services_from, arrivals_from, curves_of, FirstCurveOver}
 use Rattle.net_text.specs.Laws.{EachFileSaysOneThing}
 use Rattle.net_text.specs.Reading.{IsNetworkOf, FirstFault}
+use Rattle.net_text.proofs.OneLimit.{fold_has_one_limit}
 use Rattle.net_text.proofs.Zips.{zip_one}
 
 -- ---- what was made of a text
@@ -56,98 +57,96 @@ same_fault f g h = cc
 pub draft_or_fault : (d : DraftText) (f : Fault) → (let r : Read DraftText = Ok d in r) ≡ Err f → ⊥
 draft_or_fault d f h = cc
 
--- where closures are made by folds of which Over says which limit they are over, one at most
-module _ (Over : SpecCurve → OverLimit → Type 0) (one_fold_limit : HasOneLimit Over) where
-  -- ---- closures
-  one_closure : (f a b : SpecCurve) → IsClosureOf Over f a → IsClosureOf Over f b → a ≡ b
-  one_closure f a b g h =
-      normal_unique a b g.curve.normal h.curve.normal
-      (λ t late. infimum_unique {I = Parts t} (λ p. sum_at (value_at f) (p.first ∷ p.others)) (value_at a t) (value_at b t) (g.value t late) (h.value t late))
+-- ---- closures
+one_closure : (f a b : SpecCurve) → IsClosureOf f a → IsClosureOf f b → a ≡ b
+one_closure f a b g h =
+    normal_unique a b g.curve.normal h.curve.normal
+    (λ t late. infimum_unique {I = Parts t} (λ p. sum_at (value_at f) (p.first ∷ p.others)) (value_at a t) (value_at b t) (g.value t late) (h.value t late))
 
-  -- ---- what a curve becomes
-  one_curve : (closes : Bool) (text : CurveText) (a b : SpecCurve) → Becomes Over closes text (Ok a) → Becomes Over closes text (Ok b) → a ≡ b
-  one_curve false text a b g h = one_made text a b g h
-  one_curve true text a b g h =
-      let same : h.made ≡ g.made = one_made text h.made g.made h.is g.is in
-      one_closure g.made a b g.closes (subst (λ f. IsClosureOf Over f b) same h.closes)
+-- ---- what a curve becomes
+one_curve : (closes : Bool) (text : CurveText) (a b : SpecCurve) → Becomes closes text (Ok a) → Becomes closes text (Ok b) → a ≡ b
+one_curve false text a b g h = one_made text a b g h
+one_curve true text a b g h =
+    let same : h.made ≡ g.made = one_made text h.made g.made h.is g.is in
+    one_closure g.made a b g.closes (subst (λ f. IsClosureOf f b) same h.closes)
 
-  fits_or_over : (closes : Bool) (text : CurveText) (a : SpecCurve) (limit : OverLimit) → Becomes Over closes text (Ok a) → Becomes Over closes text (Err limit) → ⊥
-  fits_or_over false text a limit g h = made_or_over text a limit g.made h
-  fits_or_over true text a limit g (inl own) = made_or_over text g.made limit g.is.made own
-  fits_or_over true text a limit g (inr h) =
-      let same : g.made ≡ h.made = one_made text g.made h.made g.is h.is in
-      (subst (λ f. IsClosureOf Over f a) same g.closes).within limit h.closes
+fits_or_over : (closes : Bool) (text : CurveText) (a : SpecCurve) (limit : OverLimit) → Becomes closes text (Ok a) → Becomes closes text (Err limit) → ⊥
+fits_or_over false text a limit g h = made_or_over text a limit g.made h
+fits_or_over true text a limit g (inl own) = made_or_over text g.made limit g.is.made own
+fits_or_over true text a limit g (inr h) =
+    let same : g.made ≡ h.made = one_made text g.made h.made g.is h.is in
+    (subst (λ f. IsClosureOf f a) same g.closes).within limit h.closes
 
-  over_once : (closes : Bool) (text : CurveText) (l m : OverLimit) → Becomes Over closes text (Err l) → Becomes Over closes text (Err m) → l ≡ m
-  over_once false text l m g h = one_over text l m g h
-  over_once true text l m (inl g) (inl h) = one_over text l m g h
-  over_once true text l m (inl g) (inr h) = absurd (made_or_over text h.made l h.is.made g)
-  over_once true text l m (inr g) (inl h) = absurd (made_or_over text g.made m g.is.made h)
-  over_once true text l m (inr g) (inr h) =
-      let same : h.made ≡ g.made = one_made text h.made g.made h.is g.is in
-      one_fold_limit g.made l m g.closes (subst (λ f. Over f m) same h.closes)
+over_once : (closes : Bool) (text : CurveText) (l m : OverLimit) → Becomes closes text (Err l) → Becomes closes text (Err m) → l ≡ m
+over_once false text l m g h = one_over text l m g h
+over_once true text l m (inl g) (inl h) = one_over text l m g h
+over_once true text l m (inl g) (inr h) = absurd (made_or_over text h.made l h.is.made g)
+over_once true text l m (inr g) (inl h) = absurd (made_or_over text g.made m g.is.made h)
+over_once true text l m (inr g) (inr h) =
+    let same : h.made ≡ g.made = one_made text h.made g.made h.is g.is in
+    fold_has_one_limit g.made l m g.closes (subst (λ f. OverFold f m) same h.closes)
 
-  -- ---- flows
-  one_flow : (t : FlowText) (m n : NetFlow) → IsFlowOf Over t m → IsFlowOf Over t n → m ≡ n
-  one_flow t m n g h =
-      let name : m.name ≡ n.name = g.name ∙ sym h.name in
-      let path : m.path ≡ n.path = g.path ∙ sym h.path in
-      let queues : m.queues ≡ n.queues = g.queues ∙ sym h.queues in
-      let packet : m.packet ≡ n.packet = g.packet ∙ sym h.packet in
-      let arrival : m.arrival ≡ n.arrival = one_curve t.closes t.arrival m.arrival n.arrival g.arrival h.arrival in
-      λ i. record { name = name i; path = path i; queues = queues i; packet = packet i; arrival = arrival i }
+-- ---- flows
+one_flow : (t : FlowText) (m n : NetFlow) → IsFlowOf t m → IsFlowOf t n → m ≡ n
+one_flow t m n g h =
+    let name : m.name ≡ n.name = g.name ∙ sym h.name in
+    let path : m.path ≡ n.path = g.path ∙ sym h.path in
+    let queues : m.queues ≡ n.queues = g.queues ∙ sym h.queues in
+    let packet : m.packet ≡ n.packet = g.packet ∙ sym h.packet in
+    let arrival : m.arrival ≡ n.arrival = one_curve t.closes t.arrival m.arrival n.arrival g.arrival h.arrival in
+    λ i. record { name = name i; path = path i; queues = queues i; packet = packet i; arrival = arrival i }
 
-  one_live_flow : (t : FlowText) (m n : Option NetFlow) → IsLiveFlowOf Over t m → IsLiveFlowOf Over t n → m ≡ n
-  one_live_flow t m n g h = g.live ∙ ap Some (one_flow t g.flow h.flow g.is h.is) ∙ sym h.live
+one_live_flow : (t : FlowText) (m n : Option NetFlow) → IsLiveFlowOf t m → IsLiveFlowOf t n → m ≡ n
+one_live_flow t m n g h = g.live ∙ ap Some (one_flow t g.flow h.flow g.is h.is) ∙ sym h.live
 
-  one_built : (d : DraftText) (m n : Net) → IsBuilt Over d m → IsBuilt Over d n → m ≡ n
-  one_built d m n g h =
-      let version : m.version ≡ n.version = g.version ∙ sym h.version in
-      let servers : m.servers ≡ n.servers = zip_one IsServerOf one_server d.servers m.servers n.servers g.servers h.servers in
-      let flows : m.flows ≡ n.flows = zip_one (IsLiveFlowOf Over) one_live_flow d.flows m.flows n.flows g.flows h.flows in
-      λ i. record { version = version i; servers = servers i; flows = flows i }
+one_built : (d : DraftText) (m n : Net) → IsBuilt d m → IsBuilt d n → m ≡ n
+one_built d m n g h =
+    let version : m.version ≡ n.version = g.version ∙ sym h.version in
+    let servers : m.servers ≡ n.servers = zip_one IsServerOf one_server d.servers m.servers n.servers g.servers h.servers in
+    let flows : m.flows ≡ n.flows = zip_one IsLiveFlowOf one_live_flow d.flows m.flows n.flows g.flows h.flows in
+    λ i. record { version = version i; servers = servers i; flows = flows i }
 
-  -- ---- the first curve over a limit
-  one_first : (es : List PlacedCurve) (f g : Fault) → FirstCurveOver Over es f → FirstCurveOver Over es g → f ≡ g
-  one_first [] f g a b = absurd a
-  one_first (e ∷ es) f g (inl a) (inl b) = a.is ∙ ap (λ l. limit_fault l e.place) (over_once e.closes e.text a.limit b.limit a.over b.over) ∙ sym b.is
-  one_first (e ∷ es) f g (inl a) (inr b) = absurd (fits_or_over e.closes e.text b.0.curve a.limit b.0.is a.over)
-  one_first (e ∷ es) f g (inr a) (inl b) = absurd (fits_or_over e.closes e.text a.0.curve b.limit a.0.is b.over)
-  one_first (e ∷ es) f g (inr a) (inr b) = one_first es f g a.1 b.1
+-- ---- the first curve over a limit
+one_first : (es : List PlacedCurve) (f g : Fault) → FirstCurveOver es f → FirstCurveOver es g → f ≡ g
+one_first [] f g a b = absurd a
+one_first (e ∷ es) f g (inl a) (inl b) = a.is ∙ ap (λ l. limit_fault l e.place) (over_once e.closes e.text a.limit b.limit a.over b.over) ∙ sym b.is
+one_first (e ∷ es) f g (inl a) (inr b) = absurd (fits_or_over e.closes e.text b.0.curve a.limit b.0.is a.over)
+one_first (e ∷ es) f g (inr a) (inl b) = absurd (fits_or_over e.closes e.text a.0.curve b.limit a.0.is b.over)
+one_first (e ∷ es) f g (inr a) (inr b) = one_first es f g a.1 b.1
 
-  flows_fit : (n : ℕ) (ts : List FlowText) (os : List (Option NetFlow)) (f : Fault) → AllZip (IsLiveFlowOf Over) ts os → FirstCurveOver Over (arrivals_from n ts) f → ⊥
-  flows_fit n [] os f z h = h
-  flows_fit n (t ∷ ts) [] f z h = z
-  flows_fit n (t ∷ ts) (o ∷ os) f z (inl over) = fits_or_over t.closes t.arrival z.0.flow.arrival over.limit z.0.is.arrival over.over
-  flows_fit n (t ∷ ts) (o ∷ os) f z (inr later) = flows_fit (n + 1) ts os f z.1 later.1
+flows_fit : (n : ℕ) (ts : List FlowText) (os : List (Option NetFlow)) (f : Fault) → AllZip IsLiveFlowOf ts os → FirstCurveOver (arrivals_from n ts) f → ⊥
+flows_fit n [] os f z h = h
+flows_fit n (t ∷ ts) [] f z h = z
+flows_fit n (t ∷ ts) (o ∷ os) f z (inl over) = fits_or_over t.closes t.arrival z.0.flow.arrival over.limit z.0.is.arrival over.over
+flows_fit n (t ∷ ts) (o ∷ os) f z (inr later) = flows_fit (n + 1) ts os f z.1 later.1
 
-  servers_fit : (n : ℕ) (ts : List ServerText) (ss : List NetServer) (more : List PlacedCurve) (f : Fault) → AllZip IsServerOf ts ss → (FirstCurveOver Over more f → ⊥)
-      → FirstCurveOver Over (services_from n ts ++ more) f → ⊥
-  servers_fit n [] ss more f z rest h = rest h
-  servers_fit n (t ∷ ts) [] more f z rest h = z
-  servers_fit n (t ∷ ts) (s ∷ ss) more f z rest (inl over) = fits_or_over false t.service s.service over.limit z.0.service over.over
-  servers_fit n (t ∷ ts) (s ∷ ss) more f z rest (inr later) = servers_fit (n + 1) ts ss more f z.1 rest later.1
+servers_fit : (n : ℕ) (ts : List ServerText) (ss : List NetServer) (more : List PlacedCurve) (f : Fault) → AllZip IsServerOf ts ss → (FirstCurveOver more f → ⊥)
+    → FirstCurveOver (services_from n ts ++ more) f → ⊥
+servers_fit n [] ss more f z rest h = rest h
+servers_fit n (t ∷ ts) [] more f z rest h = z
+servers_fit n (t ∷ ts) (s ∷ ss) more f z rest (inl over) = fits_or_over false t.service s.service over.limit z.0.service over.over
+servers_fit n (t ∷ ts) (s ∷ ss) more f z rest (inr later) = servers_fit (n + 1) ts ss more f z.1 rest later.1
 
-  -- ---- the file
-  one_network : (bytes : List ℕ) (m n : Net) → IsNetworkOf Over bytes m → IsNetworkOf Over bytes n → m ≡ n
-  one_network bytes m n g h =
-      let same : h.draft ≡ g.draft = same_draft h.draft g.draft (sym h.is_draft ∙ g.is_draft) in
-      one_built g.draft m n g.built (subst (λ d. IsBuilt Over d n) same h.built)
+-- ---- the file
+one_network : (bytes : List ℕ) (m n : Net) → IsNetworkOf bytes m → IsNetworkOf bytes n → m ≡ n
+one_network bytes m n g h =
+    let same : h.draft ≡ g.draft = same_draft h.draft g.draft (sym h.is_draft ∙ g.is_draft) in
+    one_built g.draft m n g.built (subst (λ d. IsBuilt d n) same h.built)
 
-  one_fault : (bytes : List ℕ) (f g : Fault) → FirstFault Over bytes f → FirstFault Over bytes g → f ≡ g
-  one_fault bytes f g (inl a) (inl b) = same_fault f g (sym a ∙ b)
-  one_fault bytes f g (inl a) (inr b) = absurd (draft_or_fault b.draft f (sym b.is_draft ∙ a))
-  one_fault bytes f g (inr a) (inl b) = absurd (draft_or_fault a.draft g (sym a.is_draft ∙ b))
-  one_fault bytes f g (inr a) (inr b) =
-      let same : b.draft ≡ a.draft = same_draft b.draft a.draft (sym b.is_draft ∙ a.is_draft) in
-      one_first (curves_of a.draft) f g a.first (subst (λ d. FirstCurveOver Over (curves_of d) g) same b.first)
+one_fault : (bytes : List ℕ) (f g : Fault) → FirstFault bytes f → FirstFault bytes g → f ≡ g
+one_fault bytes f g (inl a) (inl b) = same_fault f g (sym a ∙ b)
+one_fault bytes f g (inl a) (inr b) = absurd (draft_or_fault b.draft f (sym b.is_draft ∙ a))
+one_fault bytes f g (inr a) (inl b) = absurd (draft_or_fault a.draft g (sym a.is_draft ∙ b))
+one_fault bytes f g (inr a) (inr b) =
+    let same : b.draft ≡ a.draft = same_draft b.draft a.draft (sym b.is_draft ∙ a.is_draft) in
+    one_first (curves_of a.draft) f g a.first (subst (λ d. FirstCurveOver (curves_of d) g) same b.first)
 
-  not_both : (bytes : List ℕ) (n : Net) (f : Fault) → IsNetworkOf Over bytes n → FirstFault Over bytes f → ⊥
-  not_both bytes n f g (inl a) = draft_or_fault g.draft f (sym g.is_draft ∙ a)
-  not_both bytes n f g (inr a) =
-      let same : a.draft ≡ g.draft = same_draft a.draft g.draft (sym a.is_draft ∙ g.is_draft) in
-      servers_fit 0 g.draft.servers n.servers (arrivals_from 0 g.draft.flows) f g.built.servers (flows_fit 0 g.draft.flows n.flows f g.built.flows)
-      (subst (λ d. FirstCurveOver Over (curves_of d) f) same a.first)
+not_both : (bytes : List ℕ) (n : Net) (f : Fault) → IsNetworkOf bytes n → FirstFault bytes f → ⊥
+not_both bytes n f g (inl a) = draft_or_fault g.draft f (sym g.is_draft ∙ a)
+not_both bytes n f g (inr a) =
+    let same : a.draft ≡ g.draft = same_draft a.draft g.draft (sym a.is_draft ∙ g.is_draft) in
+    servers_fit 0 g.draft.servers n.servers (arrivals_from 0 g.draft.flows) f g.built.servers (flows_fit 0 g.draft.flows n.flows f g.built.flows)
+    (subst (λ d. FirstCurveOver (curves_of d) f) same a.first)
 
-  pub each_file_says_one_thing : EachFileSaysOneThing Over
-  each_file_says_one_thing bytes = record { one_network = one_network bytes; one_fault = one_fault bytes; not_both = not_both bytes }
+pub each_file_says_one_thing : EachFileSaysOneThing
+each_file_says_one_thing bytes = record { one_network = one_network bytes; one_fault = one_fault bytes; not_both = not_both bytes }

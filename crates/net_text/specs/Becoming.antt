@@ -25,22 +25,20 @@ abbrev pub BecomesItself : CurveText → Result SpecCurve OverLimit → Type 0
 BecomesItself text (Ok c) = IsCurveOf text c
 BecomesItself text (Err limit) = IsMade text (Err limit)
 
--- where closures are made by folds of which Over says which limit they are over
-module _ (Over : SpecCurve → OverLimit → Type 0) where
-  -- what its closure answers
-  pub record ClosesMade (text : CurveText) (r : Result SpecCurve OverLimit) : Type 0 where
-    pub made : SpecCurve
-    pub is : IsCurveOf text made
-    pub closes : Closes Over made r
+-- what its closure answers
+pub record ClosesMade (text : CurveText) (r : Result SpecCurve OverLimit) : Type 0 where
+  pub made : SpecCurve
+  pub is : IsCurveOf text made
+  pub closes : Closes made r
 
-  -- the closure in the place of the curve; a limit is the curve's own, or that of the fold of its closure
-  abbrev pub BecomesClosed : CurveText → Result SpecCurve OverLimit → Type 0
-  BecomesClosed text (Ok closed) = ClosesMade text (Ok closed)
-  BecomesClosed text (Err limit) = IsMade text (Err limit) ⊎ ClosesMade text (Err limit)
+-- the closure in the place of the curve; a limit is the curve's own, or that of the fold of its closure
+abbrev pub BecomesClosed : CurveText → Result SpecCurve OverLimit → Type 0
+BecomesClosed text (Ok closed) = ClosesMade text (Ok closed)
+BecomesClosed text (Err limit) = IsMade text (Err limit) ⊎ ClosesMade text (Err limit)
 
-  abbrev pub Becomes : Bool → CurveText → Result SpecCurve OverLimit → Type 0
-  Becomes false text = BecomesItself text
-  Becomes true text = BecomesClosed text
+abbrev pub Becomes : Bool → CurveText → Result SpecCurve OverLimit → Type 0
+Becomes false text = BecomesItself text
+Becomes true text = BecomesClosed text
 
 -- ---- faults
 abbrev pub limit_kind : OverLimit → NetKind

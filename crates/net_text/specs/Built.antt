@@ -1,8 +1,6 @@
 -- The network that is built of a draft. Own choice.
 use Rattle.std.specs.Prelude.{◌≡◌, map, Option, Some, Ok}
 use Rattle.std.specs.List.{AllZip}
-use Rattle.upp_curve.specs.Curve.{SpecCurve}
-use Rattle.upp_limits.specs.declared.own_limits.OverLimit.{OverLimit}
 use Rattle.net_model.specs.Networks.{Net, NetServer, NetFlow}
 use Rattle.net_draft.specs.Laws.{kind_of}
 use Rattle.net_draft.specs.Texts.{ServerText, FlowText, DraftText}
@@ -17,23 +15,21 @@ pub record IsServerOf (t : ServerText) (s : NetServer) : Type 0 where
   pub link : s.link ≡ t.link
   pub discipline : s.discipline ≡ t.discipline
 
--- where closures are made by folds of which Over says which limit they are over
-module _ (Over : SpecCurve → OverLimit → Type 0) where
-  -- the flow of a text
-  pub record IsFlowOf (t : FlowText) (f : NetFlow) : Type 0 where
-    pub name : f.name ≡ t.name
-    pub path : f.path ≡ map (λ h. h.server) t.path
-    pub queues : f.queues ≡ map (λ h. h.queue) t.path
-    pub packet : f.packet ≡ t.packet
-    pub arrival : Becomes Over t.closes t.arrival (Ok f.arrival)
+-- the flow of a text
+pub record IsFlowOf (t : FlowText) (f : NetFlow) : Type 0 where
+  pub name : f.name ≡ t.name
+  pub path : f.path ≡ map (λ h. h.server) t.path
+  pub queues : f.queues ≡ map (λ h. h.queue) t.path
+  pub packet : f.packet ≡ t.packet
+  pub arrival : Becomes t.closes t.arrival (Ok f.arrival)
 
-  -- with no place left empty
-  pub record IsLiveFlowOf (t : FlowText) (o : Option NetFlow) : Type 0 where
-    pub flow : NetFlow
-    pub live : o ≡ Some flow
-    pub is : IsFlowOf t flow
+-- with no place left empty
+pub record IsLiveFlowOf (t : FlowText) (o : Option NetFlow) : Type 0 where
+  pub flow : NetFlow
+  pub live : o ≡ Some flow
+  pub is : IsFlowOf t flow
 
-  pub record IsBuilt (d : DraftText) (net : Net) : Type 0 where
-    pub version : net.version ≡ d.version
-    pub servers : AllZip IsServerOf d.servers net.servers
-    pub flows : AllZip IsLiveFlowOf d.flows net.flows
+pub record IsBuilt (d : DraftText) (net : Net) : Type 0 where
+  pub version : net.version ≡ d.version
+  pub servers : AllZip IsServerOf d.servers net.servers
+  pub flows : AllZip IsLiveFlowOf d.flows net.flows

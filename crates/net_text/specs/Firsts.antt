@@ -2,7 +2,6 @@
 -- curve before its closure. Own choice.
 use Rattle.std.specs.Prelude.{◌⊎◌, ◌+◌, ℕ, List, [], ◌∷◌, ◌++◌, Bool, false, codes, Ok}
 use Rattle.upp_curve.specs.Curve.{SpecCurve}
-use Rattle.upp_limits.specs.declared.own_limits.OverLimit.{OverLimit}
 use Rattle.net_draft.specs.declared.fault.DraftFault.{DraftFault}
 use Rattle.net_draft.specs.declared.fault.DraftFault.TheVariants as answers
 use Rattle.net_draft.specs.Faults.{Fault, fault_of, under, nth}
@@ -35,22 +34,20 @@ arrivals_from number (f ∷ fs) =
 abbrev pub curves_of : DraftText → List PlacedCurve
 curves_of d = services_from 0 d.servers ++ arrivals_from 0 d.flows
 
--- where closures are made by folds of which Over says which limit they are over
-module _ (Over : SpecCurve → OverLimit → Type 0) where
-  -- a curve that is over no limit
-  pub record Fits (e : PlacedCurve) : Type 0 where
-    pub curve : SpecCurve
-    pub is : Becomes Over e.closes e.text (Ok curve)
+-- a curve that is over no limit
+pub record Fits (e : PlacedCurve) : Type 0 where
+  pub curve : SpecCurve
+  pub is : Becomes e.closes e.text (Ok curve)
 
-  -- the first of the curves that is over a limit has this fault
-  abbrev pub FirstCurveOver : List PlacedCurve → Fault → Type 0
-  FirstCurveOver [] f = ⊥
-  FirstCurveOver (e ∷ es) f = IsOverAt (Becomes Over e.closes e.text) e.place f ⊎ (Fits e × FirstCurveOver es f)
+-- the first of the curves that is over a limit has this fault
+abbrev pub FirstCurveOver : List PlacedCurve → Fault → Type 0
+FirstCurveOver [] f = ⊥
+FirstCurveOver (e ∷ es) f = IsOverAt (Becomes e.closes e.text) e.place f ⊎ (Fits e × FirstCurveOver es f)
 
-  abbrev pub FailsFirst : List PlacedCurve → DraftFault → Type 0
-  FailsFirst es answers.NoMemory = Unit {0}
-  FailsFirst es (answers.Fault f) = FirstCurveOver es (fault_of f)
+abbrev pub FailsFirst : List PlacedCurve → DraftFault → Type 0
+FailsFirst es answers.NoMemory = Unit {0}
+FailsFirst es (answers.Fault f) = FirstCurveOver es (fault_of f)
 
-  -- the arrival of the flow of this number, or its closure, is over a limit
-  abbrev pub FailsArrival : Bool → CurveText → ℕ → DraftFault → Type 0
-  FailsArrival closes text number = FailsAt (Becomes Over closes text) (arrival_place number)
+-- the arrival of the flow of this number, or its closure, is over a limit
+abbrev pub FailsArrival : Bool → CurveText → ℕ → DraftFault → Type 0
+FailsArrival closes text number = FailsAt (Becomes closes text) (arrival_place number)

@@ -3,9 +3,10 @@ use Rattle.std.specs.Prelude.{◌≡◌, ◌⊎◌, ◌+◌, ◌≤◌, ℕ, Lis
 use Rattle.upp_curve.specs.Curve.{SpecCurve}
 use Rattle.upp_limits.specs.declared.own_limits.OverLimit.{OverLimit}
 use Rattle.net_draft.specs.Drafts.{draft_of}
-use Rattle.net_draft.specs.Faults.{Fault}
+use Rattle.net_draft.specs.Faults.{Read}
 use Rattle.net_draft.specs.Made.{IsMade}
 use Rattle.net_draft.specs.Texts.{CurveText, FlowText, DraftText}
+use Rattle.subadd_closure.specs.FoldWork.{fold_work}
 use Rattle.net_text.specs.Becoming.{IsCurveOf}
 
 -- a curve that is over a limit has no fold
@@ -22,34 +23,29 @@ pub record IsSumOf (First Rest : ℕ → Type 0) (total : ℕ) : Type 0 where
   pub is_rest : Rest rest
   pub sum : total ≡ first + rest
 
--- where the fold of a curve has so many operators
-module _ (operators : SpecCurve → ℕ) where
-  -- the operators of the fold of a text's curve
-  pub record FoldOfCurve (text : CurveText) (count : ℕ) : Type 0 where
-    pub curve : SpecCurve
-    pub is : IsCurveOf text curve
-    pub count_is : count ≡ operators curve
+-- the operators of the fold of a text's curve
+pub record FoldOfCurve (text : CurveText) (count : ℕ) : Type 0 where
+  pub curve : SpecCurve
+  pub is : IsCurveOf text curve
+  pub count_is : count ≡ fold_work curve
 
-  abbrev pub FoldOf : Bool → CurveText → ℕ → Type 0
-  FoldOf false text count = count ≡ 0
-  FoldOf true text count = FoldOfCurve text count ⊎ NoFold text count
+abbrev pub FoldOf : Bool → CurveText → ℕ → Type 0
+FoldOf false text count = count ≡ 0
+FoldOf true text count = FoldOfCurve text count ⊎ NoFold text count
 
-  -- one arrival takes no more steps than these
-  abbrev pub FoldAtMost : Bool → CurveText → ℕ → ℕ → Type 0
-  FoldAtMost closes text before after = (count : ℕ) → FoldOf closes text count → after ≤ before + count
+-- those of all flows
+abbrev pub FoldsOf : List FlowText → ℕ → Type 0
+FoldsOf [] total = total ≡ 0
+FoldsOf (f ∷ fs) total = IsSumOf (FoldOf f.closes f.arrival) (FoldsOf fs) total
 
-  -- one arrival has taken a step for each
-  pub record HasTaken (closes : Bool) (text : CurveText) (before after : ℕ) : Type 0 where
-    pub count : ℕ
-    pub is : FoldOf closes text count
-    pub sum : after ≡ before + count
+-- those of a file: none where there is no draft
+abbrev pub FoldsOfRead : Read DraftText → ℕ → Type 0
+FoldsOfRead (Ok d) total = FoldsOf d.flows total
+FoldsOfRead (Err f) total = total ≡ 0
 
-  -- those of all flows
-  abbrev pub FoldsOf : List FlowText → ℕ → Type 0
-  FoldsOf [] total = total ≡ 0
-  FoldsOf (f ∷ fs) total = IsSumOf (FoldOf f.closes f.arrival) (FoldsOf fs) total
+abbrev pub FoldsOfFile : List ℕ → ℕ → Type 0
+FoldsOfFile bytes total = FoldsOfRead (draft_of bytes) total
 
-  -- reading takes no more steps than these; none where there is no draft
-  pub record StepsAtMost (bytes : List ℕ) (before after : ℕ) : Type 0 where
-    pub drafted : (d : DraftText) (total : ℕ) → draft_of bytes ≡ Ok d → FoldsOf d.flows total → after ≤ before + total
-    pub refused : (f : Fault) → draft_of bytes ≡ Err f → after ≡ before
+-- reading takes no more steps than these
+abbrev pub StepsAtMost : List ℕ → (before after : ℕ) → Type 0
+StepsAtMost bytes before after = (total : ℕ) → FoldsOfFile bytes total → after ≤ before + total

@@ -5,6 +5,4 @@ pub mod Firsts
 pub mod Reading
 pub mod Laws
 pub mod Folds
-pub mod FoldLimits
 pub mod Wants
-pub mod FileLaws

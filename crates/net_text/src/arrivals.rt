@@ -1,16 +1,17 @@
 //! Arrival curves, and their closures where they are asked for.
 
-ghost use Rattle.std.specs.Prelude.{◌≡◌, ◌≤◌, ◌+◌, Ok, Err, IfOk, IfErr};
+ghost use Rattle.std.specs.Prelude.{Ok, IfOk, IfErr};
 ghost use Rattle.std.specs.String.{string_bytes};
 ghost use Rattle.upp_curve.specs.Curve.{value_at};
 ghost use Rattle.upp_curve.specs.Curves.{IsCurve};
 ghost use Rattle.min_plus.specs.Functions.{IsFinite, IsNonnegative};
+ghost use Rattle.outcomes.specs.Stages.{IsEqual};
+ghost use Rattle.outcomes.specs.Spending.{SpendsSteps};
 ghost use Rattle.net_draft.specs.CurveTexts.{text_of};
 ghost use Rattle.net_draft.specs.Kept.{IsArrivalDraft};
 ghost use Rattle.net_text.specs.Becoming.{Becomes, FailsAt};
 ghost use Rattle.net_text.specs.Closing.{Closes};
-ghost use Rattle.net_text.specs.Folds.{FoldAtMost, HasTaken};
-ghost use Rattle.net_text.specs.FoldLimits.{OverFold};
+ghost use Rattle.net_text.specs.Folds.{FoldOf};
 ghost use Rattle.net_text.specs.Wants.{ArrivalWants};
 ghost use Rattle.subadd_closure.specs.FoldMemory.{CloseWants};
 ghost use Rattle.subadd_closure.specs.FoldWork.{fold_work};
@@ -35,12 +36,10 @@ fn closure_of<L: Ledger>(
     requires finite { IsFinite (value_at curve.now) }
     requires nonneg { IsNonnegative (value_at curve.now) }
     ensures own { IsCurve curve.now }
-    ensures closed { IfOk result (λ c. Closes OverFold curve.now (Ok c)) }
-    ensures over { IfErr result (FailsAt (Closes OverFold curve.now) (string_bytes place)) }
-    ensures memory { result ≡ Err DraftFault.NoMemory → CloseWants curve.now steps.old steps.new }
-    ensures rises { steps.old ≤ steps.new }
-    ensures most { steps.new ≤ steps.old + fold_work curve.now }
-    ensures exact { IfOk result (λ _. steps.new ≡ steps.old + fold_work curve.now) }
+    ensures closed { IfOk result (λ c. Closes curve.now (Ok c)) }
+    ensures over { IfErr result (FailsAt (Closes curve.now) (string_bytes place)) }
+    ensures spends { SpendsSteps (IsEqual (fold_work curve.now)) DraftFault.NoMemory (CloseWants curve.now)
+        steps.old steps.new result }
 {
     curve.keeps();
     match closed(alloc, curve, steps) {
@@ -60,15 +59,11 @@ pub(crate) fn arrival_of<L: Ledger>(
     steps: &mut Steps<L>,
 ) -> Result<Curve, DraftFault>
     requires { IsArrivalDraft flow.now.packet flow.now.arrival }
-    ensures becomes { IfOk result (λ c. Becomes OverFold flow.now.closes (text_of flow.now.arrival.text) (Ok c)) }
+    ensures becomes { IfOk result (λ c. Becomes flow.now.closes (text_of flow.now.arrival.text) (Ok c)) }
     ensures over { IfErr result
-        (FailsAt (Becomes OverFold flow.now.closes (text_of flow.now.arrival.text)) (string_bytes place)) }
-    ensures memory { result ≡ Err DraftFault.NoMemory
-        → ArrivalWants flow.now.closes (text_of flow.now.arrival.text) steps.old steps.new }
-    ensures rises { steps.old ≤ steps.new }
-    ensures most { FoldAtMost fold_work flow.now.closes (text_of flow.now.arrival.text) steps.old steps.new }
-    ensures taken { IfOk result
-        (λ _. HasTaken fold_work flow.now.closes (text_of flow.now.arrival.text) steps.old steps.new) }
+        (FailsAt (Becomes flow.now.closes (text_of flow.now.arrival.text)) (string_bytes place)) }
+    ensures spends { SpendsSteps (FoldOf flow.now.closes (text_of flow.now.arrival.text)) DraftFault.NoMemory
+        (ArrivalWants flow.now.closes (text_of flow.now.arrival.text)) steps.old steps.new result }
 {
     match &flow.arrival.made {
         Ok(curve) => {

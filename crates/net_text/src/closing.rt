@@ -1,10 +1,10 @@
 //! The closures of files.
 
-ghost use Rattle.std.specs.Prelude.{◌≡◌, ◌≤◌, ◌+◌, Err, IfOk};
 ghost use Rattle.upp_curve.specs.Curve.{value_at};
 ghost use Rattle.min_plus.specs.Functions.{IsFinite, IsNonnegative};
+ghost use Rattle.outcomes.specs.Stages.{IsEqual};
+ghost use Rattle.outcomes.specs.Spending.{SpendsSteps};
 ghost use Rattle.net_text.specs.Closing.{KeepsClosing};
-ghost use Rattle.net_text.specs.FoldLimits.{OverFold};
 ghost use Rattle.subadd_closure.specs.FoldMemory.{CloseWants};
 ghost use Rattle.subadd_closure.specs.FoldWork.{fold_work};
 
@@ -25,11 +25,8 @@ pub(crate) fn closed<L: Ledger>(
 ) -> Result<Curve, OpFault>
     requires finite { IsFinite (value_at f.now) }
     requires nonneg { IsNonnegative (value_at f.now) }
-    ensures answer { KeepsClosing OverFold f.now result }
-    ensures memory { result ≡ Err OpFault.NoMemory → CloseWants f.now steps.old steps.new }
-    ensures rises { steps.old ≤ steps.new }
-    ensures most { steps.new ≤ steps.old + fold_work f.now }
-    ensures exact { IfOk result (λ _. steps.new ≡ steps.old + fold_work f.now) }
+    ensures answer { KeepsClosing f.now result }
+    ensures spends { SpendsSteps (IsEqual (fold_work f.now)) OpFault.NoMemory (CloseWants f.now) steps.old steps.new result }
 {
     close(alloc, f, steps)
 }

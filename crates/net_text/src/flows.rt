@@ -1,17 +1,16 @@
 //! Flows.
 
-ghost use Rattle.std.specs.Prelude.{◌≡◌, ◌≤◌, ◌+◌, ℕ, map, All, Err, IfOk, IfErr};
+ghost use Rattle.std.specs.Prelude.{◌≡◌, map, All, IfOk, IfErr};
 ghost use Rattle.std.specs.List.{AllZip};
+ghost use Rattle.outcomes.specs.Spending.{SpendsSteps};
 ghost use Rattle.net_model.specs.Views.{flow_of, flows_of};
 ghost use Rattle.net_draft.specs.CurveTexts.{text_of};
 ghost use Rattle.net_draft.specs.Kept.{IsArrivalDraft};
 ghost use Rattle.net_draft.specs.Views.{flow_text};
 ghost use Rattle.net_text.specs.Built.{IsFlowOf, IsLiveFlowOf};
-ghost use Rattle.net_text.specs.Folds.{FoldAtMost, HasTaken, FoldsOf};
+ghost use Rattle.net_text.specs.Folds.{FoldOf, FoldsOf};
 ghost use Rattle.net_text.specs.Firsts.{arrivals_from, FailsArrival, FailsFirst};
-ghost use Rattle.net_text.specs.FoldLimits.{OverFold};
 ghost use Rattle.net_text.specs.Wants.{FlowWants, FlowsWant};
-ghost use Rattle.subadd_closure.specs.FoldWork.{fold_work};
 
 use crate::arrivals::arrival_of;
 use crate::limits::place_of;
@@ -41,14 +40,10 @@ fn flow_of<L: Ledger>(
     steps: &mut Steps<L>,
 ) -> Result<Flow, DraftFault>
     requires { IsArrivalDraft draft.now.packet draft.now.arrival }
-    ensures built { IfOk result (λ f. IsFlowOf OverFold (flow_text draft.now) (flow_of f)) }
-    ensures over { IfErr result (FailsArrival OverFold draft.now.closes (text_of draft.now.arrival.text) number) }
-    ensures memory { result ≡ Err DraftFault.NoMemory
-        → FlowWants draft.now.closes (text_of draft.now.arrival.text) steps.old steps.new }
-    ensures rises { steps.old ≤ steps.new }
-    ensures most { FoldAtMost fold_work draft.now.closes (text_of draft.now.arrival.text) steps.old steps.new }
-    ensures taken { IfOk result
-        (λ _. HasTaken fold_work draft.now.closes (text_of draft.now.arrival.text) steps.old steps.new) }
+    ensures built { IfOk result (λ f. IsFlowOf (flow_text draft.now) (flow_of f)) }
+    ensures over { IfErr result (FailsArrival draft.now.closes (text_of draft.now.arrival.text) number) }
+    ensures spends { SpendsSteps (FoldOf draft.now.closes (text_of draft.now.arrival.text)) DraftFault.NoMemory
+        (FlowWants draft.now.closes (text_of draft.now.arrival.text)) steps.old steps.new result }
 {
     let name = draft.name.clone()?;
     let path = path_of(alloc, &draft.path)?;
@@ -73,11 +68,10 @@ pub(crate) fn flows_of<L: Ledger>(
     steps: &mut Steps<L>,
 ) -> Result<Vec<Option<Flow>>, DraftFault>
     requires { All (λ f. IsArrivalDraft f.packet f.arrival) drafts.now }
-    ensures built { IfOk result (λ v. AllZip (IsLiveFlowOf OverFold) (map flow_text drafts.now) (flows_of v.items)) }
-    ensures over { IfErr result (FailsFirst OverFold (arrivals_from 0 (map flow_text drafts.now))) }
-    ensures memory { result ≡ Err DraftFault.NoMemory → FlowsWant (map flow_text drafts.now) steps.old steps.new }
-    ensures rises { steps.old ≤ steps.new }
-    ensures most { (t : ℕ) → FoldsOf fold_work (map flow_text drafts.now) t → steps.new ≤ steps.old + t }
+    ensures built { IfOk result (λ v. AllZip IsLiveFlowOf (map flow_text drafts.now) (flows_of v.items)) }
+    ensures over { IfErr result (FailsFirst (arrivals_from 0 (map flow_text drafts.now))) }
+    ensures spends { SpendsSteps (FoldsOf (map flow_text drafts.now)) DraftFault.NoMemory
+        (FlowsWant (map flow_text drafts.now)) steps.old steps.new result }
 {
     let mut flows = Vec::with_capacity(alloc, drafts.len())?;
     for (number, draft) in drafts.iter().enumerate() {

@@ -9,7 +9,6 @@ ghost use Rattle.net_draft.specs.Views.{server_text};
 ghost use Rattle.net_text.specs.Becoming.{BecomesItself, FailsAt};
 ghost use Rattle.net_text.specs.Built.{IsServerOf};
 ghost use Rattle.net_text.specs.Firsts.{service_place, services_from, FailsFirst};
-ghost use Rattle.net_text.specs.FoldLimits.{OverFold};
 
 use crate::limits::place_of;
 use crate::services::{kind_of, service_of};
@@ -38,7 +37,7 @@ fn server_of(alloc: Global, number: usize, draft: &ServerDraft) -> Result<Server
 pub(crate) fn servers_of(alloc: Global, drafts: &[ServerDraft]) -> Result<Vec<Server>, DraftFault>
     requires { All IsServerDraft drafts.now }
     ensures built { IfOk result (λ v. AllZip IsServerOf (map server_text drafts.now) (servers_of v.items)) }
-    ensures over { IfErr result (FailsFirst OverFold (services_from 0 (map server_text drafts.now))) }
+    ensures over { IfErr result (FailsFirst (services_from 0 (map server_text drafts.now))) }
 {
     let mut servers = Vec::with_capacity(alloc, drafts.len())?;
     for (number, draft) in drafts.iter().enumerate() {

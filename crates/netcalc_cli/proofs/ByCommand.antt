@@ -1,5 +1,5 @@
 -- What holds of the replies of each command. A new command has a case in each lemma.
-use Rattle.std.proofs.Common.{◌≡◌, ◌≢◌, ℕ, List, [], ◌∷◌, inl, inr, sym, ap, ◌∙◌}
+use Rattle.std.proofs.Common.{◌≡◌, ◌≢◌, ℕ, List, [], ◌∷◌, inl, inr, sym, ap, ◌∙◌, subst}
 use Rattle.upp_limits.specs.declared.own_limits.OverLimit.TheVariants.{TooMany, TooWide}
 use Rattle.net_model.specs.Networks.{Net}
 use Rattle.net_cells.specs.Meanings.{CellTable}
@@ -10,14 +10,14 @@ use Rattle.command_replies.specs.Replies.{Reply}
 use Rattle.command_replies.proofs.Causes.{with_reports}
 use Rattle.command_replies.proofs.OneRefusal.{equal}
 use Rattle.report_text.specs.declared.json_report.form.Form.{Form}
-use Rattle.commands.specs.FileCounts.{CountsOnFile, CountsOnRows}
+use Rattle.commands.specs.FileCounts.{IsTold, CountsOnFolds, CountsOnFile, CountsOnRows}
 use Rattle.commands.specs.analyse.OnFiles.{IsReportOf, IsReport}
 use Rattle.commands.proofs.analyse.Causes as analyse
 use Rattle.commands.proofs.analyse.OneReply as analysed
 use Rattle.commands.specs.edit.EditCounts as edit_counts
 use Rattle.commands.proofs.edit.Causes as edit_statuses
 use Rattle.commands.proofs.edit.OneReply as edited
-use Rattle.commands.proofs.edit.Promised.{reports_are_guaranteed, replies_are_complete}
+use Rattle.commands.proofs.edit.Promised.{reports_guarantee, replies_are_complete}
 use Rattle.commands.specs.simulate.RunCounts as run_counts
 use Rattle.command_replies.specs.run_findings.Statuses.{IsOfReport}
 use Rattle.commands.proofs.simulate.Causes as run
@@ -35,6 +35,7 @@ use Rattle.commands.proofs.check.OneReply as checked
 use Rattle.commands.proofs.check.Verdicts.{verdicts}
 use Rattle.commands.proofs.check.Within as admissible
 use Rattle.commands.specs.measure.MeasureCounts as measure_counts
+use Rattle.commands.proofs.measure.Counting.{burst_at}
 use Rattle.commands.specs.curve.ScriptCounts as script_counts
 use Rattle.commands.proofs.measure.Causes as measure
 use Rattle.commands.proofs.measure.OneMeasure as measured
@@ -67,7 +68,7 @@ by_command (Analyse form net) (bytes ∷ []) reply h =
 by_command (Edit form net edits) (bytes ∷ rows ∷ []) reply h =
     let k = edit_statuses.causes form net bytes edits rows reply h in
     with_reports reply k
-    (λ e. let r = k.done e in (r.0, r.1, r.2, reports_are_guaranteed form r.0 r.1 bytes rows reply r.2)) k.breach
+    (λ e. let r = k.done e in (r.0, r.1, r.2, reports_guarantee form r.0 r.1 bytes rows reply r.2)) k.breach
 by_command (Simulate net trace) (bytes ∷ rows ∷ []) reply h =
     let k = run.causes net bytes trace rows reply h in
     with_reports reply k
@@ -163,14 +164,22 @@ answer_given (Check net run) status other same h = report_given status other sam
 answer_given (Measure net trace name rate) status other same h = zero_given status other same h
 answer_given (Curve script) status other same h = zero_given status other same h
 
+told_given : (status other : ℕ) → IsGiven status other → IsTold other → IsTold status
+told_given status other same told = subst IsTold (same told.0) told
+
+-- those of the folds
+folds_at : (bytes : List ℕ) (status other old new : ℕ) → IsGiven status other → CountsOnFolds bytes status old new
+    → CountsOnFolds bytes other old new
+folds_at bytes status other old new same h =
+    record { rises = h.rises; most = h.most; all = λ told. h.all (told_given status other same told) }
+
 -- by a file, where it is so by each network
 file_counts_at : (OnNet : Net → (status old new : ℕ) → Type 0) (bytes : List ℕ) (status other old new : ℕ)
-    → ((net : Net) (between : ℕ) → OnNet net status between new → OnNet net other between new)
+    → IsGiven status other → ((net : Net) (between : ℕ) → OnNet net status between new → OnNet net other between new)
     → CountsOnFile OnNet bytes status old new → CountsOnFile OnNet bytes other old new
-file_counts_at OnNet bytes status other old new at h = record {
+file_counts_at OnNet bytes status other old new same at h = record {
   between = h.between;
-  rises = h.rises;
-  folds = h.folds;
+  folds = folds_at bytes status other old h.between same h.folds;
   refused = h.refused;
   on_net = λ net is. at net h.between (h.on_net net is);
 }
@@ -193,11 +202,8 @@ measure_counts_at : (bytes : List ℕ) (status other old new : ℕ) → IsGiven 
     → measure_counts.CountsOn bytes status old new → measure_counts.CountsOn bytes other old new
 measure_counts_at bytes status other old new same h = record {
   between = h.between;
-  rises = h.rises;
-  folds = h.folds;
-  from = h.from;
-  most = h.most;
-  report = λ zero. h.report (zero_given status other same zero);
+  folds = folds_at bytes status other old h.between same h.folds;
+  burst = burst_at status other h.between new (zero_given status other same) h.burst;
 }
 
 edits_at : (net : Net) (rows : List ℕ) (status other old new : ℕ) → IsGiven status other
@@ -232,18 +238,18 @@ script_counts_at bytes status other old new same (inr k) = inr record {
 pub counts_by_command : (command : Command) (files : List (List ℕ)) (status other old new : ℕ)
     → IsGiven status other → CountsTo command files status old new → CountsTo command files other old new
 counts_by_command (Analyse form net) (bytes ∷ []) status other old new same h =
-    file_counts_at CountsOnCells bytes status other old new
+    file_counts_at CountsOnCells bytes status other old new same
     (λ model between k. cells_at model status other between new same k) h
 counts_by_command (Edit form net edits) (bytes ∷ rows ∷ []) status other old new same h =
-    file_counts_at (λ model. edit_counts.CountsOnNet model rows) bytes status other old new
+    file_counts_at (λ model. edit_counts.CountsOnNet model rows) bytes status other old new same
     (λ model between k. edits_at model rows status other between new same k) h
 counts_by_command (Simulate net trace) (bytes ∷ rows ∷ []) status other old new same h =
-    file_counts_at (λ model. run_counts.CountsOnNet model rows) bytes status other old new
+    file_counts_at (λ model. run_counts.CountsOnNet model rows) bytes status other old new same
     (λ model between k. rows_at _ model status other between new same k) h
 counts_by_command (Exercise seed) [] status other old new same h =
     cells_at (network_of seed) status other old new same h
 counts_by_command (Check net run) (bytes ∷ rows ∷ []) status other old new same h =
-    file_counts_at (λ model. check_counts.CountsOnNet model rows) bytes status other old new
+    file_counts_at (λ model. check_counts.CountsOnNet model rows) bytes status other old new same
     (λ model between k. rows_at _ model status other between new same k) h
 counts_by_command (Measure net trace name rate) (bytes ∷ rows ∷ []) status other old new same h =
     measure_counts_at bytes status other old new same h

@@ -7,7 +7,7 @@ use Rattle.report_text.specs.declared.json_report.form.Form.{Form}
 use Rattle.command_replies.specs.Replies.{Reply, AreSame, too_long}
 use Rattle.commands.specs.edit_report.EditReport.{edit_report_in}
 use Rattle.commands.specs.edit_report.Said.{EditSaid}
-use Rattle.commands.specs.edit.EditLaws.{AreSameReports, AreAlike}
+use Rattle.commands.specs.edit.Laws.{AreSameReports, AreAlike}
 use Rattle.netcalc_cli.specs.Commands.{Command, Analyse, Edit, Simulate, Exercise, Check, Measure, Curve}
 use Rattle.netcalc_cli.specs.Commands.{files_of, AreSameTo, IsCyclic}
 use Rattle.outside.specs.Files.{FirstLong}

@@ -8,9 +8,9 @@ use Rattle.report_text.specs.CellWords.{server_name}
 use Rattle.report_text.specs.Refusals.{spaced}
 use Rattle.command_replies.specs.OnFiles.{HasCycle}
 use Rattle.command_replies.specs.Replies.{Reply, goes_round}
-use Rattle.command_replies.proofs.FirstFaults.{says}
+use Rattle.net_text.proofs.OneThing.{each_file_says_one_thing}
 use Rattle.commands.specs.edit_report.Said.{EditSaid, Refused}
-use Rattle.commands.specs.edit.EditLaws.{TellCycles, AreSaidAlike}
+use Rattle.commands.specs.edit.Laws.{TellCycles, AreSaidAlike}
 
 -- what is made of two equal things is equal
 made_of : {A B C : Type 0} (f : A → B → C) (a b : A) (c d : B) (x y : C) → x ≡ f a c → y ≡ f b d → a ≡ b → c ≡ d → x ≡ y
@@ -19,7 +19,7 @@ made_of f a b c d x y p q e g = p ∙ ap₂ f e g ∙ sym q
 -- the reply on a file whose network has a cycle
 pub one_round : (bytes : List ℕ) (x y : Reply) → HasCycle bytes x → HasCycle bytes y → x ≡ y
 one_round bytes x y h k =
-    let net : k.0 ≡ h.0 = (says bytes).one_network k.0 h.0 k.1.reads h.1.reads in
+    let net : k.0 ≡ h.0 = (each_file_says_one_thing bytes).one_network k.0 h.0 k.1.reads h.1.reads in
     let moved : IsCycle h.0 k.2.walk = subst (λ (n : Net). IsCycle n k.2.walk) net k.2.cycle in
     made_of (λ (n : Net) (walk : List ℕ). goes_round (map (server_name n) walk)) h.0 k.0 h.2.walk k.2.walk x y h.2.is k.2.is
     (sym net)

@@ -16,7 +16,7 @@ use Rattle.command_replies.specs.View.{code_of, reply_of, status_of}
 use Rattle.netcalc_cli.specs.Commands.{Command, files_of, AreSameTo, IsReplyTo, IsMalformed, IsOver, IsCyclic, TellsBreach, IsDone}
 use Rattle.netcalc_cli.specs.Commands.{Analyse, Edit, Simulate, Exercise, Check, Measure, Curve, IsAnswerable, IsAnswer, CountsTo}
 use Rattle.netcalc_cli.specs.Answered.{IsAnswered}
-use Rattle.netcalc_cli.specs.Counts.{CountsOnCommand, Counts}
+use Rattle.netcalc_cli.specs.Counts.{CountsOnCommand, CountsOnCall}
 use Rattle.outside.specs.Files.{Told, IsTooLong, FirstIs, MayHoldAll, AllFit, all_told}
 use Rattle.netcalc_cli.specs.Files.{most_bytes}
 use Rattle.netcalc_cli.specs.Reply.{IsReplyOnFiles, StandsOnFiles, FailedAt, EndsAt, MayReplyTo, Gives, Brings, GivesOnTold, AnswersWhatItCan}
@@ -108,7 +108,7 @@ no_memory : (status : ℕ) → status ≡ 5 → IsNoAnswer status
 no_memory status five = at_most_five status 4 five (omega arith)
 
 pub nothing_counted : {I : Type 0} (content : I → List ℕ → Option (List ℕ)) (asked : Option Command) (inputs : I)
-    (status steps : ℕ) → status ≡ 5 → Counts content asked inputs status steps steps
+    (status steps : ℕ) → status ≡ 5 → CountsOnCall content asked inputs status steps steps
 nothing_counted content None inputs status steps five = refl
 nothing_counted content (Some command) inputs status steps five =
     inl (no_answer command status (no_memory status five), refl)

@@ -15,11 +15,11 @@ use Rattle.command_replies.specs.Guarantee.{Guarantees}
 use Rattle.command_replies.specs.OnFiles.{IsBroken, IsOverLimit, HasCycle}
 use Rattle.commands.specs.analyse.OnFiles.{IsReplyOn, IsReportOf}
 use Rattle.commands.specs.FileCounts.{CountsOnFile}
-use Rattle.commands.specs.analyse.AnswerLaws.{IsWithinLimits}
+use Rattle.commands.specs.analyse.Laws.{IsWithinLimits}
 use Rattle.commands.specs.edit.OnEdits.{IsEditReply, IsReported}
 use Rattle.commands.specs.edit.EditCauses as edit_causes
 use Rattle.commands.specs.edit.EditCounts as edit_counts
-use Rattle.commands.specs.edit.EditLaws as edit_laws
+use Rattle.commands.specs.edit.Laws as edit_laws
 use Rattle.commands.specs.simulate.OnTraces as traces
 use Rattle.commands.specs.simulate.OnTraces.{IsRunReply, IsRunReport, IsSimulationOver}
 use Rattle.commands.specs.simulate.RunCounts as run_counts
@@ -29,18 +29,18 @@ use Rattle.command_replies.specs.run_findings.CellCounts.{CountsOnCells}
 use Rattle.command_replies.specs.run_findings.Statuses.{Keeps}
 use Rattle.exercise_load.specs.Workloads.{network_of}
 use Rattle.commands.specs.exercise.OnSeeds.{IsExerciseReply, IsSummarised, IsWide, IsCellOver}
-use Rattle.commands.specs.exercise.ExerciseLaws as exercise_laws
-use Rattle.commands.specs.exercise.ExerciseLaws.{IsQuietSummary, SummaryGuarantees}
+use Rattle.commands.specs.exercise.Laws as exercise_laws
+use Rattle.commands.specs.exercise.Laws.{IsQuietSummary, SummaryGuarantees}
 use Rattle.commands.specs.check.OnRuns as checks
 use Rattle.commands.specs.check.OnRuns.{IsCheckReply, IsCheckReport, IsCheckOver}
 use Rattle.commands.specs.check.CheckCounts as check_counts
-use Rattle.commands.specs.check.CheckLaws as check_laws
-use Rattle.commands.specs.check.CheckLaws.{IsAdmissible}
+use Rattle.commands.specs.check.Laws as check_laws
+use Rattle.commands.specs.check.Laws.{IsAdmissible}
 use Rattle.commands.specs.measure.OnMeasures.{IsMeasureReply, IsReportOf as IsMeasureReportOf}
 use Rattle.commands.specs.measure.MeasureCauses as measure_causes
 use Rattle.commands.specs.measure.MeasureCounts as measure_counts
-use Rattle.commands.specs.measure.MeasureLaws as measure_laws
-use Rattle.commands.specs.measure.MeasureLaws.{IsLeastOf}
+use Rattle.commands.specs.measure.Laws as measure_laws
+use Rattle.commands.specs.measure.Laws.{IsLeastOf}
 use Rattle.commands.specs.curve.OnScripts.{IsScriptReply, IsRefused, IsLineOver, IsAnswered}
 use Rattle.commands.specs.curve.ScriptCounts as script_counts
 use Rattle.commands.specs.curve.Laws.{IsWithinRules}

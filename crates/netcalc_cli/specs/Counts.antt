@@ -17,6 +17,6 @@ CountsOnCommand told command status old new =
     ((¬ (IsAnswer command status)) × (new ≡ old)) ⊎ CountsOnFiles told command status old new
 
 -- None where the words are not taken.
-abbrev pub Counts : {I : Type 0} → (I → List ℕ → Option (List ℕ)) → Option Command → I → (status old new : ℕ) → Type 0
-Counts content None inputs status old new = new ≡ old
-Counts content (Some command) inputs status old new = CountsOnCommand (content inputs) command status old new
+abbrev pub CountsOnCall : {I : Type 0} → (I → List ℕ → Option (List ℕ)) → Option Command → I → (status old new : ℕ) → Type 0
+CountsOnCall content None inputs status old new = new ≡ old
+CountsOnCall content (Some command) inputs status old new = CountsOnCommand (content inputs) command status old new

@@ -115,7 +115,7 @@ fn on_measured<I: Inputs, L: Ledger>(
 {
     match fetch_two(alloc, MOST_BYTES, net, trace, inputs) {
         Ok((bytes, rows)) => measure::answer_on(
-            alloc, net, &bytes, name, rate, trace, &rows, steps,
+            alloc, net, &bytes, trace, &rows, name, rate, steps,
         ),
         Err(unread) => unread_answer(alloc, FRONT, unread),
     }

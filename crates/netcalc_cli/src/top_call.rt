@@ -7,7 +7,7 @@ ghost use Rattle.upp_limits.specs.declared.own_limits.OverLimit.TheVariants as l
 ghost use Rattle.command_replies.specs.Replies.{Reply, usage, cannot_read, too_long};
 ghost use Rattle.command_replies.specs.View.{code_of};
 ghost use Rattle.netcalc_cli.specs.Commands.{files_of, names_of, IsMalformed, IsOver, IsCyclic, TellsBreach, IsDone};
-ghost use Rattle.netcalc_cli.specs.Counts.{Counts};
+ghost use Rattle.netcalc_cli.specs.Counts.{CountsOnCall};
 ghost use Rattle.outside.specs.Files.{IsTooLong, FirstIs};
 ghost use Rattle.netcalc_cli.specs.Files.{most_bytes};
 ghost use Rattle.netcalc_cli.specs.Reply.{commands, StandsOnFiles, MayReply, FailedAt};
@@ -146,15 +146,16 @@ pub fn run<I: Inputs, K: Sink, L: Ledger>(
     ensures asked_all { StandsOnFiles result →
         FetchesAll I.asked I.had (names_of (command_of (texts words.now))) inputs.old inputs.new }
 
-    // Of `analyse` and `simulate` no more steps than the operators of the folds of the file's closures, and after
-    // these the work of all cells; where the report is written, exactly that work. Of `edit` beside these no more
+    // Of `analyse` and `simulate` no more steps than the operators of the folds of the file's closures, and exactly
+    // those where the file gives a network, unless memory is wanting or the answer cannot be written; after these the
+    // work of all cells; where the report is written, exactly that work. Of `edit` beside these no more
     // than the work of the touched cells of each edit, where the edits have that work (`WorkOfEdits`): a law says that
     // they have it where the report is written, and there it is no less than that of the edits that are taken. Of
     // `check` as of `simulate`. Of `exercise` no more than the work of all cells, and where the summary is written
     // exactly that.
     // Of `measure` one step after the folds. Of `curve` those that are counted as its statements find something: one for
     // each operator that is looked at, and of a closure those of its fold.
-    ensures counts { Counts I.content (command_of (texts words.now)) inputs.old result steps.old steps.new }
+    ensures counts { CountsOnCall I.content (command_of (texts words.now)) inputs.old result steps.old steps.new }
 {
     let Some(alloc) = taken(words) else {
         return give(out, Status::Usage, USAGE.as_bytes());

@@ -1,8 +1,8 @@
 -- How operators are counted.
-use Rattle.std.proofs.Common.{◌≡◌, ℕ, ◌+◌, ◌-◌, ◌≤◌, arith, ap, refl, subst, sym}
+use Rattle.std.proofs.Common.{◌≡◌, ℕ, ◌+◌, ◌-◌, ◌≤◌, arith, ap, ◌∙◌, refl, subst, sym}
 use Rattle.std.specs.Prelude.{Result, Ok, Err, OnOk}
 use Rattle.outcomes.specs.Stages.{IsEqual}
-use Rattle.outcomes.specs.Spending.{Counts, Spends}
+use Rattle.outcomes.specs.Spending.{Counts, Spends, SpendsSteps}
 
 -- all are counted, whatever the answer
 pub counts_all : {A E : Type 0} (n old new : ℕ) (r : Result A E) → new ≡ old + n → Counts n old new r
@@ -37,10 +37,10 @@ module _ {A E S : Type 0} {count counter : S → ℕ} {lacking : E} {Ends : ℕ 
   -- an answer of a call whose work is this number
   pub spends_all : {x : A} (n : ℕ) → count new ≡ count old + n → counter new ≡ counter old
       → Spends count counter (IsEqual n) lacking Ends old new (Ok x)
-  spends_all n exact same = record {
-    exact = λ m is. subst (λ (k : ℕ). count new ≡ count old + k) is exact;
+  spends_all {x} n exact same = record {
+    counts = λ m is.
+        subst (λ (k : ℕ). Counts {E = E} k (count old) (count new) (Ok x)) is (counts_all n (count old) (count new) (Ok x) exact);
     rises = omega (arith, exact);
-    within = λ m is. let all : n ≡ m = is in omega (arith, exact, all);
     memory = λ told. absurd (let bad : ⊥ = cc in bad);
     same = same;
   }
@@ -50,9 +50,8 @@ module _ {A E S : Type 0} {count counter : S → ℕ} {lacking : E} {Ends : ℕ 
       → (fault ≡ lacking → Ends (count new - count old)) → counter new ≡ counter old
       → Spends {A = A} count counter (IsEqual n) lacking Ends old new (Err fault)
   spends_refused n fault rises within memory same = record {
-    exact = tt;
+    counts = λ m is. let all : n ≡ m = is in record { exact = tt; least = rises; most = omega (arith, within, all) };
     rises = rises;
-    within = λ m is. let all : n ≡ m = is in omega (arith, within, all);
     memory = λ told. memory (let e : fault ≡ lacking = cc in e);
     same = same;
   }
@@ -63,9 +62,8 @@ module _ {A B E F S : Type 0} {count counter : S → ℕ} {Works Others : ℕ �
   pub spends_answer : {x : A} {y : B} → Spends count counter Works lacking Ends old new (Ok x) → ((n : ℕ) → Others n → Works n)
       → Spends count counter Others wanting Places old new (Ok y)
   spends_answer h less = record {
-    exact = λ n is. h.exact n (less n is);
+    counts = λ n is. let c = h.counts n (less n is) in record { exact = c.exact; least = c.least; most = c.most };
     rises = h.rises;
-    within = λ n is. h.within n (less n is);
     memory = λ told. absurd (let bad : ⊥ = cc in bad);
     same = h.same;
   }
@@ -75,9 +73,8 @@ module _ {A B E F S : Type 0} {count counter : S → ℕ} {Works Others : ℕ �
       → Spends count counter Others wanting Places old new r
   spends_refusal {fault} h r told is less to at =
       subst (λ (s : Result B F). Spends count counter Others wanting Places old new s) (sym is) (record {
-        exact = tt;
+        counts = λ n work. let c = h.counts n (less n work) in record { exact = tt; least = c.least; most = c.most };
         rises = h.rises;
-        within = λ n work. h.within n (less n work);
         memory = λ wants. at (count new - count old) (h.memory (ap Err (to (let e : told ≡ wanting = cc in e))));
         same = h.same;
       })
@@ -85,10 +82,9 @@ module _ {A B E F S : Type 0} {count counter : S → ℕ} {Works Others : ℕ �
 -- ---- nothing is counted
 module _ {A E S : Type 0} {count counter : S → ℕ} {Works : ℕ → Type 0} {lacking : E} {Ends : ℕ → Type 0} {old : S} where
   pub spends_nothing : {x : A} → ((n : ℕ) → Works n → n ≡ 0) → Spends count counter Works lacking Ends old old (Ok x)
-  spends_nothing none = record {
-    exact = λ n work. let zero : n ≡ 0 = none n work in omega (arith, zero);
+  spends_nothing {x} none = record {
+    counts = λ n work. let zero = none n work in counts_all n (count old) (count old) (Ok x) (omega (arith, zero));
     rises = omega arith;
-    within = λ n work. omega arith;
     memory = λ told. absurd (let bad : ⊥ = cc in bad);
     same = refl;
   }
@@ -97,9 +93,89 @@ module _ {A E S : Type 0} {count counter : S → ℕ} {Works : ℕ → Type 0} {
       → Spends count counter Works lacking Ends old old r
   spends_stopped r told is memory =
       subst (λ (s : Result A E). Spends count counter Works lacking Ends old old s) (sym is) (record {
-        exact = tt;
+        counts = λ n work. record { exact = tt; least = omega arith; most = omega arith };
         rises = omega arith;
-        within = λ n work. omega arith;
         memory = λ wants. memory (let e : told ≡ lacking = cc in e) (count old - count old) (omega arith);
         same = refl;
       })
+
+-- ---- a call that is given the counter itself, whatever tells its work
+module _ {A E : Type 0} {Works : ℕ → Type 0} {lacking : E} {Ends : ℕ → Type 0} where
+  -- where it answers
+  pub spends_given : {old new : ℕ} {x : A} → ((n : ℕ) → Works n → new ≡ old + n) → old ≤ new → SpendsSteps Works lacking Ends old new (Ok x)
+  spends_given {old} {new} {x} all rises = record {
+    counts = λ n work. counts_all n old new (Ok x) (all n work);
+    rises = rises;
+    memory = λ told. absurd (let bad : ⊥ = cc in bad);
+    same = refl;
+  }
+
+  -- where it is refused
+  pub spends_told : (old new : ℕ) (r : Result A E) (told : E) → r ≡ Err told → old ≤ new → ((n : ℕ) → Works n → new ≤ old + n)
+      → (told ≡ lacking → Ends (new - old)) → SpendsSteps Works lacking Ends old new r
+  spends_told old new r told is rises most memory = record {
+    counts = λ n work. counts_refused n old new r told is rises (most n work);
+    rises = rises;
+    memory = λ wants. memory (let e : told ≡ lacking = cc in e);
+    same = refl;
+  }
+
+-- told by what tells another one's work too
+module _ {A E : Type 0} {Works Others : ℕ → Type 0} {lacking : E} {Ends Places : ℕ → Type 0} where
+  pub spends_by : {old new : ℕ} {r : Result A E} → SpendsSteps Works lacking Ends old new r → ((n : ℕ) → Others n → Works n)
+      → (Ends (new - old) → Places (new - old)) → SpendsSteps Others lacking Places old new r
+  spends_by h less at =
+      record { counts = λ n work. h.counts n (less n work); rises = h.rises; memory = λ told. at (h.memory told); same = refl }
+
+-- ---- where its work is a number
+module _ {A E : Type 0} {lacking : E} {Ends : ℕ → Type 0} where
+  -- by what it counted, whatever it answers
+  pub spends_so : (n old new : ℕ) (r : Result A E) → Counts n old new r → (r ≡ Err lacking → Ends (new - old))
+      → SpendsSteps (IsEqual n) lacking Ends old new r
+  spends_so n old new r c memory = record {
+    counts = λ m is. subst (λ (k : ℕ). Counts k old new r) is c;
+    rises = c.least;
+    memory = memory;
+    same = refl;
+  }
+
+  -- where it answers
+  pub spends_made : (n : ℕ) {old new : ℕ} {x : A} → new ≡ old + n → SpendsSteps (IsEqual n) lacking Ends old new (Ok x)
+  spends_made n {old} {new} {x} all =
+      spends_so n old new (Ok x) (counts_all n old new (Ok x) all) (λ told. absurd (let bad : ⊥ = cc in bad))
+
+  -- where it is refused
+  pub spends_fault : (n old new : ℕ) (r : Result A E) (fault : E) → r ≡ Err fault → old ≤ new → new ≤ old + n
+      → (fault ≡ lacking → Ends (new - old)) → SpendsSteps (IsEqual n) lacking Ends old new r
+  spends_fault n old new r fault is rises most memory =
+      spends_so n old new r (counts_refused n old new r fault is rises most) (λ told. memory (let e : fault ≡ lacking = cc in e))
+
+-- ---- after k operators that are counted
+-- refused by a call that is refused
+module _ {A B E F : Type 0} {lacking : E} {wanting : F} {Ends Places : ℕ → Type 0} where
+  pub spends_part : (k : ℕ) {m old mid new : ℕ} {fault : E} → mid ≡ old + k → SpendsSteps {A = A} (IsEqual m) lacking Ends mid new (Err fault)
+      → (n : ℕ) → k + m ≤ n → (r : Result B F) (told : F) → r ≡ Err told → (told ≡ wanting → fault ≡ lacking)
+      → (fault ≡ lacking → Ends (new - mid) → Places (new - old)) → SpendsSteps (IsEqual n) wanting Places old new r
+  spends_part k {m} {old} {mid} {new} {fault} before h n few r told is to at =
+      let rises : mid ≤ new = h.rises in
+      let most : new ≤ mid + m = (h.counts m refl).most in
+      spends_fault n old new r told is (omega (arith, before, rises)) (omega (arith, before, most, few))
+      (λ wants. at (to wants) (h.memory (ap Err (to wants))))
+
+module _ {A E : Type 0} {lacking : E} {Ends Places : ℕ → Type 0} where
+  -- answered as its last call is
+  pub spends_last : (k : ℕ) {m old mid new : ℕ} {r s : Result A E} → mid ≡ old + k → SpendsSteps (IsEqual m) lacking Ends mid new r → s ≡ r
+      → (n : ℕ) → k + m ≡ n → (r ≡ Err lacking → Ends (new - mid) → Places (new - old)) → SpendsSteps (IsEqual n) lacking Places old new s
+  spends_last k {m} {old} {mid} {new} {r} {s} before h same n sum at =
+      spends_so n old new s
+      (subst (λ (z : Result A E). Counts n old new z) (sym same)
+      (subst (λ (j : ℕ). Counts j old new r) sum (counts_then k m old mid new r before (h.counts m refl))))
+      (λ told. let is : r ≡ Err lacking = sym same ∙ told in at is (h.memory is))
+
+  -- with none before it
+  pub spends_as : {m old new : ℕ} {r : Result A E} → SpendsSteps (IsEqual m) lacking Ends old new r → (n : ℕ) → m ≡ n
+      → (r ≡ Err lacking → Ends (new - old) → Places (new - old)) → SpendsSteps (IsEqual n) lacking Places old new r
+  spends_as {m} {old} {new} {r} h n same at =
+      let none : old ≡ old + 0 = omega arith in
+      let sum : 0 + m ≡ n = omega (arith, same) in
+      spends_last 0 none h refl n sum at

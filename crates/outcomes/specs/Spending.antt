@@ -12,12 +12,10 @@ pub record Counts {A E : Type 0} (n old new : ℕ) (r : Result A E) : Type 0 whe
 -- memory, and Ends tells where the call ended, by how many operators it had counted by then.
 pub record Spends {A E S : Type 0} (count counter : S → ℕ) (Works : ℕ → Type 0) (lacking : E) (Ends : ℕ → Type 0) (old new : S)
     (r : Result A E) : Type 0 where
-  -- where there is an answer, the work is counted, and no more
-  pub exact : OnOk r ((n : ℕ) → Works n → count new ≡ count old + n)
-  -- what was counted before stays counted
+  -- what is counted is the work
+  pub counts : (n : ℕ) → Works n → Counts n (count old) (count new) r
+  -- what was counted before stays counted, whether or not anything tells the work
   pub rises : count old ≤ count new
-  -- where it is refused, no more than the work is counted
-  pub within : (n : ℕ) → Works n → count new ≤ count old + n
   -- want of memory has its place, so no limit of a counted operator is told as that
   pub memory : r ≡ Err lacking → Ends (count new - count old)
   -- it is the same counter that counts

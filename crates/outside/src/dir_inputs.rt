@@ -48,11 +48,15 @@ impl<R: Files + Clone + Drop> DirInputs<R> {
         self.failed.note(name.as_bytes());
     }
 
-    /// Opens a file and reads it.
+    /// Opens a file and reads it. One by a name with U+FFFD is not opened: that stands in a word for what is no text, and
+    /// the file that was meant has another name.
     fn read(&self, name: &str, most: usize, into: &mut Vec<u8>) -> Result<(), FetchFault>
         requires { into.old.items ≡ [] }
         ensures { OnOk result (length into.new.items ≤ most) }
     {
+        if name.contains(char::REPLACEMENT_CHARACTER) {
+            return Err(FetchFault::Failed);
+        }
         match fs::open(&self.rt, name) {
             Ok(mut file) => read_rest(&mut file, most, into),
             Err(_) => Err(FetchFault::Failed),

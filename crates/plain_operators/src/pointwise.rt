@@ -15,4 +15,5 @@ pub use lattice::Lattice;
 pub use levels::pos_minus;
 pub use scaling::scale;
 pub use shifts::{infinite_curve, left_window, shift};
+pub use straight::{Straight, line_curve, small_total, straight_of};
 pub use sums::sum;

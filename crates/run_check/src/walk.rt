@@ -249,16 +249,17 @@ impl Walk {
     {
         let end = run.end;
         match run.steps[place] {
-            Step::Visit {
-                server,
-                queue,
+            Step::Enter {
+                flow,
+                packet,
                 time,
-            } => Ok(self.visit(end, server, queue, time)),
-            Step::Leave {
+                bits,
+            } => self.enter(net, end, flow, packet, time, bits),
+            Step::Reach {
                 server,
                 packet,
                 time,
-            } => Ok(self.leave(net, end, &passage_of(server, packet, time))),
+            } => Ok(self.reach(net, end, &passage_of(server, packet, time))),
             Step::Work {
                 server,
                 packet,
@@ -274,17 +275,16 @@ impl Walk {
                 };
                 Ok(self.work(net, end, server, &piece))
             }
-            Step::Reach {
+            Step::Leave {
                 server,
                 packet,
                 time,
-            } => Ok(self.reach(net, end, &passage_of(server, packet, time))),
-            Step::Enter {
-                flow,
-                packet,
+            } => Ok(self.leave(net, end, &passage_of(server, packet, time))),
+            Step::Visit {
+                server,
+                queue,
                 time,
-                bits,
-            } => self.enter(net, end, flow, packet, time, bits),
+            } => Ok(self.visit(end, server, queue, time)),
         }
     }
 }

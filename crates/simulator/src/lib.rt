@@ -2,7 +2,8 @@
 #![tactic(auto)]
 
 mod fault;
-pub mod net_simulator;
 pub mod packet_sim;
 pub mod run_measures;
 pub mod sim_routes;
+
+pub use fault::SimFault;

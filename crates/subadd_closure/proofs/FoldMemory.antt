@@ -20,7 +20,7 @@ use Rattle.min_plus.specs.Functions.{zero_q, IsFinite}
 use Rattle.curve_call.specs.Calls.{Applies}
 use Rattle.outcomes.specs.Calls.{Then, goes_on, stops}
 use Rattle.subadd_closure.specs.ElementAnswers.{IsElementClosure}
-use Rattle.subadd_closure.specs.Lattices.{lattice_curve, origin_curve}
+use Rattle.subadd_closure.specs.Lattices.{origin_curve}
 use Rattle.element_envelope.specs.PieceElements.{elements_of}
 use Rattle.subadd_closure.specs.declared.part.Copies.{Copies as PartCopies}
 use Rattle.subadd_closure.specs.declared.part.Part.{Part}
@@ -30,21 +30,13 @@ use Rattle.subadd_closure.specs.FoldMemory.{PartWants, StopsAt, StopsAfter, Firs
 use Rattle.subadd_closure.specs.FoldWork.{copies_work, part_work, parts_work}
 use Rattle.subadd_closure.specs.PartStars.{turn_of}
 use Rattle.subadd_closure.specs.StartsAt.{StartsAt}
-use Rattle.subadd_closure.specs.Stars.{answers, wants, Copies, StarWants, ElementWants}
+use Rattle.subadd_closure.specs.Stars.{answers, wants, Copies, CopiesWant, StarWants, ElementWants}
 use Rattle.subadd_closure.proofs.FirstElements.{elements_begin}
 use Rattle.subadd_closure.proofs.FoldStars.{went_on, same_ok}
 use Rattle.subadd_closure.proofs.OneFold.{one_closure}
 use Rattle.subadd_closure.proofs.SegmentLimits.{number_early}
 
 -- ---- one call
--- what `?` hands on is the fault that was there
-pub same_want : {B : Type 0} (r : Result B OpFault) (y e : OpFault) → r ≡ Err y → y ≡ e → r ≡ Err NoMemory
-    → ◌≡◌ {A = Result SpecCurve OpFault} (Err e) (Err NoMemory)
-same_want {B} r y e is same want =
-    let both : ◌≡◌ {A = Result B OpFault} (Err y) (Err NoMemory) = sym is ∙ want in
-    let one : e ≡ NoMemory = cc in
-    ap Err one
-
 -- of a call whose answer is handed on as it is
 pub call_wants : (op : OpKind) (f g : SpecCurve) (r s : Result SpecCurve OpFault) → s ≡ r → KeepsLimits op f g r
     → s ≡ Err NoMemory → Applies op f g (Err NoMemory)
@@ -60,77 +52,69 @@ then_wants f g v r (stops e a is) want =
     subst (λ z. Applies Convolve f g (Err z)) one a
 
 -- ---- the star of an element
-pub first_wants : (turn : Option (ℚ × ℚ)) (p : ℚ × ℚ) (c : SpecCurve) (old new : ℕ) → turn ≡ Some p → new ≤ old + 1
-    → (new ≡ old + 1 → Applies Convolve c (lattice_curve p.0 p.1) (Err NoMemory)) → StarWants turn c old new
-first_wants turn p c old new e most h =
-    subst (λ z. StarWants z c old new) (sym e) (h, λ two. absurd (omega (arith, most, two)))
+pub first_wants : (turn : Option (ℚ × ℚ)) (p : ℚ × ℚ) (c : SpecCurve) (n : ℕ) → turn ≡ Some p → n ≤ 1 → CopiesWant p c n
+    → StarWants turn c n
+first_wants turn p c n e most h = subst (λ z. StarWants z c n) (sym e) (h, λ two. absurd (omega (arith, most, two)))
 
-lowered_wants : (p : ℚ × ℚ) (c d : SpecCurve) (old between new : ℕ) → between ≡ old + 1
-    → Copies p c (Ok d) → StarWants None d between new → StarWants (Some p) c old new
-lowered_wants p c d old between new one (answers a) h =
-    (λ k. a.within, λ two. (d, a, h (omega (arith, one, two))))
-lowered_wants p c d old between new one (wants is) h = absurd cc
+lowered_wants : (p : ℚ × ℚ) (c d : SpecCurve) (k n : ℕ) → n ≡ 1 + k → Copies p c (Ok d) → StarWants None d k → StarWants (Some p) c n
+lowered_wants p c d k n one (answers a) h = (λ first. a.within, λ two. (d, a, h (omega (arith, one, two))))
+lowered_wants p c d k n one (wants is) h = absurd cc
 
-pub second_wants : (turn : Option (ℚ × ℚ)) (p : ℚ × ℚ) (c d : SpecCurve) (old between new : ℕ) → turn ≡ Some p
-    → between ≡ old + 1 → Copies p c (Ok d) → StarWants None d between new → StarWants turn c old new
-second_wants turn p c d old between new e one a h =
-    subst (λ z. StarWants z c old new) (sym e) (lowered_wants p c d old between new one a h)
+pub second_wants : (turn : Option (ℚ × ℚ)) (p : ℚ × ℚ) (c d : SpecCurve) (k n : ℕ) → turn ≡ Some p → n ≡ 1 + k
+    → Copies p c (Ok d) → StarWants None d k → StarWants turn c n
+second_wants turn p c d k n e one a h = subst (λ z. StarWants z c n) (sym e) (lowered_wants p c d k n one a h)
 
 -- before any call
-none_star : (p : Option (ℚ × ℚ)) (c : SpecCurve) (old new : ℕ) → new ≡ old → StarWants p c old new
-none_star None c old new is = λ one. absurd (omega (arith, is, one))
-none_star (Some p) c old new is = (λ one. absurd (omega (arith, is, one)), λ two. absurd (omega (arith, is, two)))
+none_star : (p : Option (ℚ × ℚ)) (c : SpecCurve) (n : ℕ) → n ≡ 0 → StarWants p c n
+none_star None c n none = λ one. absurd (omega (arith, none, one))
+none_star (Some p) c n none = (λ one. absurd (omega (arith, none, one)), λ two. absurd (omega (arith, none, two)))
 
-pub no_call : (p : Option (ℚ × ℚ)) (e : Element) (old new : ℕ) → new ≡ old → ElementWants p e old new
-no_call p e old new is c closed = none_star p c old new is
+pub no_call : (p : Option (ℚ × ℚ)) (e : Element) (n : ℕ) → n ≡ 0 → ElementWants p e n
+no_call p e n none c closed = none_star p c n none
 
 -- there is one closure
-pub closure_wants : (p : Option (ℚ × ℚ)) (e : Element) (c : SpecCurve) (old new : ℕ) → IsElementClosure e c
-    → StarWants p c old new → ElementWants p e old new
-closure_wants p e c old new closed h d other = subst (λ z. StarWants p z old new) (one_closure e c d closed other) h
+pub closure_wants : (p : Option (ℚ × ℚ)) (e : Element) (c : SpecCurve) (n : ℕ) → IsElementClosure e c → StarWants p c n → ElementWants p e n
+closure_wants p e c n closed h d other = subst (λ z. StarWants p z n) (one_closure e c d closed other) h
 
 -- ---- one part
 cause_within : (f : SpecCurve) (o : Option ℕ) → SegmentCause f o NoMemory → SegmentWithin f o
 cause_within f None h = tt
 cause_within f (Some n) h = h
 
-pub part_wants : (f : SpecCurve) (e d : Element) (turn : Option (ℚ × ℚ)) (old new : ℕ) → e ≡ d
-    → turn ≡ turn_of (copies_of f.tail e) → new ≤ old + part_work (part_of f.tail e)
-    → SegmentWithin f (segment_number d) → ElementWants turn d old new → PartWants f (part_of f.tail e) old new
-part_wants f e d turn old new same is most within h = record {
+pub part_wants : (f : SpecCurve) (e d : Element) (turn : Option (ℚ × ℚ)) (n : ℕ) → e ≡ d
+    → turn ≡ turn_of (copies_of f.tail e) → n ≤ part_work (part_of f.tail e)
+    → SegmentWithin f (segment_number d) → ElementWants turn d n → PartWants f (part_of f.tail e) n
+part_wants f e d turn n same is most within h = record {
   most = most;
   segment = subst (λ z. SegmentWithin f (segment_number z)) (sym same) within;
-  calls = subst (λ z. ElementWants (turn_of (copies_of f.tail e)) z old new) (sym same) (subst (λ t. ElementWants t d old new) is h);
+  calls = subst (λ z. ElementWants (turn_of (copies_of f.tail e)) z n) (sym same) (subst (λ t. ElementWants t d n) is h);
 }
 
 -- where the operator of its segment was refused
 pub segment_wants : (f : SpecCurve) (e d : Element) (fault : OpFault) (n : ℕ) → e ≡ d
-    → SegmentCause f (segment_number d) fault → ◌≡◌ {A = Result SpecCurve OpFault} (Err fault) (Err NoMemory)
-    → PartWants f (part_of f.tail e) n n
-segment_wants f e d fault n same cause want =
-    let one : fault ≡ NoMemory = cc in
-    part_wants f e d (turn_of (copies_of f.tail e)) n n same refl (omega arith)
-    (cause_within f (segment_number d) (subst (λ z. SegmentCause f (segment_number d) z) one cause))
-    (no_call (turn_of (copies_of f.tail e)) d n n refl)
+    → SegmentCause f (segment_number d) fault → fault ≡ NoMemory → n ≡ 0 → PartWants f (part_of f.tail e) n
+segment_wants f e d fault n same cause want none =
+    part_wants f e d (turn_of (copies_of f.tail e)) n same refl (omega (arith, none))
+    (cause_within f (segment_number d) (subst (λ z. SegmentCause f (segment_number d) z) want cause))
+    (no_call (turn_of (copies_of f.tail e)) d n none)
 
 -- where all calls on it are counted and made
-made_star : (o : Option PartCopies) (c s : SpecCurve) (old new : ℕ) → Then (CopiedAnswer o c) LoweredAnswer (Ok s)
-    → new ≡ old + copies_work o → StarWants (turn_of o) c old new
-made_star None c s old new a is =
+made_star : (o : Option PartCopies) (c s : SpecCurve) (n : ℕ) → Then (CopiedAnswer o c) LoweredAnswer (Ok s)
+    → n ≡ copies_work o → StarWants (turn_of o) c n
+made_star None c s n a is =
     let (d, same, low) = went_on (CopiedAnswer None c) LoweredAnswer s a in
     λ one. subst (λ z. Applies Min z origin_curve (Err NoMemory)) (same_ok (Ok d) d c refl same) low.within
-made_star (Some k) c s old new a is =
+made_star (Some k) c s n a is =
     let (d, all, low) = went_on (CopiedAnswer (Some k) c) LoweredAnswer s a in
     (λ one. all.within, λ two. (d, all, low.within))
 
-pub made_wants : (f : SpecCurve) (p : Part) (s : SpecCurve) (old new : ℕ) → PartAnswer f p (Ok s)
-    → new ≡ old + part_work p → PartWants f p old new
-made_wants f p s old new made is =
+pub made_wants : (f : SpecCurve) (p : Part) (s : SpecCurve) (n : ℕ) → PartAnswer f p (Ok s) → n ≡ part_work p → PartWants f p n
+made_wants f p s n made is =
     let (c, closed, a) = went_on (ElementAnswer f p.element) (λ z. Then (CopiedAnswer p.copies z) LoweredAnswer) s made in
     record {
       most = omega (arith, is);
       segment = closed.0;
-      calls = closure_wants (turn_of p.copies) p.element c old new closed.1 (made_star p.copies c s old new a is);
+      calls = closure_wants (turn_of p.copies) p.element c n closed.1 (made_star p.copies c s n a is);
     }
 
 -- ---- the segment of the part after some
@@ -153,14 +137,14 @@ later_within f es i e h is within =
     subst (λ z. FirstWithin f (map (part_of f.tail) z)) (sym (drop_more es i e h ∙ ap (λ z. z ∷ drop (i + 1) es) (sym is))) within
 
 -- ---- the parts in their order
-pub after_parts : (f s : SpecCurve) (before : List Part) (p : Part) (old between new : ℕ) → PartsAnswer f before (Ok s)
-    → between ≡ old + parts_work before → StopsAt f s p between new → StopsAfter f before p old new
-after_parts f s [] p old between new made is h = absurd made
-after_parts f s (q ∷ qs) p old between new made is h = (s, made, subst (λ k. StopsAt f s p k new) is h)
+pub after_parts : (f s : SpecCurve) (before : List Part) (p : Part) (more n : ℕ) → PartsAnswer f before (Ok s)
+    → n ≡ parts_work before + more → StopsAt f s p more → StopsAfter f before p n
+after_parts f s [] p more n made is h = absurd made
+after_parts f s (q ∷ qs) p more n made is h = record { sofar = s; made = made; more = more; counted = is; stops = h }
 
 -- before the first part
-pub none_wants : (c : SpecCurve) (n : ℕ) → IsRaw c → IsFinite (value_at c) → CloseWants c n n
-none_wants c n raw finite =
+pub none_wants : (c : SpecCurve) (n : ℕ) → n ≡ 0 → IsRaw c → IsFinite (value_at c) → CloseWants c n
+none_wants c n none raw finite =
     let (v, at) = finite zero_q (le_refl zero_q) in
     let b = elements_begin c v raw finite at in
     let first = part_of c.tail (Point b.start v) in
@@ -172,9 +156,9 @@ none_wants c n raw finite =
       after = map (part_of c.tail) (Open b.start b.end b.line ∷ b.others);
       are = all;
       stops = record {
-        most = omega arith;
+        most = omega (arith, none);
         segment = tt;
-        calls = no_call (turn_of first.copies) first.element n n refl;
+        calls = no_call (turn_of first.copies) first.element n none;
       };
       next = λ counted. start_within c b.start b.end b.line (subst (λ z. z ≤ℚ zero_q) (sym b.at_zero) (le_refl zero_q));
     }

@@ -55,13 +55,13 @@ module _ (f : SpecCurve) (es : List Element) (e : Element) (L : IsLast f es e) w
       let work = work_more (map (part_of f.tail) (take (length es - 1) es)) (part_of f.tail e) L.some in
       omega (arith, a, b, c, all, work)
 
-  pub last_wants : (s : SpecCurve) (old sofar new : ℕ) → PartsAnswer f (map (part_of f.tail) (take (length es - 1) es)) (Ok s)
-      → sofar ≡ old + parts_work (map (part_of f.tail) (take (length es - 1) es)) → StopsAt f s (part_of f.tail e) sofar new → CloseWants f old new
-  last_wants s old sofar new made is stops = record {
+  pub last_wants : (s : SpecCurve) (more n : ℕ) → PartsAnswer f (map (part_of f.tail) (take (length es - 1) es)) (Ok s)
+      → n ≡ parts_work (map (part_of f.tail) (take (length es - 1) es)) + more → StopsAt f s (part_of f.tail e) more → CloseWants f n
+  last_wants s more n made is stops = record {
     before = map (part_of f.tail) (take (length es - 1) es);
     part = part_of f.tail e;
     after = [];
     are = L.are;
-    stops = after_parts f s (map (part_of f.tail) (take (length es - 1) es)) (part_of f.tail e) old sofar new made is stops;
+    stops = after_parts f s (map (part_of f.tail) (take (length es - 1) es)) (part_of f.tail e) more n made is stops;
     next = λ counted. tt;
   }

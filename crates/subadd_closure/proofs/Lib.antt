@@ -60,5 +60,6 @@ pub mod SumCurves
 pub mod ZeroCalls
 pub mod ZeroStars
 pub mod LastElements
+pub mod BelowWalk
 pub mod OrderedCurves
 pub mod OrderedWindows

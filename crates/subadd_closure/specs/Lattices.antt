@@ -3,7 +3,6 @@
 use Rattle.std.specs.Prelude.{◌≡◌, [], ◌∷◌, None}
 use Rattle.rational.specs.Rational.{ℚ, ◌≤ℚ◌, ◌<ℚ◌}
 use Rattle.rational.specs.declared.Extended.TheVariants.{Fin}
-use Rattle.upp_curve.specs.declared.affine_segment.line.Piece.{Piece}
 use Rattle.upp_curve.specs.declared.curve.Tail.TheVariants.{Periodic}
 use Rattle.upp_curve.specs.Curve.{SpecCurve, value_at}
 use Rattle.min_plus.specs.Functions.{zero_q}
@@ -11,14 +10,10 @@ use Rattle.min_plus.specs.closure_laws.Star.{origin}
 use Rattle.min_plus.specs.closure_laws.ClosureLaws.{IsLattice}
 use Rattle.subadd_closure.specs.ElementCurves.{point_at_zero}
 
--- a time as the value there, and infinity past it
-abbrev pub time_itself : ℚ → Piece
-time_itself x = record { x = x; at = Fin x; line = None }
-
 -- n c at n d for each natural n
 abbrev pub lattice_curve : ℚ → ℚ → SpecCurve
 lattice_curve d c = record {
-  pieces = time_itself zero_q ∷ [];
+  pieces = record { x = zero_q; at = Fin zero_q; line = None } ∷ [];
   tail = Periodic zero_q d c;
 }
 

@@ -12,6 +12,8 @@ use Rattle.upp_curve.specs.Curve.{SpecCurve, value_at}
 use Rattle.upp_limits.specs.Limits.{Sizes}
 use Rattle.upp_limits.specs.Sized.{grid_of, times_largest}
 use Rattle.curve_call.specs.Ever.{IsBelowFrom}
+use Rattle.curve_call.specs.declared.gaps.Gap.{Gap}
+use Rattle.curve_call.specs.declared.gaps.Gap.TheVariants.{NoTime, Never, Is}
 use Rattle.curve_call.specs.Gaps.{InWindow}
 use Rattle.subadd_closure.specs.declared.ordered.Repetition.{Repetition}
 
@@ -19,6 +21,12 @@ use Rattle.subadd_closure.specs.declared.ordered.Repetition.{Repetition}
 -- f is nowhere above g from one time up to another
 abbrev pub IsBelowIn : (ℚ → Ext) → (ℚ → Ext) → ℚ → ℚ → Type 0
 IsBelowIn f g from end = (t : ℚ) → InWindow from end t → f t ≤ₑ g t
+
+-- a gap is that of a function which is nowhere above another
+abbrev pub IsNoneAbove : Gap → Type 0
+IsNoneAbove NoTime = Unit {0}
+IsNoneAbove Never = ⊥
+IsNoneAbove (Is q) = q ≤ℚ zero_q
 
 -- u is from 0 on and at most `from`, and on each grid on which that and the period are
 pub record IsTimeBy (from own u : ℚ) : Type 0 where

@@ -1,6 +1,6 @@
 -- The calls that make the star of an element of a curve: its closure, in a periodic tail with all copies, lowered by
 -- the point 0 at 0. Own choice.
-use Rattle.std.specs.Prelude.{◌≡◌, ℕ, ◌+◌, Option, Some, None, Result, Ok, Err}
+use Rattle.std.specs.Prelude.{◌≡◌, ℕ, Option, Some, None, Result, Ok, Err}
 use Rattle.rational.specs.Rational.{ℚ, ◌/ℚ◌, ◌<ℚ◌}
 use Rattle.rational.specs.Ratio.{IsSmall}
 use Rattle.upp_curve.specs.declared.affine_segment.element.Element.{Element}
@@ -47,15 +47,16 @@ turn_work None = 1
 turn_work (Some p) = 2
 
 -- ---- want of memory
--- at which of the calls on a closure it was, by how many of them are counted: the last that is counted is within its
--- limits
-abbrev pub StarWants : Option (ℚ × ℚ) → SpecCurve → (old new : ℕ) → Type 0
-StarWants None c old new = new ≡ old + 1 → Applies Min c origin_curve (Err NoMemory)
-StarWants (Some p) c old new =
-    (new ≡ old + 1 → Applies Convolve c (lattice_curve p.0 p.1) (Err NoMemory))
-    × (new ≡ old + 2 → (d : SpecCurve) × Applies Convolve c (lattice_curve p.0 p.1) (Ok d)
-    × Applies Min d origin_curve (Err NoMemory))
+-- at which of the calls on a closure it was, where n of them are counted: the last that is counted is within its limits
+abbrev pub CopiesWant : ℚ × ℚ → SpecCurve → (n : ℕ) → Type 0
+CopiesWant p c n = n ≡ 1 → Applies Convolve c (lattice_curve p.0 p.1) (Err NoMemory)
+
+abbrev pub StarWants : Option (ℚ × ℚ) → SpecCurve → (n : ℕ) → Type 0
+StarWants None c n = n ≡ 1 → Applies Min c origin_curve (Err NoMemory)
+StarWants (Some p) c n =
+    CopiesWant p c n
+    × (n ≡ 2 → (d : SpecCurve) × Applies Convolve c (lattice_curve p.0 p.1) (Ok d) × Applies Min d origin_curve (Err NoMemory))
 
 -- of those on the closure of an element
-abbrev pub ElementWants : Option (ℚ × ℚ) → Element → (old new : ℕ) → Type 0
-ElementWants p e old new = (c : SpecCurve) → IsElementClosure e c → StarWants p c old new
+abbrev pub ElementWants : Option (ℚ × ℚ) → Element → (n : ℕ) → Type 0
+ElementWants p e n = (c : SpecCurve) → IsElementClosure e c → StarWants p c n

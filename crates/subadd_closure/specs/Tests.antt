@@ -1,5 +1,5 @@
 -- The two calls that tell whether a curve is subadditive. Own choice.
-use Rattle.std.specs.Prelude.{◌≡◌, ℕ, ◌+◌, Bool, Result, Ok}
+use Rattle.std.specs.Prelude.{◌≡◌, ℕ, Bool, Result, Ok}
 use Rattle.upp_limits.specs.declared.op_kind.OpKind.TheVariants.{Min, Convolve}
 use Rattle.upp_limits.specs.declared.op_kind.OpFault.{OpFault}
 use Rattle.upp_curve.specs.Curve.{SpecCurve}
@@ -14,5 +14,5 @@ TestsSubadditive f r = Then (Applies Convolve f f) (λ c. KeepsLimits Min f c) r
 
 -- where both are counted and memory is wanting, the first has made a curve, and of it the second is within its limits:
 -- so no limit of the two is told as want of memory once they are counted
-abbrev pub TestWants : SpecCurve → (old new : ℕ) → Type 0
-TestWants f old new = new ≡ old + 2 → (c : SpecCurve) × Applies Convolve f f (Ok c) × IsWithin Min f c
+abbrev pub TestWants : SpecCurve → (n : ℕ) → Type 0
+TestWants f n = n ≡ 2 → (c : SpecCurve) × Applies Convolve f f (Ok c) × IsWithin Min f c

@@ -1,6 +1,6 @@
 //! The call of a convolution once more: its pieces below the end of its window, and by how much it rises over a period.
 
-ghost use Rattle.std.specs.Prelude.{◌≡◌, IfOk};
+ghost use Rattle.std.specs.Prelude.{◌≡◌, IfOk, IfSome};
 ghost use Rattle.rational.specs.Extended.{◌<ₑ◌};
 ghost use Rattle.upp_curve.specs.affine_segment.Reading.{read};
 ghost use Rattle.upp_curve.specs.Curve.{value_at};
@@ -11,9 +11,10 @@ ghost use Rattle.element_envelope.specs.ConvolutionWindows.{OperandWindows, IsCo
 ghost use Rattle.element_envelope.specs.PieceElements.{elements_of};
 ghost use Rattle.curve_conv.specs.ConvolveCall.{IsConvolveFrame};
 ghost use Rattle.plain_operators.specs.pointwise.Lattice.{RisesBy};
-ghost use Rattle.subadd_closure.specs.Thinned.{IsReady, MayThin};
+ghost use Rattle.subadd_closure.specs.Thinned.{AreThinnable, IsReady, MayThin};
 
 use crate::covered::covered;
+use crate::ordered::is_worth_walks;
 use crate::thinned::thinned;
 use crate::useful::useful;
 use curve_call::{Frame, rise_over};
@@ -132,6 +133,65 @@ pub(crate) fn window_of(
     let left = unrolled(f, frame.end)?;
     let right = unrolled(g, frame.end)?;
     window_between(alloc, f, g, &left, &right, frame.end, thin)
+}
+
+// As `few_window`, of which `left` and `right` are the operands' pieces.
+fn few_between(
+    alloc: Global,
+    f: &Curve,
+    g: &Curve,
+    left: &[Piece],
+    right: &[Piece],
+    end: Frac,
+) -> Result<Option<Vec<Piece>>, AllocError>
+    requires curves { IsCurve f.now × IsCurve g.now }
+    requires windows { OperandWindows end left.now right.now }
+    requires first { left.now ≡ unroll f.now end }
+    requires second { right.now ≡ unroll g.now end }
+    requires thin { AreThinnable f.now g.now }
+    ensures { IfOk result (λ o. IfSome o (λ ps. IsConvolutionWindow left.now right.now end ps.items)) }
+{
+    let ys = cut(alloc, right, Extended::Inf)?;
+    let late = thinned(alloc, left, &ys, end)?;
+    if late.len().saturating_mul(left.len()) > left.len().saturating_add(right.len()) {
+        return Ok(None);
+    }
+    let xs = cut(alloc, left, Extended::Inf)?;
+    let w = Operands {
+        f,
+        g,
+        left,
+        right,
+        xs: xs.as_slice(),
+        ys: ys.as_slice(),
+        late: late.as_slice(),
+        end,
+    };
+    let pieces = late_window(alloc, &w)?;
+    Ok(Some(pieces))
+}
+
+/// The pieces of the convolution that start below the end of the window, where `thin` is set, walks are worth their cost, and
+/// no more pairs are left to be looked at than there are pieces, so that they cost less than the walks; none elsewhere. Refused
+/// only for want of memory.
+pub(crate) fn few_window(
+    alloc: Global,
+    f: &Curve,
+    g: &Curve,
+    frame: &Frame,
+    thin: bool,
+) -> Result<Option<Vec<Piece>>, AllocError>
+    requires frame { IsConvolveFrame f.now g.now frame.now }
+    requires thin { MayThin thin f.now g.now }
+    ensures { IfOk result (λ o. IfSome o (λ ps. IsConvolutionWindow (unroll f.now frame.now.end) (unroll g.now frame.now.end)
+        frame.now.end ps.items)) }
+{
+    if !thin || !is_worth_walks(f, g, frame.end) {
+        return Ok(None);
+    }
+    let left = unrolled(f, frame.end)?;
+    let right = unrolled(g, frame.end)?;
+    few_between(alloc, f, g, &left, &right, frame.end)
 }
 
 /// By how much the slower of the two curves, and so the convolution, rises over a period.

@@ -1,6 +1,6 @@
 //! The subadditive closure of a curve: the fold of the stars of its parts.
 
-ghost use Rattle.std.specs.Prelude.{◌≡◌, ◌+◌, ◌<◌, ◌≤◌, map, length, take, IfOk, IsTrue, Err};
+ghost use Rattle.std.specs.Prelude.{◌≡◌, ◌+◌, ◌<◌, map, length, take, IfOk, IsTrue, Err};
 ghost use Rattle.rational.specs.Rational.{ℚ, ◌≤ℚ◌};
 ghost use Rattle.upp_curve.specs.Curve.{value_at};
 ghost use Rattle.min_plus.specs.Convolution.{IsSubadditive, IsSubadditiveClosure};
@@ -10,6 +10,8 @@ ghost use Rattle.upp_limits.specs.declared.op_kind.OpKind.TheVariants.{Convolve}
 ghost use Rattle.element_envelope.specs.PieceElements.{elements_of};
 ghost use Rattle.curve_call.specs.Calls.{Applies};
 ghost use Rattle.outcomes.specs.Calls.{Then};
+ghost use Rattle.outcomes.specs.Stages.{IsEqual};
+ghost use Rattle.outcomes.specs.Spending.{SpendsSteps};
 ghost use Rattle.min_plus.specs.closure_laws.ClosureLaws.{ClosureKeeps};
 ghost use Rattle.subadd_closure.specs.CurveParts.{pieces_end, part_of};
 ghost use Rattle.subadd_closure.specs.Folds.{PartAnswer, PartsAnswer, CloseAnswer};
@@ -53,13 +55,10 @@ fn with_star<L: Ledger>(
     requires subadditive { IsSubadditive (value_at sofar) }
     requires gauge { IsOwnGauge f.now gauge }
     ensures answer { Then (PartAnswer f.now (part_of f.now.tail e.now)) (λ c. Applies Convolve sofar c) result }
-    ensures memory { result ≡ Err OpFault.NoMemory
-        → StopsAt f.now sofar (part_of f.now.tail e.now) steps.old steps.new }
+    ensures spends { SpendsSteps (IsEqual (part_work (part_of f.now.tail e.now) + 1)) OpFault.NoMemory
+        (StopsAt f.now sofar (part_of f.now.tail e.now)) steps.old steps.new result }
     ensures next { result ≡ Err OpFault.NoMemory
         → steps.new ≡ steps.old + (part_work (part_of f.now.tail e.now) + 1) → IsTrue next_within }
-    ensures rises { steps.old ≤ steps.new }
-    ensures most { steps.new ≤ steps.old + (part_work (part_of f.now.tail e.now) + 1) }
-    ensures all { IfOk result (λ _. steps.new ≡ steps.old + (part_work (part_of f.now.tail e.now) + 1)) }
 {
     if leaves_as_is(f, gauge, &sofar, e) {
         // The minimum of the star and the convolution with it count as if they were made: the work is that of the fold.
@@ -88,11 +87,8 @@ fn folded<L: Ledger>(
     requires curve { IsCurve f.now }
     requires gauge { IsOwnGauge f.now gauge }
     ensures answer { PartsAnswer f.now (map (part_of f.now.tail) (take last es.now)) result }
-    ensures memory { result ≡ Err OpFault.NoMemory → CloseWants f.now steps.old steps.new }
-    ensures rises { steps.old ≤ steps.new }
-    ensures most { steps.new ≤ steps.old + parts_work (map (part_of f.now.tail) (take last es.now)) }
-    ensures all { IfOk result (λ _. steps.new ≡ steps.old
-        + parts_work (map (part_of f.now.tail) (take last es.now))) }
+    ensures spends { SpendsSteps (IsEqual (parts_work (map (part_of f.now.tail) (take last es.now)))) OpFault.NoMemory
+        (CloseWants f.now) steps.old steps.new result }
 {
     let mut sofar = element_star(alloc, f, gauge, &es[0], steps)?;
     for i in 1..last {
@@ -126,10 +122,7 @@ fn closed<L: Ledger>(
     requires nonneg { IsNonnegative (value_at f.now) }
     requires curve { IsCurve f.now }
     ensures answer { CloseAnswer f.now result }
-    ensures memory { result ≡ Err OpFault.NoMemory → CloseWants f.now steps.old steps.new }
-    ensures rises { steps.old ≤ steps.new }
-    ensures within { steps.new ≤ steps.old + fold_work f.now }
-    ensures exact { IfOk result (λ _. steps.new ≡ steps.old + fold_work f.now) }
+    ensures spends { SpendsSteps (IsEqual (fold_work f.now)) OpFault.NoMemory (CloseWants f.now) steps.old steps.new result }
 {
     let gauge = own_gauge(f);
     let last = es.len() - 1;
@@ -155,10 +148,7 @@ pub fn close<L: Ledger>(alloc: Global, f: &Curve, steps: &mut Steps<L>) -> Resul
         → IsSubadditiveClosure (value_at f.now) t (value_at h t)) }
     ensures keeps { IfOk result (λ h. ClosureKeeps (value_at f.now) (value_at h)) }
     ensures answer { CloseAnswer f.now result }
-    ensures memory { result ≡ Err OpFault.NoMemory → CloseWants f.now steps.old steps.new }
-    ensures rises { steps.old ≤ steps.new }
-    ensures within { steps.new ≤ steps.old + fold_work f.now }
-    ensures exact { IfOk result (λ _. steps.new ≡ steps.old + fold_work f.now) }
+    ensures spends { SpendsSteps (IsEqual (fold_work f.now)) OpFault.NoMemory (CloseWants f.now) steps.old steps.new result }
 {
     // Its type keeps that f is a curve.
     f.keeps();

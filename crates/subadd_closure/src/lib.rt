@@ -3,6 +3,7 @@
 #![tactic(auto)]
 
 mod again;
+mod below;
 mod closing;
 mod covered;
 mod element_laws;

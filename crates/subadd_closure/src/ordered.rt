@@ -20,9 +20,10 @@ ghost use Rattle.curve_conv.specs.LateBounds.{IsLateBounds};
 ghost use Rattle.subadd_closure.specs.Ordered.{IsBelowIn, IsOrderTime, IsOrdered, IsRepetition, IsTimeBy};
 ghost use Rattle.subadd_closure.specs.Thinned.{AreThinnable, MayThin};
 
+use crate::below::is_below;
 use crate::multiples::{less, whole_times};
 use crate::thinned::is_at_most;
-use curve_call::{Bounds, Frame, Gap, begin, period_or, rise_over, window_gap};
+use curve_call::{Bounds, Frame, begin, period_or, rise_over};
 use curve_conv::{checked_sum, is_slower_curve, periods_over};
 use fraction128::{Frac, difference, is_less};
 use rational::Extended;
@@ -46,18 +47,6 @@ pub(crate) struct Repetition {
 }
 
 // ---- from when on one curve is nowhere above the other
-// Whether a curve is known to be nowhere above another from `from` up to the end of a window.
-fn is_below(slow: &Curve, fast: &Curve, from: Frac, end: Frac) -> bool
-    requires { (z : Sizes) × HasWindow z end slow.now × HasWindow z end fast.now × IsTimeIn z end from }
-    ensures { IsTrue result → IsBelowIn (value_at slow.now) (value_at fast.now) from end }
-{
-    match window_gap(slow, fast, from, end) {
-        Gap::NoTime => true,
-        Gap::Never => false,
-        Gap::Is(gap) => is_at_most(gap, Frac::zero()),
-    }
-}
-
 // The time that is so many periods before another; none before 0.
 fn periods_before(from: Frac, own: Frac, count: u64) -> Option<Frac>
     requires { zero_q <ℚ own }
@@ -71,7 +60,8 @@ fn periods_before(from: Frac, own: Frac, count: u64) -> Option<Frac>
     Some(t)
 }
 
-// That time, where the slower curve is known to be nowhere above the faster one from it up to the end of a window.
+// That time, where the slower curve is known to be nowhere above the faster one from it up to the end of a window, as it is
+// from `soon` on.
 fn order_at(
     slow: &Curve,
     fast: &Curve,
@@ -79,14 +69,16 @@ fn order_at(
     own: Frac,
     count: u64,
     end: Frac,
+    soon: Frac,
 ) -> Option<Frac>
     requires window { (z : Sizes) × HasWindow z end slow.now × HasWindow z end fast.now × IsTimeIn z end from
         × Whole z.dt own }
     requires own { zero_q <ℚ own }
+    requires late { IsBelowIn (value_at slow.now) (value_at fast.now) soon end }
     ensures { IfSome result (IsOrderTime slow.now fast.now from own end) }
 {
     let t = periods_before(from, own, count)?;
-    if is_below(slow, fast, t, end) {
+    if is_below(slow, fast, t, end, soon) {
         return Some(t);
     }
     None
@@ -123,7 +115,7 @@ fn earliest_order(slow: &Curve, fast: &Curve, from: Frac, own: Frac, end: Frac) 
         if middle == good {
             return early;
         }
-        match order_at(slow, fast, from, own, middle, end) {
+        match order_at(slow, fast, from, own, middle, end, early) {
             Some(t) => {
                 early = t;
                 good = middle;
@@ -144,17 +136,17 @@ fn order_time(slow: &Curve, fast: &Curve, from: Frac, period: Frac, end: Frac) -
     requires end { end ≡ from +ℚ period }
     ensures { IfSome result (IsOrdered slow.now fast.now from (own_or period slow.now)) }
 {
-    if !is_below(slow, fast, from, end) {
+    if !is_below(slow, fast, from, end, end) {
         return None;
     }
     let own = period_or(slow, period);
     Some(earliest_order(slow, fast, from, own, end))
 }
 
-// Whether a window has so many pairs of pieces that a few walks over both curves cost less.
-fn is_worth_walks(slow: &Curve, fast: &Curve, end: Frac) -> bool {
-    let pairs = tally_over(&OpKind::Convolve, slow, fast, end);
-    let pieces = tally_over(&OpKind::Sum, slow, fast, end);
+/// Whether a window has so many pairs of pieces that a few walks over both curves cost less.
+pub(crate) fn is_worth_walks(f: &Curve, g: &Curve, end: Frac) -> bool {
+    let pairs = tally_over(&OpKind::Convolve, f, g, end);
+    let pieces = tally_over(&OpKind::Sum, f, g, end);
     pairs <= MOST_PAIRS && pairs / 16 >= pieces
 }
 

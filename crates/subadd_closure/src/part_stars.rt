@@ -1,8 +1,10 @@
 //! The star of a part of a curve, as the fold of the closure takes it.
 
-ghost use Rattle.std.specs.Prelude.{◌≡◌, ◌+◌, ◌≤◌, IfOk, Err};
+ghost use Rattle.std.specs.Prelude.{◌≡◌};
 ghost use Rattle.upp_curve.specs.Curve.{value_at};
 ghost use Rattle.min_plus.specs.Functions.{IsFinite, IsNonnegative};
+ghost use Rattle.outcomes.specs.Stages.{IsEqual};
+ghost use Rattle.outcomes.specs.Spending.{SpendsSteps};
 ghost use Rattle.subadd_closure.specs.CurveParts.{part_of};
 ghost use Rattle.subadd_closure.specs.Folds.{PartAnswer};
 ghost use Rattle.subadd_closure.specs.FoldMemory.{PartWants};
@@ -46,11 +48,8 @@ pub(crate) fn element_star<L: Ledger>(
     requires nonneg { IsNonnegative (value_at f.now) }
     requires gauge { IsOwnGauge f.now gauge }
     ensures answer { PartAnswer f.now (part_of f.now.tail e.now) result }
-    ensures memory { result ≡ Err OpFault.NoMemory
-        → PartWants f.now (part_of f.now.tail e.now) steps.old steps.new }
-    ensures rises { steps.old ≤ steps.new }
-    ensures most { steps.new ≤ steps.old + part_work (part_of f.now.tail e.now) }
-    ensures all { IfOk result (λ _. steps.new ≡ steps.old + part_work (part_of f.now.tail e.now)) }
+    ensures spends { SpendsSteps (IsEqual (part_work (part_of f.now.tail e.now))) OpFault.NoMemory
+        (PartWants f.now (part_of f.now.tail e.now)) steps.old steps.new result }
 {
     let turn = turn_of(f.tail(), e);
     match e {

@@ -1,7 +1,7 @@
 //! The convolution of two curves in the fold of a closure: as `convolve`, where few numbers of the curves mostly tell how
 //! many periods it needs.
 
-ghost use Rattle.std.specs.Prelude.{◌≡◌, ◌⊎◌, ◌+◌, ◌≤◌, IfOk, IfErr, IfSome, IsTrue, Err};
+ghost use Rattle.std.specs.Prelude.{◌≡◌, ◌⊎◌, ◌+◌, ℕ, IfOk, IfErr, IfSome, IsTrue};
 ghost use Rattle.rational.specs.Rational.{ℚ, ◌-ℚ◌, ◌≤ℚ◌};
 ghost use Rattle.upp_curve.specs.Curve.{value_at};
 ghost use Rattle.upp_curve.specs.Curves.{IsCurve};
@@ -10,6 +10,8 @@ ghost use Rattle.min_plus.specs.Convolution.{IsConvolution};
 ghost use Rattle.min_plus.specs.Functions.{zero_q};
 ghost use Rattle.upp_limits.specs.Outcome.{IsCauseOf, IsWithin, KeepsLimits};
 ghost use Rattle.upp_limits.specs.declared.op_kind.OpKind.TheVariants.{Convolve};
+ghost use Rattle.outcomes.specs.Stages.{IsEqual};
+ghost use Rattle.outcomes.specs.Spending.{SpendsSteps};
 ghost use Rattle.curve_call.specs.FirstWindows.{IsFirstWindow};
 ghost use Rattle.element_envelope.specs.ConvolutionWindows.{IsConvolutionWindow};
 ghost use Rattle.curve_call.specs.Frames.{IsFrame};
@@ -18,7 +20,7 @@ ghost use Rattle.curve_conv.specs.LateBounds.{IsSlowerBounds};
 ghost use Rattle.subadd_closure.specs.Ordered.{IsRepetition};
 ghost use Rattle.subadd_closure.specs.Thinned.{MayThin};
 
-use crate::again::{slower_rise, window_between, window_of};
+use crate::again::{few_window, slower_rise, window_between, window_of};
 use crate::ordered::{Repetition, early_repetition};
 use crate::quick_bounds::quick_bounds;
 use curve_call::{
@@ -192,6 +194,10 @@ fn convolved_within(
     ensures { IfOk result (λ c. (t : ℚ) → zero_q ≤ℚ t
         → IsConvolution (value_at f.now) (value_at g.now) t (value_at c t)) }
 {
+    // The walks that tell an early repetition cost more than few pairs.
+    if let Some(pieces) = few_window(alloc, f, g, frame, thin)? {
+        return curve_of(alloc, f, g, frame, pieces);
+    }
     if let Some(n) = early_repetition(f, g, frame, thin) {
         return early_convolved(alloc, f, g, frame, &n, thin);
     }
@@ -243,11 +249,8 @@ pub(crate) fn convolve_counted<L: Ledger>(
     steps: &mut Steps<L>,
 ) -> Result<Curve, OpFault>
     requires { MayThin thin f.now g.now }
-    ensures memory { result ≡ Err OpFault.NoMemory
-        → (IsTrue at_once × (steps.new ≡ steps.old + 1)) ⊎ (steps.new ≡ steps.old) }
-    ensures rises { steps.old ≤ steps.new }
-    ensures most { steps.new ≤ steps.old + 1 }
-    ensures all { IfOk result (λ _. steps.new ≡ steps.old + 1) }
+    ensures spends { SpendsSteps (IsEqual 1) OpFault.NoMemory (λ (n : ℕ). (IsTrue at_once × (n ≡ 1)) ⊎ (n ≡ 0))
+        steps.old steps.new result }
     ensures value { IfOk result (λ c. (t : ℚ) → zero_q ≤ℚ t
         → IsConvolution (value_at f.now) (value_at g.now) t (value_at c t)) }
     ensures limits { KeepsLimits Convolve f.now g.now result }

@@ -1,19 +1,18 @@
 //! The stars of a curve's elements: the closure of an element, of a periodic tail with all its copies, lowered by the
 //! point 0 at 0.
 
-ghost use Rattle.std.specs.Prelude.{◌≡◌, ◌+◌, ◌≤◌, ◌^◌, IfOk, Some, None, Err};
+ghost use Rattle.std.specs.Prelude.{◌+◌, ◌≤◌, ◌^◌, Some, None};
 ghost use Rattle.rational.specs.Rational.{◌<ℚ◌, ◌≤ℚ◌, ◌/ℚ◌};
 ghost use Rattle.rational.specs.Ratio.{IsSmall};
 ghost use Rattle.upp_curve.specs.declared.affine_segment.element.Element.TheVariants.{Point, Open};
 ghost use Rattle.min_plus.specs.Functions.{zero_q};
 ghost use Rattle.min_plus.specs.Convolution.{IsSubadditive};
 ghost use Rattle.upp_curve.specs.Curve.{value_at};
-ghost use Rattle.upp_limits.specs.declared.op_kind.OpKind.TheVariants.{Convolve};
-ghost use Rattle.curve_call.specs.Calls.{Applies};
-ghost use Rattle.subadd_closure.specs.Lattices.{lattice_curve};
+ghost use Rattle.outcomes.specs.Stages.{IsEqual};
+ghost use Rattle.outcomes.specs.Spending.{SpendsSteps};
 ghost use Rattle.upp_curve.specs.affine_segment.Fits.{LineFitsAt};
 ghost use Rattle.subadd_closure.specs.ElementAnswers.{IsOpenPart};
-ghost use Rattle.subadd_closure.specs.Stars.{Copies, ElementWants, IsPeriodAndRise, Lowers, MakesStar, StarOf, StarWants, turn_work};
+ghost use Rattle.subadd_closure.specs.Stars.{Copies, CopiesWant, ElementWants, IsPeriodAndRise, Lowers, MakesStar, StarOf, StarWants, turn_work};
 
 use crate::star_convolution::convolve_stars;
 use crate::{lattice, origin, point_closure, segment_closure};
@@ -30,10 +29,7 @@ use upp_limits::OpFault;
 // A curve lowered by the point 0 at 0.
 fn lowered<L: Ledger>(alloc: Global, c: &Curve, steps: &mut Steps<L>) -> Result<Curve, OpFault>
     ensures answer { Lowers c.now result }
-    ensures memory { result ≡ Err OpFault.NoMemory → StarWants None c.now steps.old steps.new }
-    ensures rises { steps.old ≤ steps.new }
-    ensures most { steps.new ≤ steps.old + 1 }
-    ensures all { IfOk result (λ _. steps.new ≡ steps.old + 1) }
+    ensures spends { SpendsSteps (IsEqual 1) OpFault.NoMemory (StarWants None c.now) steps.old steps.new result }
 {
     let zero = origin(alloc)?;
     intact(min(alloc, c, &zero, steps))
@@ -49,11 +45,7 @@ fn copied<L: Ledger>(
     requires turn { IsPeriodAndRise (Some turn) }
     requires subadditive { IsSubadditive (value_at c.now) }
     ensures answer { Copies turn c.now result }
-    ensures memory { result ≡ Err OpFault.NoMemory → steps.new ≡ steps.old + 1
-        → Applies Convolve c.now (lattice_curve turn.0 turn.1) (Err OpFault.NoMemory) }
-    ensures rises { steps.old ≤ steps.new }
-    ensures most { steps.new ≤ steps.old + 1 }
-    ensures all { IfOk result (λ _. steps.new ≡ steps.old + 1) }
+    ensures spends { SpendsSteps (IsEqual 1) OpFault.NoMemory (CopiesWant turn c.now) steps.old steps.new result }
 {
     let points = lattice(alloc, turn.0, turn.1)?;
     intact(convolve_stars(alloc, c, &points, true, steps))
@@ -69,10 +61,7 @@ fn star_of<L: Ledger>(
     requires turn { IsPeriodAndRise turn }
     requires subadditive { IsSubadditive (value_at c.now) }
     ensures answer { StarOf turn c.now result }
-    ensures memory { result ≡ Err OpFault.NoMemory → StarWants turn c.now steps.old steps.new }
-    ensures rises { steps.old ≤ steps.new }
-    ensures most { steps.new ≤ steps.old + turn_work turn }
-    ensures all { IfOk result (λ _. steps.new ≡ steps.old + turn_work turn) }
+    ensures spends { SpendsSteps (IsEqual (turn_work turn)) OpFault.NoMemory (StarWants turn c.now) steps.old steps.new result }
 {
     match turn {
         None => lowered(alloc, c, steps),
@@ -97,10 +86,8 @@ pub(crate) fn point_star<L: Ledger>(
     requires value { zero_q ≤ℚ v }
     requires turn { IsPeriodAndRise turn }
     ensures answer { MakesStar turn (Point x v) result }
-    ensures memory { result ≡ Err OpFault.NoMemory → ElementWants turn (Point x v) steps.old steps.new }
-    ensures rises { steps.old ≤ steps.new }
-    ensures most { steps.new ≤ steps.old + turn_work turn }
-    ensures all { IfOk result (λ _. steps.new ≡ steps.old + turn_work turn) }
+    ensures spends { SpendsSteps (IsEqual (turn_work turn)) OpFault.NoMemory (ElementWants turn (Point x v))
+        steps.old steps.new result }
 {
     let c = point_closure(alloc, x, v)?;
     star_of(alloc, &c, turn, steps)
@@ -121,10 +108,8 @@ pub(crate) fn segment_star<L: Ledger>(
     requires few { m + 3 ≤ 2 ^ 19 }
     requires turn { IsPeriodAndRise turn }
     ensures answer { MakesStar turn (Open a b line.now) result }
-    ensures memory { result ≡ Err OpFault.NoMemory → ElementWants turn (Open a b line.now) steps.old steps.new }
-    ensures rises { steps.old ≤ steps.new }
-    ensures most { steps.new ≤ steps.old + turn_work turn }
-    ensures all { IfOk result (λ _. steps.new ≡ steps.old + turn_work turn) }
+    ensures spends { SpendsSteps (IsEqual (turn_work turn)) OpFault.NoMemory (ElementWants turn (Open a b line.now))
+        steps.old steps.new result }
 {
     let c = segment_closure(alloc, a, b, line, m)?;
     star_of(alloc, &c, turn, steps)

@@ -1,8 +1,10 @@
 //! Whether a curve is subadditive.
 
-ghost use Rattle.std.specs.Prelude.{◌≡◌, ◌+◌, ◌≤◌, ◌↔◌, IfOk, IsTrue, Err};
+ghost use Rattle.std.specs.Prelude.{◌+◌, ◌≤◌, ◌↔◌, IfOk, IsTrue};
 ghost use Rattle.upp_curve.specs.Curve.{value_at};
 ghost use Rattle.min_plus.specs.Convolution.{IsSubadditive};
+ghost use Rattle.outcomes.specs.Stages.{IsEqual};
+ghost use Rattle.outcomes.specs.Spending.{SpendsSteps};
 ghost use Rattle.subadd_closure.specs.Tests.{TestsSubadditive, TestWants};
 
 use curve_call::intact;
@@ -25,10 +27,8 @@ pub fn is_subadditive<L: Ledger>(
 ) -> Result<bool, OpFault>
     ensures value { IfOk result (λ b. IsTrue b ↔ IsSubadditive (value_at f.now)) }
     ensures limits { TestsSubadditive f.now result }
-    ensures memory { result ≡ Err OpFault.NoMemory → TestWants f.now steps.old steps.new }
-    ensures least { steps.old + 1 ≤ steps.new }
-    ensures most { steps.new ≤ steps.old + 2 }
-    ensures all { IfOk result (λ _. steps.new ≡ steps.old + 2) }
+    ensures begun { steps.old + 1 ≤ steps.new }
+    ensures spends { SpendsSteps (IsEqual 2) OpFault.NoMemory (TestWants f.now) steps.old steps.new result }
 {
     let twice = intact(convolve(alloc, f, f, steps))?;
     let lower = min(alloc, f, &twice, steps)?;

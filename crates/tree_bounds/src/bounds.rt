@@ -17,7 +17,7 @@ fn row_of(network: &Network, rows: &[Vec<Option<Queue>>], node: Node) -> Option<
     requires queue { node.queue < queues_of (port_at network.now node.port).discipline }
     ensures { result ≡ row_at (items_of rows.now) node.port node.queue }
 {
-    rows[node.port][node.queue]
+    rows[node.port as usize][node.queue as usize]
 }
 
 /// The sum of a frame's delays and links to a node, where the one before takes so long.
@@ -36,13 +36,13 @@ fn bound_after(before: Option<u128>, row: Option<Queue>, link: u64) -> Option<u1
 }
 
 /// The bound of the node before; 0 where frames begin.
-fn bound_before(bounds: &[Option<u128>], from: Option<usize>) -> Option<u128>
+fn bound_before(bounds: &[Option<u128>], from: Option<u16>) -> Option<u128>
     requires { ForSome from (λ place. place < length bounds.now) }
     ensures { result ≡ time_before bounds.now from }
 {
     match from {
         None => Some(0),
-        Some(from) => bounds[from],
+        Some(from) => bounds[from as usize],
     }
 }
 
@@ -62,7 +62,7 @@ fn link_bounds(
     for node in &link.nodes {
         let before = bound_before(&bounds, node.from);
         let row = row_of(network, rows, *node);
-        bounds.push(bound_after(before, row, network.ports[node.port].link))?;
+        bounds.push(bound_after(before, row, network.ports[node.port as usize].link))?;
     }
     Ok(bounds)
 }

@@ -5,6 +5,7 @@ pub mod ListSets
 pub mod Counted
 pub mod Ready
 pub mod Released
+pub mod Taken
 pub mod Turned
 pub mod Endless
 pub mod Lates

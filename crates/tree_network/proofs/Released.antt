@@ -1,5 +1,5 @@
 -- Spots of a list are taken off what waits, one after the other.
-use Rattle.std.proofs.Common.{◌≡◌, ◌≢◌, ℕ, ◌<◌, ◌≤◌, ◌+◌, List, [], ◌∷◌, ◌++◌, length, get_or, set, take, refl, ◌∙◌, arith, length-append}
+use Rattle.std.proofs.Common.{◌≡◌, ◌≢◌, ℕ, ◌<◌, ◌≤◌, ◌+◌, List, [], ◌∷◌, ◌++◌, length, get_or, set, take, refl, ◌∙◌, arith, subst, append_assoc, length-append}
 use Rattle.std.proofs.lemmas.List.{length-set, get_or_append_left}
 use Rattle.tree_network.specs.Turns.{AreReady, Begins, count_of}
 use Rattle.tree_network.proofs.Counted.{at_most, one_less}
@@ -8,14 +8,14 @@ use Rattle.tree_network.proofs.Ready.{ready_same, ready_more}
 pub record Released (port : ℕ → ℕ) (numbers : List ℕ) (k : ℕ) (old waiting before ready : List ℕ) : Type 0 where
   pub count : length waiting ≡ length old
   pub less : (s : ℕ) → s < length old → get_or waiting s 0 + count_of port s (take k numbers) ≡ get_or old s 0
-  pub are_ready : AreReady waiting ready
+  pub are_ready : (order : List ℕ) → AreReady old (order ++ before) → AreReady waiting (order ++ ready)
   pub begins : Begins before ready
 
-pub none_released : (port : ℕ → ℕ) (numbers old before : List ℕ) → AreReady old before → Released port numbers 0 old old before before
-none_released port numbers old before r = record {
+pub none_released : (port : ℕ → ℕ) (numbers old before : List ℕ) → Released port numbers 0 old old before before
+none_released port numbers old before = record {
   count = refl;
   less = λ s h. omega arith;
-  are_ready = r;
+  are_ready = λ order r. r;
   begins = record { longer = omega arith; same = λ i h. refl };
 }
 
@@ -44,7 +44,7 @@ one_released port numbers k v old waiting before ready r h inside is left =
     record {
       count = length-set waiting p v ∙ r.count;
       less = λ s lt. one_less port waiting old numbers k v s h within is (r.less s lt);
-      are_ready = ready_same waiting ready p v within (omega (arith, is)) left r.are_ready;
+      are_ready = λ order a. ready_same waiting (order ++ ready) p v within (omega (arith, is)) left (r.are_ready order a);
       begins = r.begins;
     }
 
@@ -57,6 +57,8 @@ last_released port numbers k v old waiting before ready r h inside is none =
     record {
       count = length-set waiting p v ∙ r.count;
       less = λ s lt. one_less port waiting old numbers k v s h within is (r.less s lt);
-      are_ready = ready_more waiting ready p v within (omega (arith, is)) none r.are_ready;
+      are_ready = λ order a.
+          let P : List ℕ → Type 0 = λ xs. AreReady (set waiting p v) xs in
+          subst P (append_assoc order ready (p ∷ [])) (ready_more waiting (order ++ ready) p v within (omega (arith, is)) none (r.are_ready order a));
       begins = begins_push before ready p r.begins;
     }

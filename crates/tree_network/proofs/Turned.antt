@@ -1,5 +1,5 @@
 -- Turn by turn: each port that is done has its place, and what still waits is counted.
-use Rattle.std.proofs.Common.{◌≡◌, ◌≢◌, ℕ, zero, suc, ◌<◌, ◌≤◌, ◌+◌, ◌==◌, ◌&&◌, List, length, get_or, set, replicate, take, refl, sym, ◌∙◌, ap, subst, arith, inl, inr, Bool, true, false, not, get_or-set_same, get_or-set_other, add-zero}
+use Rattle.std.proofs.Common.{◌≡◌, ◌≢◌, ℕ, zero, suc, ◌<◌, ◌≤◌, ◌+◌, ◌==◌, ◌&&◌, List, [], ◌∷◌, ◌++◌, length, length-append, append-nil, get_or, set, replicate, take, refl, sym, ◌∙◌, ap, subst, arith, inl, inr, Bool, true, false, not, get_or-set_same, get_or-set_other, add-zero}
 use Rattle.std.proofs.lemmas.Bool.{cases_eq, cases_lt, eq-eqb, ne_eqb}
 use Rattle.std.proofs.lemmas.List.{length-set, length-replicate, get_or-replicate, get_or_default, get_or_past, length-take-le}
 use Rattle.std.proofs.Common.{get_or-take}
@@ -9,6 +9,7 @@ use Rattle.tree_network.specs.Lists.{those, is_from}
 use Rattle.tree_network.specs.Orders.{StandsAt, GoesTo, IsOrderOf}
 use Rattle.tree_network.specs.Turns.{AreReady, Begins, IsFree, IsStuck, is_late, waits_at, count_waiting, count_at}
 use Rattle.tree_network.proofs.Distinct.{few, full, many}
+use Rattle.tree_network.proofs.Taken.{was, is, count_is, count_more, front_is, taken_is, ready_taken, begins_behind, none_behind}
 use Rattle.tree_network.proofs.Those.{those_has, length_split, one_if, count_of_those, some_if_any, eq_true, of_eq, of_both}
 
 pub record Turned (spots : List Spot) (ports : ℕ) (done : List Bool) (waiting ready : List ℕ) (turn : ℕ) : Type 0 where
@@ -234,6 +235,73 @@ after_turn spots ports done waiting ready turn p less more t h is count fewer r 
               (m.0, m.1, b.same m.0 (omega (arith, m.1, lt, h)) ∙ m.2)
         ]
 
+-- ---- the last of those that are ready is taken next
+taken : (spots : List Spot) (ports : ℕ) (done : List Bool) (waiting order rest : List ℕ) (p : ℕ) → Turned spots ports done waiting (was order rest p) (length order)
+    → Turned spots ports done waiting (is order rest p) (length order)
+taken spots ports done waiting order rest p t = record {
+  marks = t.marks;
+  counts = t.counts;
+  waits = t.waits;
+  are_ready = ready_taken waiting order rest p t.are_ready;
+  reached = let count = count_is order rest p in omega (arith, count);
+  marked = λ s e. let m = t.marked s e in (m.0, m.1, front_is order rest p m.0 m.1 ∙ m.2);
+  has_mark = λ i h. ap (λ m. get_or done m false) (front_is order rest p i h) ∙ t.has_mark i h;
+  forward = λ j a h g.
+      let P : ℕ → Type 0 = λ m. GoesTo spots a m in
+      let f = t.forward j a h (subst P (front_is order rest p j h) g) in
+      (f.0, f.1, front_is order rest p f.0 (omega (arith, f.1, h)) ∙ f.2);
+}
+
+-- so many ports are done, in this order, and these are ready
+pub record Ordered (spots : List Spot) (ports : ℕ) (done : List Bool) (waiting order ready : List ℕ) (turn : ℕ) : Type 0 where
+  pub count : length order ≡ turn
+  pub turned : Turned spots ports done waiting (order ++ ready) (length order)
+
+pub none_ordered : (spots : List Spot) (ports : ℕ) (waiting order ready : List ℕ) → order ≡ [] → length waiting ≡ ports
+    → ((s : ℕ) → s < ports → get_or waiting s 0 ≡ count_waiting spots (replicate ports false) s) → AreReady waiting ready
+    → Ordered spots ports (replicate ports false) waiting order ready 0
+none_ordered spots ports waiting order ready none count waits r =
+    let P : List ℕ → Type 0 = λ xs. Ordered spots ports (replicate ports false) waiting xs ready 0 in
+    subst P (sym none) record { count = refl; turned = no_turn_yet spots ports waiting ready count waits r }
+
+-- what is known of the port that is taken, and of those before and behind it
+pub record Taken (spots : List Spot) (ports : ℕ) (done : List Bool) (waiting order rest : List ℕ) (p : ℕ) : Type 0 where
+  pub turned : Turned spots ports done waiting (is order rest p) (length order)
+  pub inside : length order < length (is order rest p)
+  pub here : p ≡ get_or (is order rest p) (length order) 0
+  pub small : p < ports
+  pub fresh : get_or done p false ≡ false
+
+pub take_last : (spots : List Spot) (ports : ℕ) (done : List Bool) (waiting order ready rest : List ℕ) (p turn : ℕ)
+    → ready ≡ rest ++ p ∷ [] → Ordered spots ports done waiting order ready turn → Taken spots ports done waiting order rest p
+take_last spots ports done waiting order ready rest p turn same o =
+    let count = count_is order rest p in
+    let inside : length order < length (is order rest p) = omega (arith, count) in
+    let here = sym (taken_is order rest p) in
+    let P : List ℕ → Type 0 = λ xs. Turned spots ports done waiting (order ++ xs) (length order) in
+    let t = taken spots ports done waiting order rest p (subst P same o.turned) in
+    let lt = t.are_ready.small (length order) inside in
+    record {
+      turned = t;
+      inside = inside;
+      here = here;
+      small = omega (arith, lt, here, t.counts);
+      fresh = ap (λ m. get_or done m false) here ∙ fresh spots ports done waiting (is order rest p) (length order) t inside;
+    }
+
+pub next_ordered : (spots : List Spot) (ports : ℕ) (done : List Bool) (waiting order ready rest : List ℕ) (p turn : ℕ) (less more : List ℕ)
+    → ready ≡ rest ++ p ∷ [] → Ordered spots ports done waiting order ready turn → length less ≡ length waiting
+    → ((s : ℕ) → s < length waiting → get_or less s 0 + count_at spots s (those (is_from spots (p + 1)) (length spots)) ≡ get_or waiting s 0)
+    → ((before : List ℕ) → AreReady waiting (before ++ rest) → AreReady less (before ++ more)) → Begins rest more
+    → Ordered spots ports (set done p true) less (order ++ p ∷ []) more (turn + 1)
+next_ordered spots ports done waiting order ready rest p turn less more same o count fewer r b =
+    let t = take_last spots ports done waiting order ready rest p turn same o in
+    let long = count_more order p in
+    let after = after_turn spots ports done waiting (is order rest p) (length order) p less (order ++ p ∷ [] ++ more) t.turned t.inside t.here count fewer
+    (r (order ++ p ∷ []) t.turned.are_ready) (begins_behind (order ++ p ∷ []) rest more b) in
+    let P : ℕ → Type 0 = λ n. Turned spots ports (set done p true) less (order ++ p ∷ [] ++ more) n in
+    record { count = omega (arith, long, o.count); turned = subst P (sym long) after }
+
 -- ---- all turns
 pub all_turns : (spots : List Spot) (ports : ℕ) (done : List Bool) (waiting ready : List ℕ) → Turned spots ports done waiting ready ports → IsOrderOf spots ports ready
 all_turns spots ports done waiting ready t = record {
@@ -261,3 +329,21 @@ all_turns spots ports done waiting ready t = record {
                 | inr l ↦ absurd (t.are_ready.once j i (omega (arith, l, other)) (omega (arith, hi, count)) (sym same))
               ]
         ]
+
+pub all_ordered : (spots : List Spot) (ports : ℕ) (done : List Bool) (waiting order ready : List ℕ) → Ordered spots ports done waiting order ready ports
+    → IsOrderOf spots ports order
+all_ordered spots ports done waiting order ready o =
+    let P : ℕ → Type 0 = λ n. Turned spots ports done waiting (order ++ ready) n in
+    let all = all_turns spots ports done waiting (order ++ ready) (subst P o.count o.turned) in
+    let long = length-append order ready in
+    let Q : List ℕ → Type 0 = λ xs. IsOrderOf spots ports xs in
+    subst Q (none_behind order ready (omega (arith, long, all.count, o.count))) all
+
+-- none is ready
+pub none_ready : (spots : List Spot) (ports : ℕ) (done : List Bool) (waiting order ready rest : List ℕ) (turn : ℕ) → ready ≡ rest ++ [] → length rest ≡ 0
+    → Ordered spots ports done waiting order ready turn → Turned spots ports done waiting order turn
+none_ready spots ports done waiting order ready rest turn same none o =
+    let P : List ℕ → Type 0 = λ xs. Turned spots ports done waiting xs turn in
+    let Q : ℕ → Type 0 = λ n. Turned spots ports done waiting (order ++ ready) n in
+    let long = ap length same ∙ ap length (append-nil rest) in
+    subst P (none_behind order ready (omega (arith, long, none))) (subst Q o.count o.turned)

@@ -37,15 +37,15 @@ pub struct Port {
     pub gate: Option<Gate>,
 }
 
-/// A port of a link's tree.
+/// A port of a link's tree. It is kept in 8 bytes, since all nodes are gone over again and again.
 #[derive(Clone, Copy)]
 pub struct Node {
     /// The number of the port.
-    pub port: usize,
+    pub port: u16,
     /// The queue of the link's frames there.
-    pub queue: usize,
+    pub queue: u8,
     /// The place in the link's `nodes` of the one from which its frames come; none where they begin.
-    pub from: Option<usize>,
+    pub from: Option<u16>,
 }
 
 /// A multicast link: frames that go over a tree of ports.

@@ -1,6 +1,6 @@
 //! An order of the ports.
 
-ghost use Rattle.std.specs.Prelude.{◌≡◌, ◌<◌, ◌≤◌, ◌+◌, ℕ, All, length, IfErr, IfOk, OnOk, false, get_or, replicate};
+ghost use Rattle.std.specs.Prelude.{◌≡◌, ◌<◌, ◌≤◌, ◌+◌, ◌++◌, ℕ, List, All, length, IfErr, IfOk, OnOk, false, get_or, replicate};
 ghost use Rattle.tree_network.specs.Networks.{IsNetwork};
 ghost use Rattle.tree_network.specs.Lists.{lists_of, number_at, ports_in, AreBySource, AreByPort};
 ghost use Rattle.tree_network.specs.Orders.{IsOrderOf, OrderOrRing};
@@ -43,7 +43,8 @@ fn idle_ports(alloc: Global, waiting: &[usize]) -> Result<Vec<usize>, AllocError
     Ok(ready)
 }
 
-/// Takes the spots off what waits, and adds each port that then waits for none.
+/// Takes the spots off what waits, and adds each port that then waits for none: with those that are done before them, the ready
+/// ones stay those that wait for none.
 fn release(
     spot_ports: &[u16],
     numbers: &[u32],
@@ -53,10 +54,9 @@ fn release(
     requires inside { All (λ n. n < length spot_ports.now) numbers.now }
     requires ports { (n : ℕ) → n < length spot_ports.now → number_at spot_ports.now n < length waiting.old.items }
     requires waits { (s : ℕ) → s < length waiting.old.items → count_of (number_at spot_ports.now) s numbers.now ≤ get_or waiting.old.items s 0 }
-    requires ready { AreReady waiting.old.items ready.old.items }
     ensures count { OnOk result (length waiting.new.items ≡ length waiting.old.items) }
     ensures less { OnOk result ((s : ℕ) → s < length waiting.old.items → get_or waiting.new.items s 0 + count_of (number_at spot_ports.now) s numbers.now ≡ get_or waiting.old.items s 0) }
-    ensures ready { OnOk result (AreReady waiting.new.items ready.new.items) }
+    ensures ready { OnOk result ((done : List ℕ) → AreReady waiting.old.items (done ++ ready.old.items) → AreReady waiting.new.items (done ++ ready.new.items)) }
     ensures more { OnOk result (Begins ready.old.items ready.new.items) }
 {
     for n in numbers {
@@ -70,7 +70,8 @@ fn release(
     Ok(())
 }
 
-/// An order in which each port comes after those from which links come to it; the ring where there is none.
+/// An order in which each port comes after those from which links come to it; the ring where there is none. Of the ports that
+/// are ready the newest is the next: so links go on while what is known of them is near.
 fn order_of(
     alloc: Global,
     spots: &[Spot],
@@ -90,15 +91,18 @@ fn order_of(
     let mut waiting = waiting_at(alloc, spots, ports)?;
     let mut ready = idle_ports(alloc, &waiting)?;
     let mut is_done = vec![in alloc; false; ports]?;
-    for turn in 0..ports {
-        if turn >= ready.len() {
-            return Err(Fault::Cycle(ring_of(alloc, spots, at, &is_done)?));
+    let mut order = Vec::with_capacity(alloc, ports)?;
+    for _turn in 0..ports {
+        match ready.pop() {
+            None => return Err(Fault::Cycle(ring_of(alloc, spots, at, &is_done)?)),
+            Some(port) => {
+                is_done[port] = true;
+                order.push(port)?;
+                release(spot_ports, &sources[port + 1], &mut waiting, &mut ready)?;
+            }
         }
-        let port = ready[turn];
-        is_done[port] = true;
-        release(spot_ports, &sources[port + 1], &mut waiting, &mut ready)?;
     }
-    Ok(ready)
+    Ok(order)
 }
 
 /// The spots of a network, by where their frames come from and by port, and an order of the ports.

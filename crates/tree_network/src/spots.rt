@@ -26,7 +26,7 @@ pub struct Spot {
 }
 
 /// Where the frames of a link's node come from: 0 where they begin, else one more than the number of the port before.
-fn source_of(link: &Link, from: Option<usize>) -> usize
+fn source_of(link: &Link, from: Option<u16>) -> usize
     requires inside { ForSome from (λ place. place < length link.now.nodes.items) }
     requires small { (k : ℕ) → k < length link.now.nodes.items → (node_at link.now k).port < 4096 }
     ensures value { result ≡ source_in link.now from }
@@ -34,12 +34,12 @@ fn source_of(link: &Link, from: Option<usize>) -> usize
 {
     match from {
         None => 0,
-        Some(place) => link.nodes[place].port + 1,
+        Some(place) => link.nodes[place as usize].port as usize + 1,
     }
 }
 
 /// The number of the spot from which frames come to the node at this place, where that of the link's first node is given.
-fn spot_before(first: usize, place: usize, from: Option<usize>) -> usize
+fn spot_before(first: usize, place: usize, from: Option<u16>) -> usize
     requires fits { first + place < 2 ^ 64 }
     requires hangs { HangsBefore place from }
     ensures value { result ≡ number_before first place from }
@@ -47,7 +47,7 @@ fn spot_before(first: usize, place: usize, from: Option<usize>) -> usize
 {
     match from {
         None => first + place,
-        Some(from) => first + from,
+        Some(from) => first + from as usize,
     }
 }
 
@@ -67,19 +67,26 @@ fn add_link(spots: &mut Vec<Spot>, link: &Link, number: usize) -> Result<(), All
         let frame = link.frame as u32;
         let from = earlier as u32;
         let own = number as u16;
-        let port = node.port as u16;
         let source = before as u16;
-        let queue = node.queue as u8;
         spots.push(Spot {
             frame,
             from,
             link: own,
-            port,
+            port: node.port,
             source,
-            queue,
+            queue: node.queue,
         })?;
     }
     Ok(())
+}
+
+/// How many nodes the links have.
+fn node_count(links: &[Link]) -> usize {
+    let mut count: usize = 0;
+    for link in links {
+        count = count.saturating_add(link.nodes.len());
+    }
+    count
 }
 
 /// The spots of the network.
@@ -87,7 +94,7 @@ pub(crate) fn spots_in_order(alloc: Global, network: &Network) -> Result<Vec<Spo
     requires { IsNetwork network.now }
     ensures { IfOk result (λ v. v.items ≡ spots_of network.now) }
 {
-    let mut spots = Vec::new(alloc);
+    let mut spots = Vec::with_capacity(alloc, node_count(&network.links))?;
     for number in 0..network.links.len() {
         add_link(&mut spots, &network.links[number], number)?;
     }

@@ -23,7 +23,7 @@ fn slow(link: u64) -> Port
 }
 
 /// A node of queue 0 of a port.
-fn node(port: usize, from: Option<usize>) -> Node
+fn node(port: u16, from: Option<u16>) -> Node
     ensures { result ≡ node_behind port from }
 {
     Node {

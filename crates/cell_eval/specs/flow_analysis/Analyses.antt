@@ -23,7 +23,7 @@ abbrev pub HasNothingElse : CellTable → List Cell → Type 0
 HasNothingElse at cells = (c : Cell) → ¬ (Contains cells c) → at c ≡ None
 
 -- a table of these cells: they have the values that their formulas answer, the equations are met, and other cells have none
-pub record IsTableOf (net : Net) (cells : List Cell) (at : CellTable) : Type 0 where
+pub record IsAnalysisOf (net : Net) (cells : List Cell) (at : CellTable) : Type 0 where
   pub meets : MeetsEquations net at
   pub answers : AnswersAll net at cells
   pub nothing : HasNothingElse at cells

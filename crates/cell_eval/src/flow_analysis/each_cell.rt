@@ -5,7 +5,7 @@ ghost use Rattle.outcomes.specs.Stages.{IsEqual};
 ghost use Rattle.outcomes.specs.Spending.{Spends};
 ghost use Rattle.net_cells.specs.Work.{work};
 ghost use Rattle.net_cells.specs.MemoryEnds.{MemoryEnds};
-ghost use Rattle.cell_eval.specs.flow_analysis.Analyses.{AreAllCells, IsTableOf, IsFirstOver, IsRefusal};
+ghost use Rattle.cell_eval.specs.flow_analysis.Analyses.{AreAllCells, IsAnalysisOf, IsFirstOver, IsRefusal};
 
 use net_cells::Cell;
 use net_cells::cell_table::{Analysis, AnalysisFault, CellValue, Evaluator, Table, refusal};
@@ -23,7 +23,7 @@ pub fn analysed<V: CellValue + Drop, E: Evaluator<V>>(
     eval: &mut E,
 ) -> Result<Analysis<V>, AnalysisFault>
     requires { AreAllCells net.now cells.now }
-    ensures table { IfOk result (λ t. IsTableOf net.now cells.now (⟦<Analysis<V> as Table<V>>⟧.at t)) }
+    ensures table { IfOk result (λ t. IsAnalysisOf net.now cells.now (⟦<Analysis<V> as Table<V>>⟧.at t)) }
     ensures refused { IfErr result (IsRefusal (IsFirstOver net.now cells.now)) }
     ensures spends { Spends E.count E.counter (IsEqual (sum_by (work net.now) cells.now)) AnalysisFault.NoMemory
         (MemoryEnds net.now cells.now) eval.old eval.new result }

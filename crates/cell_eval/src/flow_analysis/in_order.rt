@@ -8,7 +8,7 @@ ghost use Rattle.net_cells.specs.FirstOver.{FirstOver};
 ghost use Rattle.net_cells.specs.Order.{evaluation_order};
 ghost use Rattle.net_cells.specs.Work.{work};
 ghost use Rattle.net_cells.specs.MemoryEnds.{MemoryEnds};
-ghost use Rattle.cell_eval.specs.flow_analysis.Analyses.{IsTableOf, IsRefusal};
+ghost use Rattle.cell_eval.specs.flow_analysis.Analyses.{IsAnalysisOf, IsRefusal};
 
 use crate::Counted;
 use crate::flow_analysis::each_cell::analysed;
@@ -30,7 +30,7 @@ pub fn analysed_in_order<V: CellValue + Drop, E: Evaluator<V>>(
     eval: &mut E,
 ) -> Result<Analysis<V>, AnalysisFault>
     requires { IsOrder net.now order.now }
-    ensures table { IfOk result (λ t. IsTableOf net.now (evaluation_order net.now order.now)
+    ensures table { IfOk result (λ t. IsAnalysisOf net.now (evaluation_order net.now order.now)
         (⟦<Analysis<V> as Table<V>>⟧.at t)) }
     ensures refused { IfErr result (IsRefusal (FirstOver net.now order.now)) }
     ensures spends { Spends E.count E.counter (IsEqual (sum_by (work net.now) (evaluation_order net.now order.now)))
@@ -52,7 +52,7 @@ pub fn analyse<L: Ledger>(
     steps: &mut Steps<L>,
 ) -> Result<Analysis<Value>, AnalysisFault>
     requires { IsOrder net.now order.now }
-    ensures table { IfOk result (λ t. IsTableOf net.now (evaluation_order net.now order.now)
+    ensures table { IfOk result (λ t. IsAnalysisOf net.now (evaluation_order net.now order.now)
         (⟦<Analysis<Value> as Table<Value>>⟧.at t)) }
     ensures refused { IfErr result (IsRefusal (FirstOver net.now order.now)) }
     ensures spends { SpendsSteps (IsEqual (sum_by (work net.now) (evaluation_order net.now order.now)))

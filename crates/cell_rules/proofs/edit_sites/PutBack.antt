@@ -8,10 +8,9 @@ use Rattle.net_model.specs.declared.flow.Flow.{Flow}
 use Rattle.net_model.specs.declared.server.Server.{Server}
 use Rattle.net_model.specs.Networks.{Net, NetServer, NetFlow}
 use Rattle.net_model.specs.Accepted.{IsAccepted}
-use Rattle.net_model.specs.Views.{server_of, flow_of, servers_of, flows_of, net_of}
+use Rattle.net_model.specs.Views.{flow_of, servers_of, flows_of, net_of}
 use Rattle.net_cells.proofs.Lists.{contains_has}
 use Rattle.net_edits.specs.Changed as change
-use Rattle.net_edits.proofs.Replaced.{server_replaced, flow_replaced}
 use Rattle.cell_rules.specs.edit_sites.Replaced.{without_last, IsServerChanged, IsFlowChanged, IsFlowAdded}
 
 -- ---- one element
@@ -76,20 +75,6 @@ none_accepted ss fs e f =
     }
 
 -- ---- put together again
-pub server_set : (net : Net) (version : ℕ) (ss more : List Server) (fs : List (Option Flow)) (i : ℕ) (server : Server)
-    → more ≡ slice_set ss i server → version ≡ net.version → servers_of ss ≡ net.servers → flows_of fs ≡ net.flows
-    → net_of version more fs ≡ change.put_server net i (server_of server)
-server_set net version ss more fs i server is own servers flows =
-    ap (λ (xs : List Server). net_of version xs fs) is
-    ∙ server_replaced net net version ss fs i server refl own servers flows
-
-pub flow_set : (net : Net) (version : ℕ) (ss : List Server) (fs more : List (Option Flow)) (i : ℕ) (flow : Option Flow)
-    → more ≡ slice_set fs i flow → version ≡ net.version → servers_of ss ≡ net.servers → flows_of fs ≡ net.flows
-    → net_of version ss more ≡ change.put_flow net i (option_map flow_of flow)
-flow_set net version ss fs more i flow is own servers flows =
-    ap (λ (xs : List (Option Flow)). net_of version ss xs) is
-    ∙ flow_replaced net net version ss fs i flow refl own servers flows
-
 abbrev parts : ℕ → List NetServer → List (Option NetFlow) → Net
 parts n xs ys = record { version = n; servers = xs; flows = ys }
 

@@ -30,32 +30,6 @@ fn cleared<V: CellValue + Drop>(
     Ok(())
 }
 
-/// The touched cells made anew, and those that are gone taken away.
-fn changed<V: CellValue + Drop, E: Evaluator<V>>(
-    alloc: Global,
-    values: &mut Values<V>,
-    net: &Network,
-    gone: &[Cell],
-    touched: &[Cell],
-    eval: &mut E,
-) -> Result<(), AnalysisFault>
-    requires edit { IsEditOf net.now touched.now (⟦<Values<V> as Table<V>>⟧.at values.old) }
-    requires gone { AreGone net.now gone.now }
-    ensures table { OnOk result (IsEditedTable net.now gone.now touched.now
-        (⟦<Values<V> as Table<V>>⟧.at values.old) (⟦<Values<V> as Table<V>>⟧.at values.new)) }
-    ensures before { values.new.versions.kept ≡ values.old.versions.kept }
-    ensures refused { IfErr result (RefusesFor (IsFirstTouched net.now touched.now)) }
-    ensures spends { Spends E.count E.counter (IsEqual (sum_by (work net.now) touched.now)) AnalysisFault.NoMemory
-        (EditEnds net.now touched.now (⟦<Values<V> as Table<V>>⟧.at values.old)) eval.old eval.new result }
-{
-    net.keeps();
-    made_anew(alloc, values, net, touched, eval)?;
-    match cleared(values, net, gone) {
-        Ok(()) => Ok(()),
-        Err(_) => Err(AnalysisFault::NoMemory),
-    }
-}
-
 /// The values of the cells of a network, from those of the one before it, in a version of their own; the version before
 /// is kept. Refused for the first cell with an operator over a limit, or where there is no memory, with each operator that
 /// is counted within its limits; and then all is as it was. It counts the work of the touched cells, and no more than that
@@ -80,14 +54,17 @@ pub fn edited_values<V: CellValue + Drop, E: Evaluator<V>>(
     ensures spends { Spends E.count E.counter (IsEqual (sum_by (work net.now) touched.now)) AnalysisFault.NoMemory
         (EditEnds net.now touched.now (⟦<Values<V> as Table<V>>⟧.at values.old)) eval.old eval.new result }
 {
+    net.keeps();
     if let Err(_) = values.mark() {
         return Err(AnalysisFault::NoMemory);
     }
-    match changed(alloc, values, net, gone, touched, eval) {
-        Ok(()) => Ok(()),
-        Err(fault) => {
-            let _ = values.undo();
-            Err(fault)
-        }
+    if let Err(fault) = made_anew(alloc, values, net, touched, eval) {
+        let _ = values.undo();
+        return Err(fault);
     }
+    if let Err(_) = cleared(values, net, gone) {
+        let _ = values.undo();
+        return Err(AnalysisFault::NoMemory);
+    }
+    Ok(())
 }

@@ -1,11 +1,8 @@
 //! What an edit replaces, kept so that an undo can put it back.
 
-ghost use Rattle.std.specs.Prelude.{◌≡◌, IfOk, slice_set};
-ghost use Rattle.std.specs.Option.{option_map};
+ghost use Rattle.std.specs.Prelude.{◌≡◌, IfOk};
 ghost use Rattle.net_model.specs.Accepted.{IsAccepted};
 ghost use Rattle.net_model.specs.Networks.{Net};
-ghost use Rattle.net_model.specs.Views.{server_of, flow_of};
-ghost use Rattle.net_edits.specs.Changed.{put_server, put_flow};
 ghost use Rattle.cell_rules.specs.declared.site.Site.TheVariants as site;
 ghost use Rattle.cell_rules.specs.edit_sites.Sites.{Gives};
 ghost use Rattle.cell_rules.specs.edit_sites.Replaced as spec;
@@ -14,6 +11,7 @@ ghost use Rattle.cell_rules.specs.edit_sites.Replaced.{IsReplacedAt, without_las
 use crate::edit_sites::sites::{edits_are_made_at_one_site, site_of};
 use crate::site::Site;
 use net_cells::server;
+use net_edits::{copied_flow, with_flow, with_server};
 use net_model::{Edit, Flow, Network, Server};
 use std::alloc::{AllocError, Global};
 
@@ -28,15 +26,6 @@ pub enum Replaced {
     Flow(u32, Option<Flow>),
     /// There was one flow less.
     Added,
-}
-
-fn copied_flow(flow: &Option<Flow>) -> Result<Option<Flow>, AllocError>
-    ensures { IfOk result (λ f. option_map flow_of f ≡ option_map flow_of flow.now) }
-{
-    match flow {
-        None => Ok(None),
-        Some(found) => Ok(Some(found.copy()?)),
-    }
 }
 
 impl Replaced {
@@ -96,35 +85,6 @@ pub fn replaced_by(net: &Network, edit: &Edit) -> Result<Replaced, AllocError>
 }
 
 // ---- put back
-// Puts an item at a place, if there is one.
-fn set_at<T: Drop>(items: &mut Vec<T>, place: usize, item: T)
-    ensures { items.new.items ≡ slice_set items.old.items place item }
-{
-    if place < items.len() {
-        items[place] = item;
-    }
-}
-
-fn with_server(net: Network, number: u32, server: Server) -> Network
-    requires { IsAccepted (put_server net number (server_of server)) }
-    ensures { result ≡ put_server net number (server_of server) }
-{
-    let version = net.version();
-    let (mut servers, flows) = net.into_parts();
-    set_at(&mut servers, number as usize, server);
-    Network::of_version(version, servers, flows)
-}
-
-fn with_flow(net: Network, number: u32, flow: Option<Flow>) -> Network
-    requires { IsAccepted (put_flow net number (option_map flow_of flow)) }
-    ensures { result ≡ put_flow net number (option_map flow_of flow) }
-{
-    let version = net.version();
-    let (servers, mut flows) = net.into_parts();
-    set_at(&mut flows, number as usize, flow);
-    Network::of_version(version, servers, flows)
-}
-
 fn with_one_less(net: Network) -> Network
     requires { IsAccepted (without_last net) }
     ensures { result ≡ without_last net }

@@ -17,7 +17,7 @@ use Rattle.net_cells.specs.declared.cell_table.fault.AnalysisFault.TheVariants a
 use Rattle.net_edits.specs.declared.fault.EditFault.{EditFault}
 use Rattle.net_edits.specs.declared.fault.EditFault.TheVariants.{UnknownName, NameTaken, BadValue, LimitReached, Cycle, TooMany, TooWide, NothingToUndo, NoMemory}
 use Rattle.net_edits.specs.Edited.{edited}
-use Rattle.net_edits.specs.Replies.{IsReply, IsOverNone}
+use Rattle.net_edits.specs.Replies.{IsReply, IsChangeReply, IsOverNone}
 use Rattle.net_edits.proofs.OverNone.{within_none}
 use Rattle.cell_rules.specs.cell_values.Edits.{IsFirstTouched, RefusesFor}
 use Rattle.cell_rules.proofs.cell_values.Fronts.{are_touched}
@@ -125,7 +125,7 @@ pub cycle_unplanned : (present : Net) (edit : Edit) (net : Net) (why : GraphFaul
 cycle_unplanned present edit net (graph.Cycle walk) gives cycle = record { net = net; gives = gives; cycle = cycle }
 cycle_unplanned present edit net graph.NoMemory gives cycle = tt
 
-pub reply_unplanned : (present : Net) (edit : Edit) (why : EditFault) → IsReply (edited present edit) (Err why)
+pub reply_unplanned : (present : Net) (edit : Edit) (why : EditFault) → IsChangeReply present (edited present edit) (Err why)
     → IsUnplanned present edit why
 reply_unplanned present edit (UnknownName name) r = r
 reply_unplanned present edit (NameTaken name) r = r

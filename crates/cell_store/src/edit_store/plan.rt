@@ -2,32 +2,39 @@
 
 ghost use Rattle.std.specs.Prelude.{◌≡◌, ◌≢◌, ◌≤◌, length, IfOk, IfErr};
 ghost use Rattle.net_model.specs.declared.edit.Edit.TheVariants.{Undo};
+ghost use Rattle.net_model.specs.Accepted.{IsAccepted};
 ghost use Rattle.net_model.specs.Orders.{IsOrder};
+ghost use Rattle.net_edits.specs.Changed.{changed};
 ghost use Rattle.net_edits.specs.Edited.{edited};
 ghost use Rattle.net_edits.specs.Replies.{IsOverNone};
 ghost use Rattle.cell_rules.specs.Finding.{HaveSameCellsBut};
 ghost use Rattle.cell_store.specs.edit_store.Stored.{AreTouched, AreLost};
 ghost use Rattle.cell_store.specs.edit_store.Applied.{Gives, IsPlanned, IsUnplanned};
+ghost use Rattle.cell_store.specs.edit_store.Kept.{IsSameAs};
 ghost use Rattle.cell_rules.specs.edit_sites.Replaced.{put_back};
 
 use crate::edit_store::faults::graph_fault;
+use crate::edit_store::spare::Spare;
 use cell_rules::edit_sites::{
     Replaced, edits_are_made_at_one_site, edits_have_one_site, replaced_by, site_of,
 };
 use cell_rules::{Site, cells_of, gone_cells, touched_cells};
 use net_cells::Cell;
-use net_edits::{EditFault, edited_network};
+use net_edits::{Change, EditFault, change_of, changed};
 use net_model::net_graph::order;
 use net_model::{Edit, Network};
 use std::alloc::{AllocError, Global};
 
-/// An edited network, the cells that the edit touches, those that it takes away, and what it replaced.
+/// An edited network, what makes it of the present one, the cells that the edit touches, those that it takes away, and
+/// what it replaced, twice: of the present network, and of the one that is changed.
 #[derive(Drop)]
 pub(crate) struct Planned {
     pub net: Network,
+    pub change: Change,
     pub touched: Vec<Cell>,
     pub gone: Vec<Cell>,
     pub replaced: Replaced,
+    pub spared: Replaced,
 }
 
 // The cells of a network that another one lacks, where they share all others but those of a number.
@@ -91,22 +98,29 @@ fn planned_by(
     present: &Network,
     edit: &Edit,
     net: Network,
+    change: Change,
     order: &[u32],
 ) -> Result<Planned, AllocError>
     requires order { IsOrder net order.now }
     requires gives { Gives present.now edit.now net }
+    requires change { changed change present.now ≡ net }
     ensures planned { IfOk result (λ p. IsPlanned present.now edit.now p.net p.touched.items) }
+    ensures change { IfOk result (λ p. changed p.change present.now ≡ p.net) }
     ensures lost { IfOk result (λ p. AreLost present.now p.net p.gone.items) }
     ensures back { IfOk result (λ p. put_back p.replaced p.net ≡ present.now) }
+    ensures spared { IfOk result (λ p. put_back p.spared p.net ≡ present.now) }
 {
     let touched = touched_by(alloc, present, edit, &net, order)?;
     let gone = lost_cells(alloc, present, edit, &net)?;
     let replaced = replaced_by(present, edit)?;
+    let spared = replaced.copy()?;
     Ok(Planned {
         net,
+        change,
         touched,
         gone,
         replaced,
+        spared,
     })
 }
 
@@ -116,34 +130,71 @@ fn ordered_plan(
     present: &Network,
     edit: &Edit,
     net: Network,
+    change: Change,
 ) -> Result<Planned, EditFault>
-    requires { Gives present.now edit.now net }
+    requires gives { Gives present.now edit.now net }
+    requires change { changed change present.now ≡ net }
     ensures planned { IfOk result (λ p. IsPlanned present.now edit.now p.net p.touched.items) }
+    ensures change { IfOk result (λ p. changed p.change present.now ≡ p.net) }
     ensures lost { IfOk result (λ p. AreLost present.now p.net p.gone.items) }
     ensures back { IfOk result (λ p. put_back p.replaced p.net ≡ present.now) }
+    ensures spared { IfOk result (λ p. put_back p.spared p.net ≡ present.now) }
     ensures refused { IfErr result (IsUnplanned present.now edit.now) }
 {
     match order(alloc, &net) {
         Ok(servers) => {
-            let planned = planned_by(alloc, present, edit, net, &servers)?;
+            let planned = planned_by(alloc, present, edit, net, change, &servers)?;
             Ok(planned)
         }
         Err(fault) => Err(graph_fault(fault)),
     }
 }
 
+// What is put into a network, once more; and the network with it, for which the spare one is changed.
+fn made(
+    present: &Network,
+    spare: &mut Spare,
+    change: Change,
+) -> Result<(Network, Change), AllocError>
+    requires accepted { IsAccepted (changed change present.now) }
+    requires spare { IsSameAs spare.old.net present.now }
+    ensures net { IfOk result (λ made. made.0 ≡ changed change present.now) }
+    ensures change { IfOk result (λ made. changed made.1 present.now ≡ changed change present.now) }
+    ensures same { IsSameAs spare.new.net present.now }
+    ensures kept { spare.new.replaced ≡ spare.old.replaced }
+{
+    let again = change.copy()?;
+    let whole = spare.take(present)?;
+    let net = changed(whole, change)?;
+    Ok((net, again))
+}
+
 /// The network that an edit other than the undo makes of another one, with all that the edit does; refused for the first
-/// cause but a cell over a limit. Where that is want of memory, the curve that the edit makes is over no limit.
-pub(crate) fn plan(alloc: Global, present: &Network, edit: &Edit) -> Result<Planned, EditFault>
-    requires { edit.now ≢ Undo }
+/// cause but a cell over a limit. Where that is want of memory, the curve that the edit makes is over no limit. The spare
+/// network is changed for it, and stands there no more, or is as it was.
+pub(crate) fn plan(
+    alloc: Global,
+    present: &Network,
+    spare: &mut Spare,
+    edit: &Edit,
+) -> Result<Planned, EditFault>
+    requires edit { edit.now ≢ Undo }
+    requires spare { IsSameAs spare.old.net present.now }
     ensures planned { IfOk result (λ p. IsPlanned present.now edit.now p.net p.touched.items) }
+    ensures change { IfOk result (λ p. changed p.change present.now ≡ p.net) }
     ensures lost { IfOk result (λ p. AreLost present.now p.net p.gone.items) }
     ensures back { IfOk result (λ p. put_back p.replaced p.net ≡ present.now) }
+    ensures spared { IfOk result (λ p. put_back p.spared p.net ≡ present.now) }
     ensures refused { IfErr result (IsUnplanned present.now edit.now) }
     ensures memory { result ≡ Err EditFault.NoMemory → IsOverNone (edited present.now edit.now) }
+    ensures same { IsSameAs spare.new.net present.now }
+    ensures kept { spare.new.replaced ≡ spare.old.replaced }
 {
-    match edited_network(alloc, present, edit) {
-        Ok(net) => ordered_plan(alloc, present, edit, net),
+    match change_of(alloc, present, edit) {
+        Ok(change) => {
+            let (net, again) = made(present, spare, change)?;
+            ordered_plan(alloc, present, edit, net, again)
+        }
         Err(fault) => Err(fault),
     }
 }

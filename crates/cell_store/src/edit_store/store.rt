@@ -1,7 +1,10 @@
 //! The store.
 
+ghost use Rattle.std.specs.Prelude.{◌≡◌, ◌<◌, ◌++◌, ◌∷◌, [], vec_len, vec_capacity};
+
 use crate::edit_store::faults::analysis_fault;
 use crate::edit_store::plan::{Planned, plan};
+use crate::edit_store::spare::Spare;
 use cell_rules::cell_values::{Values, edited_values, made_anew};
 use cell_rules::edit_sites::{Replaced, no_network, put_back};
 use net_cells::cell_table::{AnalysisFault, CellValue, Evaluator, Table};
@@ -14,19 +17,30 @@ use std::mem::replace;
 use version_table::Versions;
 
 /// Networks, each edited from the one before, and the values of their cells: the present one can be edited, and given
-/// up for the one before. Of those before the present one it keeps what each edit replaced.
+/// up for the one before. Of those before the present one it keeps what each edit replaced; and the present one twice.
 #[derive(Drop)]
 pub struct Store<V: CellValue + Drop> {
     alloc: Global,
     replaced: Vec<Replaced>,
     present: Network,
+    spare: Spare,
     values: Values<V>,
+}
+
+// Puts what was replaced at the end of a list that has room for it.
+fn push_within_room(list: &mut Vec<Replaced>, last: Replaced)
+    requires { vec_len list.old < vec_capacity list.old }
+    ensures { list.new.items ≡ list.old.items ++ last ∷ [] }
+{
+    let Ok(()) = list.push(last) else {
+        unreachable!()
+    };
 }
 
 impl<V: CellValue + Drop> Model for Store<V> {
     ghost use Rattle.cell_store.specs.edit_store.Stored.{Stored};
     ghost use Rattle.cell_rules.specs.edit_sites.Replaced.{networks_before};
-    ghost use Rattle.cell_store.specs.edit_store.Kept.{IsKept};
+    ghost use Rattle.cell_store.specs.edit_store.Kept.{IsHeld};
 
     ghost Value = { Stored V };
 
@@ -36,7 +50,7 @@ impl<V: CellValue + Drop> Model for Store<V> {
       values = s.values.versions;
     } };
 
-    ghost invariant = { λ s. IsKept V.meaning s.replaced.items s.present s.values.versions };
+    ghost invariant = { λ s. IsHeld V.meaning s.spare.net s.spare.replaced.items s.replaced.items s.present s.values.versions };
 }
 
 impl<V: CellValue + Drop> Table<V> for Store<V> {
@@ -56,6 +70,7 @@ impl<V: CellValue + Drop> Store<V> {
     ghost use Rattle.outcomes.specs.Spending.{Spends};
     ghost use Rattle.net_model.specs.declared.edit.Edit.TheVariants.{Undo};
     ghost use Rattle.net_model.specs.Orders.{IsOrder};
+    ghost use Rattle.net_edits.specs.Changed.{changed};
     ghost use Rattle.net_cells.specs.Equations.{MeetsEquations};
     ghost use Rattle.net_cells.specs.Order.{evaluation_order};
     ghost use Rattle.net_cells.specs.Work.{work};
@@ -93,6 +108,7 @@ impl<V: CellValue + Drop> Store<V> {
         Ok(Store {
             alloc,
             replaced: Vec::new(alloc),
+            spare: Spare::of(alloc, &net),
             present: net,
             values,
         })
@@ -124,37 +140,42 @@ impl<V: CellValue + Drop> Store<V> {
         self.values.versions()
     }
 
-    // Goes on to a network, by what was replaced, by the cells that it touches and those that are gone; refused for the
-    // first cell with an operator over a limit, or where there is no memory, and then all is as it was. It counts the
-    // work of the touched cells, and no more than that where it is refused.
+    // Goes on to a planned network; refused for the first cell with an operator over a limit, or where there is no memory,
+    // and then all is as it was. It counts the work of the touched cells, and no more than that where it is refused.
     fn advance<E: Evaluator<V>>(
         &mut self,
-        net: Network,
-        replaced: Replaced,
-        gone: &[Cell],
-        touched: &[Cell],
+        planned: Planned,
         eval: &mut E,
     ) -> Result<(), AnalysisFault>
         requires room { length self.old.before < 2 ^ 32 - 1 }
-        requires back { put_back replaced net ≡ self.old.present }
-        requires touched { AreTouched self.old.present net touched.now }
-        requires gone { AreLost self.old.present net gone.now }
-        ensures advanced { OnOk result (IsAdvanced self.old net self.new) }
+        requires change { changed planned.change self.old.present ≡ planned.net }
+        requires back { put_back planned.replaced planned.net ≡ self.old.present }
+        requires spared { put_back planned.spared planned.net ≡ self.old.present }
+        requires touched { AreTouched self.old.present planned.net planned.touched.items }
+        requires gone { AreLost self.old.present planned.net planned.gone.items }
+        ensures advanced { OnOk result (IsAdvanced self.old planned.net self.new) }
         ensures kept { OnErr result (self.new ≡ self.old) }
-        ensures refused { IfErr result (RefusesFor (IsFirstTouched net touched.now)) }
-        ensures spends { Spends E.count E.counter (IsEqual (sum_by (work net) touched.now)) AnalysisFault.NoMemory
-            (EditEnds net touched.now (⟦<Store<V> as Table<V>>⟧.at self.old)) eval.old eval.new result }
+        ensures refused { IfErr result (RefusesFor (IsFirstTouched planned.net planned.touched.items)) }
+        ensures spends { Spends E.count E.counter (IsEqual (sum_by (work planned.net) planned.touched.items))
+            AnalysisFault.NoMemory
+            (EditEnds planned.net planned.touched.items (⟦<Store<V> as Table<V>>⟧.at self.old)) eval.old eval.new result }
     {
         self.present.keeps();
+        let net = planned.net;
+        net.keeps();
         if let Err(_) = self.replaced.reserve(1) {
             return Err(AnalysisFault::NoMemory);
         }
-        edited_values(self.alloc, &mut self.values, &net, gone, touched, eval)?;
-        self.present = net;
-        match self.replaced.push(replaced) {
-            Ok(()) => Ok(()),
-            Err(_) => unreachable!(),
+        if let Err(_) = self.spare.replaced.reserve(1) {
+            return Err(AnalysisFault::NoMemory);
         }
+        let (gone, touched) = (&planned.gone, &planned.touched);
+        edited_values(self.alloc, &mut self.values, &net, gone, touched, eval)?;
+        push_within_room(&mut self.replaced, planned.replaced);
+        push_within_room(&mut self.spare.replaced, planned.spared);
+        let before = replace(&mut self.present, net);
+        self.spare.follow(before, planned.change);
+        Ok(())
     }
 
     // Goes back to the network before; none exactly where there was none. It takes no memory.
@@ -164,6 +185,7 @@ impl<V: CellValue + Drop> Store<V> {
         let replaced = self.replaced.pop()?;
         let present = replace(&mut self.present, no_network(self.alloc));
         self.present = put_back(present, replaced);
+        self.spare.go_back(&self.present);
         self.values.undo()
     }
 
@@ -177,14 +199,10 @@ impl<V: CellValue + Drop> Store<V> {
         ensures spends { Spends E.count E.counter (IsWorkOf self.old.present edit.now) EditFault.NoMemory
             (EndsInEdit self.old.present edit.now (⟦<Store<V> as Table<V>>⟧.at self.old)) eval.old eval.new result }
     {
-        let Planned {
-            net,
-            touched,
-            gone,
-            replaced,
-        } = plan(self.alloc, &self.present, edit)?;
-        match self.advance(net, replaced, &gone, &touched, eval) {
-            Ok(()) => Ok(touched.len() as u32),
+        let planned = plan(self.alloc, &self.present, &mut self.spare, edit)?;
+        let cells = planned.touched.len() as u32;
+        match self.advance(planned, eval) {
+            Ok(()) => Ok(cells),
             Err(fault) => Err(analysis_fault(fault)),
         }
     }

@@ -13,8 +13,8 @@ use crate::simulated_findings::told::open_servers;
 use net_model::{Network, Trace};
 use report_text::RunFound;
 use run_watch::first_breaches::first_breach;
-use simulator::net_simulator::{SimFault, simulate};
-use simulator::packet_sim::SimRun;
+use simulator::SimFault;
+use simulator::packet_sim::{SimRun, simulate};
 use std::alloc::{AllocError, Global};
 
 // What is found in the stated run of a network and a trace.

@@ -3,7 +3,7 @@ use Rattle.std.proofs.Common.{inl, inr}
 use Rattle.outcomes.specs.Stages.{stops, goes_on}
 use Rattle.command_replies.proofs.Causes.{done, cycle, on_no_network, on_cell_over}
 use Rattle.command_replies.proofs.Statuses.{status_is}
-use Rattle.commands.specs.analyse.AnswerLaws.{StatusesHaveCauses}
+use Rattle.commands.specs.analyse.Laws.{StatusesHaveCauses}
 
 pub causes : StatusesHaveCauses
 causes form file bytes reply (stops h) = on_no_network reply file bytes h (λ k. k) (λ k. inl k) (λ k. inl k)

@@ -12,7 +12,7 @@ use Rattle.outcomes.specs.Stages.{AreAlike, GoOnAlike}
 use Rattle.command_replies.proofs.OneRefusal.{equal, one_cycle}
 use Rattle.command_replies.proofs.OneReply.{file_alike, table_alike, file_reached, table_reached}
 use Rattle.command_replies.proofs.Statuses.{status_is}
-use Rattle.commands.specs.analyse.AnswerLaws.{RepliesAreDetermined, RepliesAreComplete}
+use Rattle.commands.specs.analyse.Laws.{RepliesAreDetermined, RepliesAreComplete}
 use Rattle.commands.specs.analyse.OnFiles.{report, IsReplyOnNet}
 
 -- what is told beside a table

@@ -6,7 +6,7 @@ use Rattle.rational.specs.declared.Extended.TheVariants.{Inf}
 use Rattle.net_cells.specs.Meanings.{Meaning, curve, number}
 use Rattle.report_text.specs.Shown.{shown_value}
 use Rattle.report_text.proofs.TextLemmas.{only_infinity}
-use Rattle.commands.specs.analyse.AnswerLaws.{UnboundedIsInfinite}
+use Rattle.commands.specs.analyse.Laws.{UnboundedIsInfinite}
 
 by_value : (m : Option Meaning) → shown_value m ≡ codes "unbounded" → m ≡ Some (number Inf)
 by_value None same = absurd (cc)

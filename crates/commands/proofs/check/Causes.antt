@@ -12,7 +12,7 @@ use Rattle.command_replies.proofs.Statuses.{status_is}
 use Rattle.command_replies.proofs.run_findings.Reports.{is_report}
 use Rattle.commands.specs.check.Checked.{packets_in, IsReportOn, IsVerdictReply}
 use Rattle.commands.specs.check.OnRuns.{AreAnalysed, IsCheckReport}
-use Rattle.commands.specs.check.CheckLaws.{HasCause, StatusesHaveCauses}
+use Rattle.commands.specs.check.Laws.{HasCause, StatusesHaveCauses}
 
 -- a report has status 0 or 9
 pub of_report : (net : Net) (run : SpecRun) (at : CellTable) (reply : Reply) → IsReportOn net run at reply

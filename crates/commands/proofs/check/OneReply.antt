@@ -29,7 +29,7 @@ use Rattle.command_replies.proofs.run_findings.Reports.{same_telling}
 use Rattle.run_check.specs.check_report.CheckReport.{lawful_report_of}
 use Rattle.run_check.proofs.check_report.OneReport.{one_check_report}
 use Rattle.commands.specs.check.Checked.{packets_in, run_fault_reply, unlawful_report, IsUnlawfulOn, IsLawfulOn, IsVerdictReply}
-use Rattle.commands.specs.check.CheckLaws.{RepliesAreDetermined, RepliesAreComplete}
+use Rattle.commands.specs.check.Laws.{RepliesAreDetermined, RepliesAreComplete}
 use Rattle.commands.specs.check.OnRuns.{IsBadRunOf, IsCheckReplyOnRun, IsCheckReplyOnNet}
 use Rattle.commands.proofs.check.Causes.{of_report}
 

@@ -14,7 +14,7 @@ use Rattle.command_replies.specs.run_findings.Statuses.{StatusTells}
 use Rattle.command_replies.proofs.run_findings.Reports.{tells}
 use Rattle.run_check.specs.check_report.CheckReport.{lawful_report_of}
 use Rattle.commands.specs.check.Checked.{packets_in, IsUnlawfulOn, IsLawfulOn}
-use Rattle.commands.specs.check.CheckLaws.{VerdictTells, VerdictsTellRuns}
+use Rattle.commands.specs.check.Laws.{VerdictTells, VerdictsTellRuns}
 
 module _ (net : Net) (run : SpecRun) (at : CellTable) (reply : Reply) (a : IsAccepted net) (c : AreCurves net) where
   not_lawful : IsUnlawfulOn net run reply → ¬ IsLawful (routes_of net) run

@@ -8,7 +8,7 @@ use Rattle.command_replies.specs.run_findings.Findings.{status_by}
 use Rattle.command_replies.proofs.run_findings.Bounded.{within}
 use Rattle.commands.specs.check.Checked.{packets_in}
 use Rattle.commands.specs.check.OnRuns.{IsCheckReport}
-use Rattle.commands.specs.check.CheckLaws.{IsAdmissible, AdmissibleRunsAreWithinBounds, ReportsGuarantee}
+use Rattle.commands.specs.check.Laws.{IsAdmissible, AdmissibleRunsAreWithinBounds, ReportsGuarantee}
 use Rattle.commands.proofs.check.Causes.{causes}
 use Rattle.commands.proofs.check.Verdicts.{verdicts}
 

@@ -11,7 +11,7 @@ use Rattle.net_model.specs.Networks.{Net}
 use Rattle.net_cells.specs.declared.cell.Cell.{Cell}
 use Rattle.net_edits.specs.Edited.{Edited, MadeCurve, edited}
 use Rattle.net_edits.specs.Refusals.{Refusal, Or}
-use Rattle.net_edits.specs.Replies.{IsMadeWithin, IsMadeOver, IsEdited, IsEditOver}
+use Rattle.net_edits.specs.Replies.{MadeCurveFits, MadeCurveIsOver, IsEdited, IsEditOver}
 use Rattle.cell_store.specs.edit_store.Applied.{Gives}
 
 -- ---- a curve is within its limits, or over one
@@ -19,7 +19,7 @@ curve_not_both : (c : SpecCurve) (over : OverLimit) → IsWithinOwn c → IsOver
 curve_not_both c TooWide within is = omega (arith, within.narrow, is)
 curve_not_both c TooMany within is = omega (arith, within.few, is.1)
 
-made_not_both : (made : Option MadeCurve) (cell : Cell) (over : OverLimit) → IsMadeWithin made → IsMadeOver made cell over → ⊥
+made_not_both : (made : Option MadeCurve) (cell : Cell) (over : OverLimit) → MadeCurveFits made → MadeCurveIsOver made cell over → ⊥
 made_not_both None cell over within is = absurd is
 made_not_both (Some made) cell over within is = curve_not_both made.curve over within is.1
 
@@ -28,7 +28,7 @@ pub gives_not_over : (r : Or Edited) (net : Net) (cell : Cell) (over : OverLimit
 gives_not_over r net cell over g o =
     let both : Ok g.edited ≡ Ok o.edited = sym g.is ∙ o.is in
     let one : g.edited ≡ o.edited = cc in
-    made_not_both o.edited.made cell over (subst (λ (e : Edited). IsMadeWithin e.made) one g.within) o.over
+    made_not_both o.edited.made cell over (subst (λ (e : Edited). MadeCurveFits e.made) one g.within) o.over
 
 -- or it is refused
 pub gives_not_refused : (r : Or Edited) (net : Net) (why : Refusal) → IsEdited r net → r ≡ Err why → ⊥

@@ -1,12 +1,13 @@
 -- Edits in turn: one more, and what is left of their work.
 use Rattle.std.proofs.Common.{◌≡◌, ℕ, suc, get_or, take, drop-cons, add-one, ◌+◌, ◌<◌, ◌≤◌, List, [], ◌∷◌, ◌++◌, length, drop, refl, sym, ap, ◌∙◌, subst, arith}
+use Rattle.std.specs.Prelude.{Result, Err, OnOk}
 use Rattle.std.proofs.lemmas.List.{length_push, take_more}
 use Rattle.net_model.specs.declared.edit.Edit.{Edit}
 use Rattle.commands.specs.edit_report.Said.{EditSaid}
 use Rattle.commands.specs.edit.NetHistories.{NetHistory}
 use Rattle.commands.specs.edit.Answered.{IsAnswered, Taken, Undone, Refused, AreAnswered}
 use Rattle.cell_store.specs.edit_store.Applied.{IsWorkOf}
-use Rattle.commands.specs.edit.EditCounts.{IsTakenWork, WorkOfEdits}
+use Rattle.commands.specs.edit.EditCounts.{IsTakenWork, CountsOnEdit, WorkOfEdits, CountsInTurn}
 use Rattle.commands.proofs.edit.NextOne.{next_is_one}
 
 -- ---- answers
@@ -45,18 +46,12 @@ abbrev pub LeavesWork : NetHistory → List Edit → NetHistory → List Edit �
 LeavesWork old edits now rest before after =
     (all done : ℕ) → WorkOfEdits old edits all done → IsLeft now rest before after all done
 
--- the steps of one edit
-pub record RowSteps (now : NetHistory) (edit : Edit) (next : NetHistory) (before after : ℕ) : Type 0 where
-  pub most : (count : ℕ) → IsWorkOf now.present edit count → after ≤ before + count
-  pub least : (count done : ℕ) → IsWorkOf now.present edit count → IsTakenWork now edit next count done
-      → before + done ≤ after
-
 pub all_left : (old : NetHistory) (edits : List Edit) (count : ℕ) → LeavesWork old edits old edits count count
 all_left old edits count all done w =
     record { rest_all = all; rest_done = done; works = w; most = omega arith; least = omega arith }
 
 pub one_less : (now next : NetHistory) (edit : Edit) (edits : List Edit) (said : EditSaid) (before mid after all done : ℕ)
-    → IsAnswered now edit said next → RowSteps now edit next mid after → IsLeft now (edit ∷ edits) before mid all done
+    → IsAnswered now edit said next → CountsOnEdit now edit next mid after → IsLeft now (edit ∷ edits) before mid all done
     → IsLeft next edits before after all done
 one_less now next edit edits said before mid after all done answered steps left =
     let first = left.works in
@@ -114,3 +109,12 @@ pub cut_at : (now : NetHistory) (edits : List Edit) (i : ℕ) (edit : Edit) (bef
 cut_at now edits i edit before mid after all done h is most left =
     cut_short now edit (drop (i + 1) edits) before mid after all done most
     (subst (λ (es : List Edit). IsLeft now es before mid all done) (rest_at edits i edit h is) left)
+
+-- ---- edits for which there is no answer
+pub counts_cut : {A E : Type 0} (old : NetHistory) (edits : List Edit) (before after : ℕ) (r : Result A E) (fault : E) → r ≡ Err fault
+    → before ≤ after → ((all done : ℕ) → WorkOfEdits old edits all done → after ≤ before + all) → CountsInTurn old edits before after r
+counts_cut {A} {E} old edits before after r fault is rises most = record {
+  rises = rises;
+  most = most;
+  least = subst (λ (s : Result A E). OnOk s ((all done : ℕ) → WorkOfEdits old edits all done → before + done ≤ after)) (sym is) tt;
+}

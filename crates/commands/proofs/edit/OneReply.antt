@@ -19,7 +19,7 @@ use Rattle.outcomes.proofs.Stages.{one_staged, on_one}
 use Rattle.commands.specs.edit.NetHistories.{NetHistory, begun}
 use Rattle.commands.specs.edit.Answered.{AreAnswered}
 use Rattle.commands.specs.edit.OnEdits.{IsBadListOf, AsksFor, IsEditReportOn, IsReplyOnEdits, IsReplyOnNet}
-use Rattle.commands.specs.edit.EditLaws.{AreSaidAlike, AreSameReports, AreAlike, RepliesAreDetermined}
+use Rattle.commands.specs.edit.Laws.{AreSaidAlike, AreSameReports, AreAlike, RepliesAreDetermined}
 use Rattle.commands.proofs.edit.NextOne.{next_is_one}
 use Rattle.commands.proofs.edit.SameEdits.{answered_alike}
 use Rattle.commands.proofs.edit.OneSaid.{said_is_one}

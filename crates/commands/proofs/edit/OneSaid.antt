@@ -17,7 +17,7 @@ use Rattle.net_edits.specs.declared.fault.EditFault.{EditFault}
 use Rattle.net_edits.specs.declared.fault.EditFault.TheVariants.{UnknownName, NameTaken, BadValue, LimitReached, Cycle, TooMany, TooWide, NothingToUndo, NoMemory}
 use Rattle.net_edits.specs.Edited.{Edited, MadeCurve, edited}
 use Rattle.net_edits.specs.Refusals.{Refusal, unknown_name, name_taken, bad_value, no_number_left, nothing_to_undo}
-use Rattle.net_edits.specs.Replies.{IsMadeOver, IsEditOver}
+use Rattle.net_edits.specs.Replies.{MadeCurveIsOver, IsEditOver}
 use Rattle.cell_store.specs.edit_store.Stored.{AreTouched}
 use Rattle.cell_store.proofs.edit_store.Steps.{gives_one, same_touched}
 use Rattle.commands.specs.edit_report.Said.{EditSaid, said_of}
@@ -26,7 +26,7 @@ use Rattle.report_text.specs.CellWords.{cell_words}
 use Rattle.commands.specs.edit.NetHistories.{NetHistory}
 use Rattle.commands.specs.edit.Causes.{GoesRound, HasCellOver, IsOverBy, IsCause}
 use Rattle.commands.specs.edit.Answered.{IsTaken, IsAnswered, Taken, Undone, Refused}
-use Rattle.commands.specs.edit.EditLaws.{TellsCycle, TellCycles}
+use Rattle.commands.specs.edit.Laws.{TellsCycle, TellCycles}
 use Rattle.commands.proofs.edit.Exclusive.{gives_not_over, gives_not_refused, over_not_refused, undo_gives_none}
 use Rattle.commands.proofs.edit.NextOne.{no_cause, no_undo_cause, undo_says}
 
@@ -110,7 +110,7 @@ sort old edit NoMemory net said c says = absurd c
 abbrev pub AreOne : EditSaid → EditSaid → Type 0
 AreOne x y = (x ≡ y) ⊎ TellCycles x y
 
-one_made : (made : Option MadeCurve) (c d : Cell) (l m : OverLimit) → IsMadeOver made c l → IsMadeOver made d m
+one_made : (made : Option MadeCurve) (c d : Cell) (l m : OverLimit) → MadeCurveIsOver made c l → MadeCurveIsOver made d m
     → (c ≡ d) × (l ≡ m)
 one_made None c d l m h k = absurd h
 one_made (Some made) c d l m h k = (h.0 ∙ sym k.0, one_limit made.curve l m h.1 k.1)
@@ -120,7 +120,7 @@ both_curves present edit x y h k =
     let both : Ok h.over.edited ≡ Ok k.over.edited = sym h.over.is ∙ k.over.is in
     let same : h.over.edited ≡ k.over.edited = cc in
     let one = one_made k.over.edited.made h.cell k.cell h.which k.which
-    (subst (λ (e : Edited). IsMadeOver e.made h.cell h.which) same h.over.over) k.over.over in
+    (subst (λ (e : Edited). MadeCurveIsOver e.made h.cell h.which) same h.over.over) k.over.over in
     h.says ∙ ap (λ (c : Cell). said_over h.which (cell_words present c)) one.0
     ∙ ap (λ (l : OverLimit). said_over l (cell_words present k.cell)) one.1 ∙ sym k.says
 

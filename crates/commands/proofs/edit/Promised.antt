@@ -6,10 +6,10 @@ use Rattle.command_replies.proofs.OneReply.{file_reached, table_reached}
 use Rattle.outcomes.proofs.Stages.{reached}
 use Rattle.command_replies.proofs.Statuses.{status_is}
 use Rattle.commands.specs.edit.OnEdits.{IsBadListOf, AsksFor, IsEditReportOn, IsReplyOnEdits, IsReplyOnNet}
-use Rattle.commands.specs.edit.EditLaws.{ReportsAreGuaranteed, RepliesAreComplete}
+use Rattle.commands.specs.edit.Laws.{ReportsGuarantee, RepliesAreComplete}
 
-pub reports_are_guaranteed : ReportsAreGuaranteed
-reports_are_guaranteed form net at net_bytes edits_bytes reply h =
+pub reports_guarantee : ReportsGuarantee
+reports_guarantee form net at net_bytes edits_bytes reply h =
     λ run is. table_bounds_every_run net h.report.shown.order at run h.report.shown.accepted h.report.shown.ordered
     h.report.meets is
 

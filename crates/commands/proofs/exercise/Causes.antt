@@ -9,7 +9,7 @@ use Rattle.command_replies.proofs.run_findings.Reports.{is_report}
 use Rattle.exercise_load.specs.Workloads.{network_of, trace_of}
 use Rattle.exercise_load.specs.exercise_report.Summary.{summary_of}
 use Rattle.commands.specs.exercise.OnSeeds.{IsAnalysed, IsSummarised, IsReplyBeside}
-use Rattle.commands.specs.exercise.ExerciseLaws.{HasCause, ExerciseStatusesHaveCauses}
+use Rattle.commands.specs.exercise.Laws.{HasCause, StatusesHaveCauses}
 
 -- beside a table
 beside : (seed : ℕ) (at : CellTable) (reply : Reply) → IsAnalysed (network_of seed) at → IsReplyBeside seed at reply
@@ -21,7 +21,7 @@ beside seed at reply analysed (inr told) =
     let is = is_report (summary_of seed) (network_of seed) told.run (length (trace_of seed).packets) at reply told.tells in
     report reply is shown shown
 
-pub causes : ExerciseStatusesHaveCauses
+pub causes : StatusesHaveCauses
 causes seed reply (order, o, stops h) =
     on_cell_over reply (network_of seed) order h (λ k. (order, o, k)) (λ k. inl (order, o, k))
 causes seed reply (order, o, goes_on at table (curves, told)) =

@@ -12,7 +12,7 @@ use Rattle.exercise_load.proofs.Stand.{workloads_stand}
 use Rattle.exercise_load.specs.exercise_report.Summary.{summary_of}
 use Rattle.exercise_load.proofs.exercise_report.OneSummary.{one_summary}
 use Rattle.commands.specs.exercise.OnSeeds.{IsReplyBeside, IsReplyInOrder}
-use Rattle.commands.specs.exercise.ExerciseLaws.{ExerciseRepliesAreDetermined, ExerciseRepliesAreComplete}
+use Rattle.commands.specs.exercise.Laws.{RepliesAreDetermined, RepliesAreComplete}
 
 summaries_alike : (seed : ℕ) (order : List ℕ) → IsOrder (network_of seed) order
     → GoOnAlike IsEqual (IsTableOf (network_of seed) order) (OnCurves (network_of seed) (IsReplyBeside seed))
@@ -27,14 +27,14 @@ in_order seed order o =
     order_alike IsEqual (λ x y same. same) (network_of seed) order (OnCurves (network_of seed) (IsReplyBeside seed))
     (workloads_stand seed).accepted o (summaries_alike seed order o)
 
-pub replies_are_determined : ExerciseRepliesAreDetermined
+pub replies_are_determined : RepliesAreDetermined
 replies_are_determined seed x y h k =
     let net = network_of seed in
     on_one (IsOrder net) (IsReplyInOrder seed net) IsEqual (λ a b o p. one_order net a b o p) (in_order seed)
     h.0 k.0 x y h.1 k.1 h.2 k.2
 
 -- ---- within the limits
-pub replies_are_complete : ExerciseRepliesAreComplete
+pub replies_are_complete : RepliesAreComplete
 replies_are_complete seed reply w h =
     let net = network_of seed in
     let told =

@@ -29,8 +29,8 @@ use Rattle.exercise_load.specs.exercise_report.Summary.{summary_of}
 use Rattle.exercise_load.specs.exercise_report.Largest.{largest_bound, largest_delay}
 use Rattle.exercise_load.proofs.exercise_report.LargestIs.{largest_bound_is, delays_below}
 use Rattle.commands.specs.exercise.OnSeeds.{IsSummarised}
-use Rattle.commands.specs.exercise.ExerciseLaws.{SummaryTellsPremises, IsQuietSummary, QuietSummariesAreWithinBounds}
-use Rattle.commands.specs.exercise.ExerciseLaws.{BoundsEachDelay, SummariesGuarantee}
+use Rattle.commands.specs.exercise.Laws.{SummaryTellsPremises, IsQuietSummary, QuietSummariesAreWithinBounds}
+use Rattle.commands.specs.exercise.Laws.{BoundsEachDelay, SummariesGuarantee}
 use Rattle.commands.proofs.exercise.Causes.{causes}
 
 -- ---- statuses

@@ -1,28 +1,23 @@
 -- The steps of an answer.
-use Rattle.std.specs.Prelude.{◌≡◌, ◌≢◌, ℕ, ◌+◌, ◌≤◌, List}
-use Rattle.std.proofs.Common.{arith}
-use Rattle.net_text.specs.Folds.{StepsAtMost}
-use Rattle.subadd_closure.specs.FoldWork.{fold_work}
-use Rattle.commands.specs.measure.MeasureCounts.{CountsOn}
+use Rattle.std.specs.Prelude.{◌≡◌, ◌≢◌, ℕ, zero, suc, ◌+◌, ◌≤◌, List}
+use Rattle.std.proofs.Common.{arith, refl, subst}
+use Rattle.commands.specs.FileCounts.{CountsOnFolds}
+use Rattle.commands.specs.measure.MeasureCounts.{CountsOn, CountsOnTrace}
 
-pub counts_without : (bytes : List ℕ) (status old new : ℕ) → old ≤ new → StepsAtMost fold_work bytes old new → status ≢ 0
+-- without a report
+pub no_burst : (status old new : ℕ) → status ≢ 0 → old ≤ new → new ≤ old + 1 → CountsOnTrace status old new
+no_burst zero old new other rises most = absurd (other refl)
+no_burst (suc n) old new other rises most = record { exact = tt; least = rises; most = most }
+
+-- at another status, that of a report only where the first one is
+pub burst_at : (status other old new : ℕ) → (other ≡ 0 → status ≡ 0) → CountsOnTrace status old new → CountsOnTrace other old new
+burst_at status zero old new same c = subst (λ k. CountsOnTrace k old new) (same refl) c
+burst_at status (suc n) old new same c = record { exact = tt; least = c.least; most = c.most }
+
+pub counts_without : (bytes : List ℕ) (status old new : ℕ) → CountsOnFolds bytes status old new → status ≢ 0
     → CountsOn bytes status old new
-counts_without bytes status old new rises folds other = record {
+counts_without bytes status old new folds other = record {
   between = new;
-  rises = rises;
   folds = folds;
-  from = omega arith;
-  most = omega arith;
-  report = λ e. absurd (other e);
-}
-
-pub counts_with : (bytes : List ℕ) (status old between new : ℕ) → old ≤ between → StepsAtMost fold_work bytes old between → between ≤ new → new ≤ between + 1
-    → (status ≡ 0 → new ≡ between + 1) → CountsOn bytes status old new
-counts_with bytes status old between new rises folds from most report = record {
-  between = between;
-  rises = rises;
-  folds = folds;
-  from = from;
-  most = most;
-  report = report;
+  burst = no_burst status new new other (omega arith) (omega arith);
 }

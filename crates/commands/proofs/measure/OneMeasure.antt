@@ -31,7 +31,7 @@ use Rattle.outcomes.proofs.Stages.{one_staged, on_one, reached}
 use Rattle.command_replies.proofs.Statuses.{status_is}
 use Rattle.commands.specs.measure.OnMeasures.{AreOver, IsMeasured, IsOverBurst, measure_report, IsUnknown, ArePast, IsTooSteep, IsBurstOf}
 use Rattle.commands.specs.measure.OnMeasures.{IsReplyOnCurve, IsReplyOnPackets, IsReplyOnTrace, IsReplyOnNet}
-use Rattle.commands.specs.measure.MeasureLaws.{ReportsAreLeast, StatusesAreFour, RepliesAreComplete, RepliesAreDetermined}
+use Rattle.commands.specs.measure.Laws.{ReportsAreLeast, StatusesAreFour, RepliesAreComplete, RepliesAreDetermined}
 
 -- ---- what a report says
 pub reports_are_least : ReportsAreLeast

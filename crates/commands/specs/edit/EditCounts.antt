@@ -1,5 +1,5 @@
 -- How many steps a list of edits takes: an operator on curves takes one.
-use Rattle.std.specs.Prelude.{◌≡◌, ◌≢◌, ◌⊎◌, ◌+◌, ◌≤◌, ℕ, List, [], ◌∷◌, map}
+use Rattle.std.specs.Prelude.{◌≡◌, ◌≢◌, ◌⊎◌, ◌+◌, ◌≤◌, ℕ, List, [], ◌∷◌, map, Result, OnOk}
 use Rattle.net_model.specs.declared.edit.Edit.{Edit}
 use Rattle.net_model.specs.Networks.{Net}
 use Rattle.net_model.specs.Orders.{IsOrder}
@@ -21,6 +21,12 @@ Takes old edit new = (said : EditSaid) × IsTaken old edit said new
 abbrev pub IsTakenWork : NetHistory → Edit → NetHistory → (count done : ℕ) → Type 0
 IsTakenWork old edit new count done = (Takes old edit new × (done ≡ count)) ⊎ (¬ (Takes old edit new) × (done ≡ 0))
 
+-- no more than its work, and no less than that where it is taken
+pub record CountsOnEdit (old : NetHistory) (edit : Edit) (next : NetHistory) (before after : ℕ) : Type 0 where
+  pub rises : before ≤ after
+  pub most : (count : ℕ) → IsWorkOf old.present edit count → after ≤ before + count
+  pub least : (count done : ℕ) → IsWorkOf old.present edit count → IsTakenWork old edit next count done → before + done ≤ after
+
 -- ---- edits in turn
 -- the work of a first edit and that of the others, where Rest tells it: of all edits, and of those that are taken
 pub record FirstWork (old : NetHistory) (edit : Edit) (Rest : NetHistory → ℕ → ℕ → Type 0) (all done : ℕ) : Type 0 where
@@ -40,6 +46,12 @@ pub record FirstWork (old : NetHistory) (edit : Edit) (Rest : NetHistory → ℕ
 abbrev pub WorkOfEdits : NetHistory → List Edit → (all done : ℕ) → Type 0
 WorkOfEdits old [] all done = (all ≡ 0) × (done ≡ 0)
 WorkOfEdits old (edit ∷ edits) all done = FirstWork old edit (λ next. WorkOfEdits next edits) all done
+
+-- no more than the work of all, and where there is an answer no less than that of those that are taken
+pub record CountsInTurn {A E : Type 0} (old : NetHistory) (edits : List Edit) (before after : ℕ) (r : Result A E) : Type 0 where
+  pub rises : before ≤ after
+  pub most : (all done : ℕ) → WorkOfEdits old edits all done → after ≤ before + all
+  pub least : OnOk r ((all done : ℕ) → WorkOfEdits old edits all done → before + done ≤ after)
 
 -- ---- the whole call
 -- by a network and edits: no more than the work of all cells of the network and of what the edits touch, and where

@@ -1,14 +1,19 @@
 -- How many steps an answer on a trace takes: an operator on curves takes one.
-use Rattle.std.specs.Prelude.{◌≡◌, ◌+◌, ◌≤◌, ℕ, List}
-use Rattle.net_text.specs.Folds.{StepsAtMost}
-use Rattle.subadd_closure.specs.FoldWork.{fold_work}
+use Rattle.std.specs.Prelude.{ℕ, zero, suc, List, Result, Ok, Err}
+use Rattle.outcomes.specs.Spending.{Counts}
+use Rattle.commands.specs.FileCounts.{CountsOnFolds}
 
--- no more than the operators of the folds of the file's closures, and one for the burst; with a report exactly that one
--- after them
+-- the status of a report, or that of none
+abbrev pub by_status : (status : ℕ) → Result (Unit {0}) ℕ
+by_status zero = Ok tt
+by_status (suc n) = Err (suc n)
+
+-- by a network and a trace: one for the burst where there is a report, and no more where there is none
+abbrev pub CountsOnTrace : (status old new : ℕ) → Type 0
+CountsOnTrace status old new = Counts 1 old new (by_status status)
+
+-- before it those of the folds of the file's closures
 pub record CountsOn (bytes : List ℕ) (status old new : ℕ) : Type 0 where
   pub between : ℕ
-  pub rises : old ≤ between
-  pub folds : StepsAtMost fold_work bytes old between
-  pub from : between ≤ new
-  pub most : new ≤ between + 1
-  pub report : status ≡ 0 → new ≡ between + 1
+  pub folds : CountsOnFolds bytes status old between
+  pub burst : CountsOnTrace status between new

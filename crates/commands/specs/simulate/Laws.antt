@@ -9,7 +9,6 @@ use Rattle.net_model.specs.Orders.{IsOrder}
 use Rattle.net_model.specs.Traces.{SpecTrace}
 use Rattle.net_model.specs.Walks.{IsFeedForward}
 use Rattle.net_text.specs.Reading.{IsNetworkOf}
-use Rattle.net_text.specs.FoldLimits.{OverFold}
 use Rattle.net_cells.specs.declared.cell.Cell.{Cell}
 use Rattle.net_cells.specs.FirstOver.{FirstOver}
 use Rattle.net_bounds.specs.NetRuns.{IsRunOf}
@@ -85,7 +84,7 @@ RepliesAreDetermined =
 -- is the simulation over its gauge
 pub record IsWithinLimits (net_bytes trace_bytes : List ℕ) : Type 0 where
   pub net : Net
-  pub reads : IsNetworkOf OverFold net_bytes net
+  pub reads : IsNetworkOf net_bytes net
   pub trace : SpecTrace
   pub rows : IsTraceOf net (rows_of trace_bytes) trace
   pub feed_forward : IsFeedForward net

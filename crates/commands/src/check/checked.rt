@@ -67,11 +67,11 @@ fn reported_lawful(
     run: &Run,
     table: &Analysis<Value>,
 ) -> Result<Answer, AllocError>
-    requires narrow { check_gauge net.now run.now < 2 ^ 120 }
-    requires lawful { IsLawful (routes_of net.now) run.now }
     requires accepted { IsAccepted net.now }
     requires curves { AreCurves net.now }
     requires recorded { IsRecordedRun net.now run.now }
+    requires narrow { check_gauge net.now run.now < 2 ^ 120 }
+    requires lawful { IsLawful (routes_of net.now) run.now }
     ensures { IfOk result
         (λ r. IsLawfulOn net.now run.now (⟦<Analysis<Value> as Table<Value>>⟧.at table.now) (reply_of r)) }
 {

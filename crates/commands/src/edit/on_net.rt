@@ -1,6 +1,6 @@
 //! The answer on a network and edits.
 
-ghost use Rattle.std.specs.Prelude.{◌≡◌, ◌+◌, ◌≤◌, ℕ, [], length, map, IfOk};
+ghost use Rattle.std.specs.Prelude.{◌≡◌, ◌≤◌, [], length, map, IfOk};
 ghost use Rattle.input_texts.specs.table_text.EditRows.{edit_view};
 ghost use Rattle.net_model.specs.Accepted.{IsAccepted};
 ghost use Rattle.net_model.specs.Orders.{IsOrder};
@@ -9,7 +9,7 @@ ghost use Rattle.net_cells.specs.Meanings.{CellTable};
 ghost use Rattle.command_replies.specs.View.{reply_of, status_of, code_of};
 ghost use Rattle.commands.specs.edit.NetHistories.{begun};
 ghost use Rattle.commands.specs.edit.OnEdits.{AreReported, IsReplyOnEdits};
-ghost use Rattle.commands.specs.edit.EditCounts.{WorkOfEdits, CountsOnEdits};
+ghost use Rattle.commands.specs.edit.EditCounts.{CountsInTurn, CountsOnEdits};
 
 use crate::edit::rows::all_answered;
 use crate::edit_report::edit_text_in;
@@ -37,11 +37,7 @@ fn reported<E: Evaluator<Value>>(
     ensures reply { IfOk result (λ r. (net : Net) × (at : CellTable)
         × AreReported form store.present edits.now net at (reply_of r)) }
     ensures done { IfOk result (λ r. code_of r.status ≡ 0) }
-    ensures rises { E.count eval.old ≤ E.count eval.new }
-    ensures most { (all done : ℕ) → WorkOfEdits (begun store.present) edits.now all done
-        → E.count eval.new ≤ E.count eval.old + all }
-    ensures least { IfOk result (λ _. (all done : ℕ) → WorkOfEdits (begun store.present) edits.now all done
-        → E.count eval.old + done ≤ E.count eval.new) }
+    ensures counts { CountsInTurn (begun store.present) edits.now (E.count eval.old) (E.count eval.new) result }
     ensures same { E.counter eval.new ≡ E.counter eval.old }
 {
     let _first = store.network();

@@ -1,14 +1,14 @@
 //! One edit of a list.
 
-ghost use Rattle.std.specs.Prelude.{◌≡◌, ◌≢◌, ◌+◌, ◌-◌, ◌^◌, ◌<◌, ◌≤◌, ℕ, length, Err, IfOk, IfErr};
+ghost use Rattle.std.specs.Prelude.{◌≡◌, ◌≢◌, ◌-◌, ◌^◌, ◌<◌, length, Err, IfOk, IfErr};
 ghost use Rattle.net_model.specs.declared.edit.Edit.TheVariants.{Undo};
-ghost use Rattle.cell_store.specs.edit_store.Applied.{IsShown, IsRefused, IsWorkOf};
+ghost use Rattle.cell_store.specs.edit_store.Applied.{IsShown, IsRefused};
 ghost use Rattle.commands.specs.edit_report.Said.{said_view};
 ghost use Rattle.commands.specs.edit.NetHistories.{history_of};
 ghost use Rattle.commands.specs.edit.Causes.{BreaksNoRule};
 ghost use Rattle.commands.specs.edit.Answered.{IsAnswered};
 ghost use Rattle.commands.specs.edit.Said.{IsOfEdited, IsSaidOf, IsSaid};
-ghost use Rattle.commands.specs.edit.EditCounts.{IsTakenWork};
+ghost use Rattle.commands.specs.edit.EditCounts.{CountsOnEdit};
 
 use crate::edit_report::{Said, said_of};
 use cell_store::edit_store::Store;
@@ -37,8 +37,8 @@ fn said_of_edited(
     alloc: Global,
     store: &Store<Value>,
     edit: &Edit,
-    answer: &Result<Done, EditFault>,
     fault: &EditFault,
+    answer: &Result<Done, EditFault>,
 ) -> Result<Said, AllocError>
     requires refused { IsRefused store.now edit.now fault.now }
     requires late { IsOfEdited fault.now }
@@ -64,9 +64,9 @@ fn said_of_refused(
 {
     match fault {
         EditFault::NoMemory => Err(AllocError),
-        EditFault::Cycle(_) => said_of_edited(alloc, store, edit, answer, fault),
-        EditFault::TooMany(_) => said_of_edited(alloc, store, edit, answer, fault),
-        EditFault::TooWide(_) => said_of_edited(alloc, store, edit, answer, fault),
+        EditFault::Cycle(_) => said_of_edited(alloc, store, edit, fault, answer),
+        EditFault::TooMany(_) => said_of_edited(alloc, store, edit, fault, answer),
+        EditFault::TooWide(_) => said_of_edited(alloc, store, edit, fault, answer),
         _ => said_of(alloc, store.network(), answer),
     }
 }
@@ -98,12 +98,8 @@ pub(crate) fn answered<E: Evaluator<Value>>(
     requires { edit.now ≢ Undo → length store.old.before < 2 ^ 32 - 1 }
     ensures answered { IfOk result (λ said.
         IsAnswered (history_of store.old) edit.now (said_view said) (history_of store.new)) }
-    ensures rises { E.count eval.old ≤ E.count eval.new }
-    ensures most { (count : ℕ) → IsWorkOf store.old.present edit.now count
-        → E.count eval.new ≤ E.count eval.old + count }
-    ensures least { (count done : ℕ) → IsWorkOf store.old.present edit.now count
-        → IsTakenWork (history_of store.old) edit.now (history_of store.new) count done
-        → E.count eval.old + done ≤ E.count eval.new }
+    ensures counts { CountsOnEdit (history_of store.old) edit.now (history_of store.new)
+        (E.count eval.old) (E.count eval.new) }
     ensures same { E.counter eval.new ≡ E.counter eval.old }
 {
     let answer = store.apply(edit, eval);

@@ -1,10 +1,10 @@
 //! The edits of a list, one after the other.
 
-ghost use Rattle.std.specs.Prelude.{◌≡◌, ◌+◌, ◌≤◌, ℕ, [], length, map, IfOk};
+ghost use Rattle.std.specs.Prelude.{◌≡◌, ◌≤◌, [], length, map, IfOk};
 ghost use Rattle.commands.specs.edit_report.Said.{said_view};
 ghost use Rattle.commands.specs.edit.NetHistories.{history_of};
 ghost use Rattle.commands.specs.edit.Answered.{AreAnswered};
-ghost use Rattle.commands.specs.edit.EditCounts.{WorkOfEdits};
+ghost use Rattle.commands.specs.edit.EditCounts.{CountsInTurn};
 
 use crate::edit::row::answered;
 use crate::edit_report::Said;
@@ -24,11 +24,7 @@ pub(crate) fn all_answered<E: Evaluator<Value>>(
     requires few { length edits.now ≤ 1000 }
     ensures answered { IfOk result (λ answers. AreAnswered (history_of store.old) edits.now
         (map said_view answers.items) (history_of store.new)) }
-    ensures rises { E.count eval.old ≤ E.count eval.new }
-    ensures most { (all done : ℕ) → WorkOfEdits (history_of store.old) edits.now all done
-        → E.count eval.new ≤ E.count eval.old + all }
-    ensures least { IfOk result (λ _. (all done : ℕ) → WorkOfEdits (history_of store.old) edits.now all done
-        → E.count eval.old + done ≤ E.count eval.new) }
+    ensures counts { CountsInTurn (history_of store.old) edits.now (E.count eval.old) (E.count eval.new) result }
     ensures same { E.counter eval.new ≡ E.counter eval.old }
 {
     let mut answers = Vec::new(alloc);

@@ -1,8 +1,8 @@
 //! Laws of the replies on workloads. Each is the contract of a function that does nothing.
 
-ghost use Rattle.commands.specs.exercise.ExerciseLaws.{SummaryTellsPremises, QuietSummariesAreWithinBounds};
-ghost use Rattle.commands.specs.exercise.ExerciseLaws.{SummariesGuarantee, ExerciseStatusesHaveCauses};
-ghost use Rattle.commands.specs.exercise.ExerciseLaws.{ExerciseRepliesAreDetermined, ExerciseRepliesAreComplete};
+ghost use Rattle.commands.specs.exercise.Laws.{SummaryTellsPremises, QuietSummariesAreWithinBounds};
+ghost use Rattle.commands.specs.exercise.Laws.{SummariesGuarantee, StatusesHaveCauses};
+ghost use Rattle.commands.specs.exercise.Laws.{RepliesAreDetermined, RepliesAreComplete};
 
 /// The status of a summary is 0 exactly where its run keeps packet sizes, arrival curves and service curves, and 9
 /// exactly where it does not.
@@ -24,16 +24,16 @@ pub fn summaries_guarantee()
 
 /// The status of a reply tells its cause: 0 and 9 a summary; 6 and 7 the first cell over a limit, by that limit, and 6
 /// also a simulation that is too wide. No reply has another one: a workload has no cycle.
-pub fn exercise_statuses_have_causes()
-    ensures { ExerciseStatusesHaveCauses }
+pub fn statuses_have_causes()
+    ensures { StatusesHaveCauses }
 {}
 
 /// A number has one reply.
-pub fn exercise_replies_are_determined()
-    ensures { ExerciseRepliesAreDetermined }
+pub fn replies_are_determined()
+    ensures { RepliesAreDetermined }
 {}
 
 /// A workload with no cell and no simulation over a limit has no other reply than a summary, with status 0 or 9.
-pub fn exercise_replies_are_complete()
-    ensures { ExerciseRepliesAreComplete }
+pub fn replies_are_complete()
+    ensures { RepliesAreComplete }
 {}

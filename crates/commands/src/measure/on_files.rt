@@ -1,10 +1,10 @@
 //! The answer on a network's file and a trace.
 
-ghost use Rattle.std.specs.Prelude.{◌≡◌, ◌+◌, ◌≤◌, IfOk};
+ghost use Rattle.std.specs.Prelude.{IfOk};
 ghost use Rattle.rational.specs.Rational.{◌≤ℚ◌};
 ghost use Rattle.min_plus.specs.Functions.{zero_q};
 ghost use Rattle.command_replies.specs.View.{reply_of, status_of};
-ghost use Rattle.commands.specs.measure.MeasureCounts.{CountsOn};
+ghost use Rattle.commands.specs.measure.MeasureCounts.{CountsOn, CountsOnTrace};
 ghost use Rattle.commands.specs.measure.OnMeasures.{IsMeasureReply, IsReplyOnNet};
 
 use crate::measure::on_trace::on_trace;
@@ -29,9 +29,7 @@ fn on_rows<L: Ledger>(
 ) -> Result<Answer, AllocError>
     requires rate { zero_q ≤ℚ rate }
     ensures reply { IfOk result (λ r. IsReplyOnNet net.now trace_file.now trace_bytes.now name.now rate (reply_of r)) }
-    ensures from { steps.old ≤ steps.new }
-    ensures most { steps.new ≤ steps.old + 1 }
-    ensures report { status_of result ≡ 0 → steps.new ≡ steps.old + 1 }
+    ensures counts { CountsOnTrace (status_of result) steps.old steps.new }
 {
     match read_trace(alloc, trace_bytes, net) {
         Ok(trace) => on_trace(alloc, net, &trace, name, rate, steps),
@@ -47,10 +45,10 @@ pub fn answer_on<L: Ledger>(
     alloc: Global,
     net_file: &str,
     net_bytes: &[u8],
-    name: &str,
-    rate: Frac,
     trace_file: &str,
     trace_bytes: &[u8],
+    name: &str,
+    rate: Frac,
     steps: &mut Steps<L>,
 ) -> Result<Answer, AllocError>
     requires { zero_q ≤ℚ rate }

@@ -1,6 +1,6 @@
 //! The answer on a trace.
 
-ghost use Rattle.std.specs.Prelude.{◌≡◌, ◌+◌, ◌≤◌, IfOk, length};
+ghost use Rattle.std.specs.Prelude.{◌≡◌, IfOk, length};
 ghost use Rattle.rational.specs.Rational.{◌≤ℚ◌};
 ghost use Rattle.min_plus.specs.Functions.{zero_q};
 ghost use Rattle.upp_curve.specs.Curve.{value_at};
@@ -9,6 +9,7 @@ ghost use Rattle.measure_curve.specs.Limits.{AreTooMany, AreTooWide};
 ghost use Rattle.measure_curve.specs.Staircases.{TellRises};
 ghost use Rattle.measure_curve.specs.Windows.{of_flow, IsLeastArrival};
 ghost use Rattle.command_replies.specs.View.{reply_of, status_of};
+ghost use Rattle.commands.specs.measure.MeasureCounts.{CountsOnTrace};
 ghost use Rattle.commands.specs.measure.OnMeasures.{IsReplyOnPackets, IsReplyOnTrace};
 
 use crate::measure::refusals::{too_many, too_wide, unknown_flow};
@@ -51,9 +52,7 @@ fn on_curve<L: Ledger>(
     requires bounded { IsBounded (value_at curve.now) }
     requires rate { zero_q ≤ℚ rate }
     ensures reply { IfOk result (λ r. IsReplyOnPackets (of_flow flow trace.now.packets) name.now rate (reply_of r)) }
-    ensures from { steps.old ≤ steps.new }
-    ensures most { steps.new ≤ steps.old + 1 }
-    ensures report { status_of result ≡ 0 → steps.new ≡ steps.old + 1 }
+    ensures counts { CountsOnTrace (status_of result) steps.old steps.new }
 {
     curve.keeps();
     match least_burst(curve, rate, steps) {
@@ -82,9 +81,7 @@ fn on_flow<L: Ledger>(
 ) -> Result<Answer, AllocError>
     requires rate { zero_q ≤ℚ rate }
     ensures reply { IfOk result (λ r. IsReplyOnPackets (of_flow flow trace.now.packets) name.now rate (reply_of r)) }
-    ensures from { steps.old ≤ steps.new }
-    ensures most { steps.new ≤ steps.old + 1 }
-    ensures report { status_of result ≡ 0 → steps.new ≡ steps.old + 1 }
+    ensures counts { CountsOnTrace (status_of result) steps.old steps.new }
 {
     match least_curve(alloc, trace, flow) {
         Ok(curve) => on_curve(alloc, trace, flow, name, &curve, rate, steps),
@@ -106,9 +103,7 @@ pub(crate) fn on_trace<L: Ledger>(
 ) -> Result<Answer, AllocError>
     requires rate { zero_q ≤ℚ rate }
     ensures reply { IfOk result (λ r. IsReplyOnTrace net.now trace.now name.now rate (reply_of r)) }
-    ensures from { steps.old ≤ steps.new }
-    ensures most { steps.new ≤ steps.old + 1 }
-    ensures report { status_of result ≡ 0 → steps.new ≡ steps.old + 1 }
+    ensures counts { CountsOnTrace (status_of result) steps.old steps.new }
 {
     match net.flow_named(name) {
         Some(flow) => on_flow(alloc, trace, flow, name, rate, steps),

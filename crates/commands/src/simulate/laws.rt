@@ -24,25 +24,25 @@ pub fn quiet_runs_are_within_bounds()
 
 /// The bounds of a report hold for every lawful run of its network that keeps the premises, whatever the run of the
 /// trace keeps.
-pub fn run_reports_guarantee()
+pub fn reports_guarantee()
     ensures { ReportsGuarantee }
 {}
 
 /// The status of a reply tells its cause: 0 and 9 a report; 1 a rule of the network's file or a row of the trace; 6
 /// and 7 the first curve or the first cell over a limit, by that limit, and 6 also a simulation that is too wide; 8 a
 /// cycle. No reply has another one.
-pub fn run_statuses_have_causes()
+pub fn statuses_have_causes()
     ensures { StatusesHaveCauses }
 {}
 
 /// Two replies on the same files have one status, and one text unless it tells a cycle (then, too, by a law of
 /// `netcalc_cli`).
-pub fn run_replies_are_determined()
+pub fn replies_are_determined()
     ensures { RepliesAreDetermined }
 {}
 
 /// Files that give a network without a cycle and a trace of it, with no cell and no simulation over a limit, have no
 /// other reply than a report, with status 0 or 9.
-pub fn run_replies_are_complete()
+pub fn replies_are_complete()
     ensures { RepliesAreComplete }
 {}

@@ -28,7 +28,6 @@ use Rattle.net_text.specs.Becoming.{Becomes, BecomesItself, limit_fault}
 use Rattle.net_text.specs.Built.{IsServerOf, IsLiveFlowOf, IsBuilt}
 use Rattle.net_text.specs.Closing.{Closes}
 use Rattle.net_text.specs.Firsts.{PlacedCurve, service_place, arrival_place, services_from, arrivals_from, FirstCurveOver}
-use Rattle.net_text.specs.FoldLimits.{OverFold}
 use Rattle.net_text.proofs.Accepted.{accepted}
 use Rattle.net_text.proofs.Folding.{keeps_closing}
 use Rattle.net_text.proofs.Firsts.{after_services, among_services}
@@ -37,7 +36,7 @@ use Rattle.existence.specs.drafts.Drafts.{HasService, HasArrival, HasNetworkOrFa
 
 -- the first of some curves over a limit
 abbrev HasFault : List PlacedCurve → Type 0
-HasFault es = (f : Fault) × FirstCurveOver OverFold es f
+HasFault es = (f : Fault) × FirstCurveOver es f
 
 -- ---- services
 service_of : (text : CurveText) (made : Result SpecCurve OverLimit) → IsMade text made → IfOk made IsCurve
@@ -78,19 +77,19 @@ servers_of number (s ∷ ss) drafts curves =
 
 -- ---- arrivals
 closes : (c : SpecCurve) → IsCurve c → IsFinite (value_at c) → IsNonnegative (value_at c) → (r : Result SpecCurve OpFault)
-    → CloseAnswer c r → r ≢ Err faults.NoMemory → (o : Result SpecCurve OverLimit) × Closes OverFold c o
+    → CloseAnswer c r → r ≢ Err faults.NoMemory → (o : Result SpecCurve OverLimit) × Closes c o
 closes c C fin low (Ok h) a found = (Ok h, keeps_closing c (Ok h) C fin low a)
 closes c C fin low (Err faults.TooMany) a found = (Err limits.TooMany, a)
 closes c C fin low (Err faults.TooWide) a found = (Err limits.TooWide, a)
 closes c C fin low (Err faults.NoMemory) a found = absurd (found refl)
 
 closed : (text : CurveText) (c : SpecCurve) (k : IsCurve c) (m : IsMade text (Ok c)) (r : Result SpecCurve OverLimit)
-    → Closes OverFold c r → (r : Result SpecCurve OverLimit) × Becomes OverFold true text r
+    → Closes c r → (r : Result SpecCurve OverLimit) × Becomes true text r
 closed text c k m (Ok d) h = (Ok d, record { made = c; is = record { curve = k; made = m }; closes = h })
 closed text c k m (Err limit) h = (Err limit, inr record { made = c; is = record { curve = k; made = m }; closes = h })
 
 arrival_of : (packet : ℕ) (asked : Bool) (text : CurveText) (made : Result SpecCurve OverLimit) → IsArrivalOf packet text
-    → IsMade text made → IfOk made IsCurve → (r : Result SpecCurve OverLimit) × Becomes OverFold asked text r
+    → IsMade text made → IfOk made IsCurve → (r : Result SpecCurve OverLimit) × Becomes asked text r
 arrival_of packet false text made own m k = service_of text made m k
 arrival_of packet true text (Err limit) own m k = (Err limit, inl m)
 arrival_of packet true text (Ok c) own m k =
@@ -110,11 +109,11 @@ flow_with f c = record {
 
 abbrev HasFlows : ℕ → List FlowDraft → Type 0
 HasFlows number fs =
-    ((ns : List (Option NetFlow)) × AllZip (IsLiveFlowOf OverFold) (map flow_text fs) ns)
+    ((ns : List (Option NetFlow)) × AllZip IsLiveFlowOf (map flow_text fs) ns)
     ⊎ HasFault (arrivals_from number (map flow_text fs))
 
 next_flow : (number : ℕ) (f : FlowDraft) (fs : List FlowDraft) (r : Result SpecCurve OverLimit)
-    → Becomes OverFold f.closes (text_of f.arrival.text) r → HasFlows (number + 1) fs → HasFlows number (f ∷ fs)
+    → Becomes f.closes (text_of f.arrival.text) r → HasFlows (number + 1) fs → HasFlows number (f ∷ fs)
 next_flow number f fs (Err limit) b rest =
     inr (limit_fault limit (arrival_place number), inl record { limit = limit; over = b; is = refl })
 next_flow number f fs (Ok c) b (inl rest) = inl (
@@ -146,16 +145,16 @@ pub has_network : (d : Draft) → IsDraft d → All HasService d.servers.items �
 has_network d is services arrivals = elim (servers_of 0 d.servers.items is.servers services) [
   | inr fault ↦ inr (
     fault.0,
-    among_services OverFold (services_from 0 (map server_text d.servers.items)) (arrivals_from 0 (map flow_text d.flows.items)) fault.0 fault.1,
+    among_services (services_from 0 (map server_text d.servers.items)) (arrivals_from 0 (map flow_text d.flows.items)) fault.0 fault.1,
   )
   | inl servers ↦ elim (flows_of 0 d.flows.items (λ k e l. (is.flows k e l).arrival) arrivals) [
     | inr fault ↦ inr (
       fault.0,
-      after_services OverFold 0 (map server_text d.servers.items) servers.0 (arrivals_from 0 (map flow_text d.flows.items)) fault.0 servers.1 fault.1,
+      after_services 0 (map server_text d.servers.items) servers.0 (arrivals_from 0 (map flow_text d.flows.items)) fault.0 servers.1 fault.1,
     )
     | inl flows ↦
         let net : Net = record { version = d.version; servers = servers.0; flows = flows.0 } in
-        let built : IsBuilt OverFold (draft_text d) net = record { version = refl; servers = servers.1; flows = flows.1 } in
-        inl record { net = net; built = built; accepted = accepted OverFold d net is built }
+        let built : IsBuilt (draft_text d) net = record { version = refl; servers = servers.1; flows = flows.1 } in
+        inl record { net = net; built = built; accepted = accepted d net is built }
   ]
 ]

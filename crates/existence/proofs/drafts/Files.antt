@@ -2,7 +2,6 @@
 use Rattle.std.proofs.Common.{ℕ, subst}
 use Rattle.net_draft.specs.Texts.{DraftText}
 use Rattle.net_text.specs.Folds.{FoldsOf}
-use Rattle.subadd_closure.specs.FoldWork.{fold_work}
 use Rattle.existence.specs.drafts.Drafts.{HasNetworkOrFault, DraftsExist, FoldsExist, DraftsHaveNetworks}
 use Rattle.existence.proofs.drafts.Built.{has_network}
 use Rattle.existence.proofs.drafts.Folds.{folds_of}
@@ -16,7 +15,7 @@ drafts_exist bytes text h =
 pub folds_exist : FoldsExist
 folds_exist bytes text h =
     let m = draft_stands bytes text h in
-    subst (λ (d : DraftText). (total : ℕ) × FoldsOf fold_work d.flows total) m.text
+    subst (λ (d : DraftText). (total : ℕ) × FoldsOf d.flows total) m.text
     (folds_of m.draft.flows.items (λ k e l. (m.kept.flows k e l).arrival.made) m.arrivals)
 
 pub drafts_have_networks : DraftsHaveNetworks

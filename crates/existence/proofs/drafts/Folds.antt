@@ -16,14 +16,14 @@ use Rattle.subadd_closure.specs.FoldWork.{fold_work}
 use Rattle.existence.specs.drafts.Drafts.{HasArrival}
 
 fold_of : (closes : Bool) (text : CurveText) (made : Result SpecCurve OverLimit) → IsMade text made → IfOk made IsCurve
-    → (count : ℕ) × FoldOf fold_work closes text count
+    → (count : ℕ) × FoldOf closes text count
 fold_of false text made m k = (0, refl)
 fold_of true text (Ok c) m k =
     (fold_work c, inl record { curve = c; is = record { curve = k; made = m }; count_is = refl })
 fold_of true text (Err limit) m k = (0, inr record { limit = limit; over = m; count_is = refl })
 
 pub folds_of : (flows : List FlowDraft) → All (λ f. IsMadeDraft f.arrival) flows → All HasArrival flows
-    → (total : ℕ) × FoldsOf fold_work (map flow_text flows) total
+    → (total : ℕ) × FoldsOf (map flow_text flows) total
 folds_of [] made curves = (0, refl)
 folds_of (f ∷ fs) made curves =
     let (first, is_first) = fold_of f.closes (text_of f.arrival.text) f.arrival.made

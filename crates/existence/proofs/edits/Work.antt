@@ -25,7 +25,7 @@ use Rattle.commands.specs.edit.Answered.{IsAnswered, Taken, Undone, Refused, Are
 use Rattle.commands.specs.edit.EditCounts.{IsTakenWork}
 use Rattle.commands.proofs.edit.Exclusive.{gives_not_over, gives_not_refused, undo_gives_none, nothing_pushed}
 use Rattle.commands.proofs.edit.SameEdits.{answered_alike}
-use Rattle.command_replies.proofs.FirstFaults.{says}
+use Rattle.net_text.proofs.OneThing.{each_file_says_one_thing}
 use Rattle.existence.specs.edits.Laws.{HasWork, EditsHaveWork, ListsHaveWork}
 
 -- ---- one edit
@@ -134,7 +134,7 @@ answered_too old (d ∷ ds) (f ∷ fs) (w ∷ ws) last e h =
 pub lists_have_work : ListsHaveWork
 lists_have_work form net at net_bytes edits_bytes reply told first edits is asked =
     let one = edits_one (rows_of edits_bytes) (map edit_view edits) (map edit_view told.edits) asked.are told.asked.are in
-    let same = (says net_bytes).one_network told.first first told.gives.reads is in
+    let same = (each_file_says_one_thing net_bytes).one_network told.first first told.gives.reads is in
     let r = told.report in
     subst (λ (n : Net). HasWork (begun n) edits) same
     (edits_have_work (begun told.first) edits r.answers r.last

@@ -14,7 +14,6 @@ use Rattle.net_draft.specs.Texts.{FlowText, CurveText, DraftText}
 use Rattle.net_text.specs.Becoming.{Becomes, limit_fault}
 use Rattle.net_text.specs.Built.{IsServerOf, IsLiveFlowOf, IsBuilt}
 use Rattle.net_text.specs.Firsts.{PlacedCurve, FirstCurveOver, curves_of}
-use Rattle.net_text.specs.FoldLimits.{OverFold}
 use Rattle.net_text.proofs.Zips.{zip_all}
 use Rattle.net_cells.specs.Numbered.{service_of, arrival_of, flow_at}
 use Rattle.net_cells.proofs.Tables.{answers_meet}
@@ -42,23 +41,23 @@ use Rattle.existence.specs.reports.Laws.{FilesHaveReports, FilesHaveReplies, Sto
 abbrev LiveCurve : Option NetFlow → Type 0
 LiveCurve o = IsCurve (arrival_of o)
 
-becomes : (closes : Bool) (t : CurveText) (f : SpecCurve) → Becomes OverFold closes t (Ok f) → IsCurve f
+becomes : (closes : Bool) (t : CurveText) (f : SpecCurve) → Becomes closes t (Ok f) → IsCurve f
 becomes false t f b = b.curve
 becomes true t f b = b.closes.curve
 
 all_tt : {X : Type 0} (xs : List X) → All (λ x. Unit {0}) xs
 all_tt xs = λ k e l. tt
 
-live : (t : FlowText) (o : Option NetFlow) → Unit {0} → IsLiveFlowOf OverFold t o → LiveCurve o
+live : (t : FlowText) (o : Option NetFlow) → Unit {0} → IsLiveFlowOf t o → LiveCurve o
 live t o p r = subst LiveCurve (sym r.live) (becomes t.closes t.arrival r.flow.arrival r.is.arrival)
 
 -- ---- the curves of the network that a draft becomes
-module _ (d : DraftText) (net : Net) (b : IsBuilt OverFold d net) where
+module _ (d : DraftText) (net : Net) (b : IsBuilt d net) where
   each_service : All (λ (x : NetServer). IsCurve x.service) net.servers
   each_service = zip_all IsServerOf (λ t. Unit {0}) (λ (x : NetServer). IsCurve x.service) (λ t n p r. r.service.curve) d.servers net.servers (all_tt d.servers) b.servers
 
   each_arrival : All LiveCurve net.flows
-  each_arrival = zip_all (IsLiveFlowOf OverFold) (λ t. Unit {0}) LiveCurve live d.flows net.flows (all_tt d.flows) b.flows
+  each_arrival = zip_all IsLiveFlowOf (λ t. Unit {0}) LiveCurve live d.flows net.flows (all_tt d.flows) b.flows
 
   service_is : (s : ℕ) (o : Option NetServer) → slice_get net.servers s ≡ o → IsCurve (service_of o)
   service_is s None e = zero_is
@@ -119,13 +118,13 @@ on_net form bytes net g = elim (order_or_round net g.accepted) [
 
 -- ---- by what the tables say
 -- the first of some curves over a limit is over one, at a place
-limit_of : (es : List PlacedCurve) (f : Fault) → FirstCurveOver OverFold es f
+limit_of : (es : List PlacedCurve) (f : Fault) → FirstCurveOver es f
     → (limit : OverLimit) × (place : List ℕ) × (f ≡ limit_fault limit place)
 limit_of [] f h = absurd h
 limit_of (e ∷ es) f (inl here) = (here.limit, e.place, here.is)
 limit_of (e ∷ es) f (inr later) = limit_of es f later.1
 
-on_fault : (file bytes : List ℕ) (d : DraftText) (f : Fault) → draft_of bytes ≡ Ok d → FirstCurveOver OverFold (curves_of d) f
+on_fault : (file bytes : List ℕ) (d : DraftText) (f : Fault) → draft_of bytes ≡ Ok d → FirstCurveOver (curves_of d) f
     → (reply : Reply) × IsNoNetwork file bytes reply
 on_fault file bytes d f is first =
     let (limit, place, named) = limit_of (curves_of d) f first in (
@@ -134,7 +133,7 @@ on_fault file bytes d f is first =
         limit,
         record {
           place = place;
-          first = record { draft = d; is_draft = is; first = subst (FirstCurveOver OverFold (curves_of d)) named first };
+          first = record { draft = d; is_draft = is; first = subst (FirstCurveOver (curves_of d)) named first };
           is = refl;
         },
       ),

@@ -14,8 +14,6 @@ use Rattle.net_draft.specs.Texts.{DraftText}
 use Rattle.net_text.specs.Built.{IsBuilt}
 use Rattle.net_text.specs.Firsts.{FirstCurveOver, curves_of}
 use Rattle.net_text.specs.Folds.{FoldsOf}
-use Rattle.net_text.specs.FoldLimits.{OverFold}
-use Rattle.subadd_closure.specs.FoldWork.{fold_work}
 
 -- ---- curves
 -- what was made of the text, if it is a curve, is in normal form and readable
@@ -29,12 +27,12 @@ HasArrival f = IfOk f.arrival.made IsCurve
 -- an accepted network is built of the draft
 pub record HasNetwork (d : DraftText) : Type 0 where
   pub net : Net
-  pub built : IsBuilt OverFold d net
+  pub built : IsBuilt d net
   pub accepted : IsAccepted net
 
 -- or one of its curves is the first over a limit
 abbrev pub HasNetworkOrFault : DraftText → Type 0
-HasNetworkOrFault d = HasNetwork d ⊎ ((f : Fault) × FirstCurveOver OverFold (curves_of d) f)
+HasNetworkOrFault d = HasNetwork d ⊎ ((f : Fault) × FirstCurveOver (curves_of d) f)
 
 -- ---- files
 -- what holds of what the bytes of each file say whose tables break no rule
@@ -53,7 +51,7 @@ abbrev pub DraftsExist : Type 0
 DraftsExist = OfFiles HasDraft
 
 abbrev pub FoldsExist : Type 0
-FoldsExist = OfFiles (λ text. (total : ℕ) × FoldsOf fold_work text.flows total)
+FoldsExist = OfFiles (λ text. (total : ℕ) × FoldsOf text.flows total)
 
 abbrev pub DraftsHaveNetworks : Type 0
 DraftsHaveNetworks = OfFiles HasNetworkOrFault

@@ -3,7 +3,6 @@ use Rattle.std.specs.Prelude.{ℕ, List, map}
 use Rattle.net_model.specs.declared.edit.Edit.{Edit}
 use Rattle.net_model.specs.Networks.{Net}
 use Rattle.net_text.specs.Reading.{IsNetworkOf}
-use Rattle.net_text.specs.FoldLimits.{OverFold}
 use Rattle.net_cells.specs.Meanings.{CellTable}
 use Rattle.report_text.specs.declared.json_report.form.Form.{Form}
 use Rattle.input_texts.specs.table_text.EditRows.{edit_view}
@@ -27,5 +26,5 @@ abbrev pub ListsHaveWork : Type 0
 ListsHaveWork =
     (form : Form) (net : Net) (at : CellTable) (net_bytes edits_bytes : List ℕ) (reply : Reply)
     → IsReported form net at net_bytes edits_bytes reply
-    → (first : Net) (edits : List Edit) → IsNetworkOf OverFold net_bytes first → AsksFor edits_bytes (map edit_view edits)
+    → (first : Net) (edits : List Edit) → IsNetworkOf net_bytes first → AsksFor edits_bytes (map edit_view edits)
     → HasWork (begun first) edits

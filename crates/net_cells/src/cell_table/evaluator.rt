@@ -1,6 +1,8 @@
 //! What makes values.
 
-ghost use Rattle.std.specs.Prelude.{◌≡◌, ◌+◌, ◌-◌, ◌≤◌, ℕ, IsTrue, OnOk, Err};
+ghost use Rattle.std.specs.Prelude.{ℕ, IsTrue};
+ghost use Rattle.outcomes.specs.Stages.{IsEqual};
+ghost use Rattle.outcomes.specs.Spending.{Spends};
 ghost use Rattle.net_cells.specs.Cells.{has_cell};
 ghost use Rattle.net_cells.specs.CellFormulas.{formula};
 ghost use Rattle.net_cells.specs.Equations.{MeetsBelow};
@@ -29,10 +31,6 @@ pub trait Evaluator<V: CellValue> {
         requires cell { IsTrue (has_cell net.now cell) }
         requires below { MeetsBelow net.now (T.at table.now) cell }
         ensures answer { Gives (T.at table.now) (formula net.now cell) (answer_of V.meaning result) }
-        ensures exact { OnOk result (count self.new ≡ count self.old + work net.now cell) }
-        ensures rises { count self.old ≤ count self.new }
-        ensures within { count self.new ≤ count self.old + work net.now cell }
-        ensures memory { result ≡ Err OpFault.NoMemory →
-            Stops (T.at table.now) (formula net.now cell) OpFault.NoMemory (count self.new - count self.old) }
-        ensures same { counter self.new ≡ counter self.old };
+        ensures spends { Spends count counter (IsEqual (work net.now cell)) OpFault.NoMemory
+            (Stops (T.at table.now) (formula net.now cell) OpFault.NoMemory) self.old self.new result };
 }

@@ -43,6 +43,7 @@ use Rattle.upp_limits.proofs.NarrowSizes.{two_times}
 use Rattle.upp_normal.specs.Operand.{AreLimited, OperandPiece}
 use Rattle.upp_normal.proofs.UnrolledPieces.{operand_pieces}
 use Rattle.upp_normal.proofs.AnswerRoom.{stands_operand_value, values_fit, operand_lines_fit}
+use Rattle.curve_call.specs.Calls.{IsApplied}
 use Rattle.curve_call.proofs.Sums.{sum_line_value}
 use Rattle.curve_call.proofs.CallTimes.{first_stands, second_stands}
 use Rattle.curve_call.proofs.Limited.{sum_least, within_at_least}
@@ -284,15 +285,22 @@ pub steps_fit : (f g : SpecCurve) (s t : Straight) → f ≡ straight_curve s �
 steps_fit f g s t a b F G W =
     total_fits s t (subst IsCurve a F) (subst IsCurve b G) (subst (λ x. IsSumWithin (straight_curve s) x) b (subst (λ x. IsSumWithin x g) a W))
 
-small_within : (f g : SpecCurve) (s t : Straight) (d k v : ℕ) → f ≡ straight_curve s → g ≡ straight_curve t → AreLittle d k s × AreLittle d k t → IsRoom d k v → IsSumWithin f g
-small_within f g s t d k v a b L R =
-    subst (λ x. IsSumWithin x g) (sym a) (subst (λ x. IsSumWithin (straight_curve s) x) (sym b) (little_within s t d k v L.0 L.1 R))
+pub within_too : (f g : SpecCurve) (s t : Straight) → f ≡ straight_curve s → g ≡ straight_curve t → IsSumWithin (straight_curve s) (straight_curve t) → IsSumWithin f g
+within_too f g s t a b w = subst (λ x. IsSumWithin x g) (sym a) (subst (λ x. IsSumWithin (straight_curve s) x) (sym b) w)
 
 -- whole numbers, and such with denominators where the slopes are less steep
-pub whole_within : (f g : SpecCurve) (s t : Straight) → f ≡ straight_curve s → g ≡ straight_curve t → AreLittle 1 (2 ^ 48) s × AreLittle 1 (2 ^ 48) t → IsSumWithin f g
-whole_within f g s t a b L =
-    small_within f g s t 1 (2 ^ 48) (2 ^ 50) a b L record { some = omega arith; values = omega arith; far = omega arith; gauge = omega arith }
+pub whole_within : (s t : Straight) → AreLittle 1 (2 ^ 48) s × AreLittle 1 (2 ^ 48) t → IsSumWithin (straight_curve s) (straight_curve t)
+whole_within s t L =
+    little_within s t 1 (2 ^ 48) (2 ^ 50) L.0 L.1 record { some = omega arith; values = omega arith; far = omega arith; gauge = omega arith }
 
-pub fractions_within : (f g : SpecCurve) (s t : Straight) → f ≡ straight_curve s → g ≡ straight_curve t → AreLittle (2 ^ 16) (2 ^ 32) s × AreLittle (2 ^ 16) (2 ^ 32) t → IsSumWithin f g
-fractions_within f g s t a b L =
-    small_within f g s t (2 ^ 16) (2 ^ 32) (2 ^ 48) a b L record { some = omega arith; values = omega arith; far = omega arith; gauge = omega arith }
+pub fractions_within : (s t : Straight) → AreLittle (2 ^ 16) (2 ^ 32) s × AreLittle (2 ^ 16) (2 ^ 32) t → IsSumWithin (straight_curve s) (straight_curve t)
+fractions_within s t L =
+    little_within s t (2 ^ 16) (2 ^ 32) (2 ^ 48) L.0 L.1 record { some = omega arith; values = omega arith; far = omega arith; gauge = omega arith }
+
+-- the call by these numbers alone
+pub total_applied : (s t : Straight) → IsCurve (straight_curve (total s t))
+    → IsSumWithin (straight_curve s) (straight_curve t) → IsApplied Sum (straight_curve s) (straight_curve t) (straight_curve (total s t))
+total_applied s t C w = record {
+  within = call_within (straight_curve s) (straight_curve t) w;
+  made = record { curve = C; answers = λ x h. total_value s t x };
+}

@@ -14,7 +14,6 @@ use Rattle.upp_curve.specs.affine_segment.Pieces.{Each, StartsAtZero}
 use Rattle.upp_curve.specs.affine_segment.Reading.{read}
 use Rattle.upp_curve.specs.Steady.{last_line}
 use Rattle.upp_limits.specs.Limits.{Sizes}
-use Rattle.upp_limits.specs.Sized.{grid_of, times_largest}
 use Rattle.upp_normal.specs.Operand.{AreLimited}
 use Rattle.plain_operators.specs.running.Scans.{flat, IsInfimumUntil}
 use Rattle.plain_operators.specs.running.Made.{IsInfimumScan}

@@ -8,6 +8,7 @@ ghost use Rattle.upp_curve.specs.Curves.{IsCurve};
 ghost use Rattle.min_plus.specs.Pointwise.{IsSum};
 ghost use Rattle.upp_limits.specs.Outcome.{KeepsLimits};
 ghost use Rattle.curve_call.specs.Frames.{IsRefusedAt};
+ghost use Rattle.curve_call.specs.Calls.{IsApplied};
 ghost use Rattle.plain_operators.specs.pointwise.Straight.{straight_piece, straight_curve, total, TotalFits, IsSumWithin, IsLittle, AreLittle};
 
 use curve_call::within;
@@ -20,11 +21,11 @@ use upp_limits::{OpFault, OpKind};
 
 /// A curve of one piece: a value at 0, and after it one line for ever.
 #[derive(Clone, Copy)]
-pub(crate) struct Straight {
+pub struct Straight {
     /// The value at 0.
-    pub(crate) at: Frac,
+    pub at: Frac,
     /// The line after it.
-    pub(crate) line: Line,
+    pub line: Line,
 }
 
 // The one piece, where there is one alone and it is finite.
@@ -46,7 +47,7 @@ fn one_line(pieces: &[Piece]) -> Option<Straight>
 }
 
 /// The curve as one line, if it is one.
-pub(crate) fn straight_of(c: &Curve) -> Option<Straight>
+pub fn straight_of(c: &Curve) -> Option<Straight>
     ensures { IfSome result (λ s. c.now ≡ straight_curve s) }
 {
     match c.tail() {
@@ -55,12 +56,20 @@ pub(crate) fn straight_of(c: &Curve) -> Option<Straight>
     }
 }
 
-fn curve_of(alloc: Global, s: &Straight) -> Result<Curve, AllocError>
-    ensures { IfOk result (λ c. c ≡ straight_curve s.now) }
+// One line is a curve, since a fraction is small.
+fn is_kept(s: &Straight)
+    ensures { IsCurve (straight_curve s.now) }
 {
-    let zero = Frac::zero();
     let icept = s.line.icept;
     let _sizes = (icept.numerator(), icept.denominator());
+}
+
+/// The curve of one line. Refused only for want of memory.
+pub fn line_curve(alloc: Global, s: &Straight) -> Result<Curve, AllocError>
+    ensures { IfOk result (λ c. c ≡ straight_curve s.now) }
+{
+    is_kept(s);
+    let zero = Frac::zero();
     let pieces = [Piece {
         x: zero,
         at: Extended::Fin(s.at),
@@ -73,18 +82,17 @@ fn curve_of(alloc: Global, s: &Straight) -> Result<Curve, AllocError>
 }
 
 // The sum of two lines, where the steps fit.
-fn total_of(alloc: Global, f: &Straight, g: &Straight) -> Result<Curve, AllocError>
+fn total_of(f: &Straight, g: &Straight) -> Straight
     requires { TotalFits f.now g.now }
-    ensures { IfOk result (λ c. c ≡ straight_curve (total f.now g.now)) }
+    ensures { result ≡ total f.now g.now }
 {
     let at = fraction128::sum(f.at, g.at);
     let icept = fraction128::sum(f.line.icept, g.line.icept);
     let slope = fraction128::sum(f.line.slope, g.line.slope);
-    let both = Straight {
+    Straight {
         at,
         line: Line { icept, slope },
-    };
-    curve_of(alloc, &both)
+    }
 }
 
 // Whether a number has this denominator, and a numerator of at most this size.
@@ -128,18 +136,40 @@ fn both_little(left: &Straight, right: &Straight, fine: u128, steep: u128) -> bo
     are_little(right, fine, steep)
 }
 
-// Refuses a sum over a limit. Where all numbers are small none is, and no gauge is looked at: whole ones, and such with
-// denominators, as the rates of other flows leave them.
+// Whether all numbers are so small that no gauge has to be looked at: whole ones, and such with denominators, as the rates
+// of other flows leave them.
+fn are_small(left: &Straight, right: &Straight) -> bool
+    ensures { IsTrue result → IsSumWithin (straight_curve left.now) (straight_curve right.now) }
+{
+    if both_little(left, right, 1, 1 << 48) {
+        return true;
+    }
+    both_little(left, right, 1 << 16, 1 << 32)
+}
+
+/// The sum of two curves of one line each by their numbers alone, where these are small: the call is over no limit, and no
+/// memory is taken. None where one is not small.
+pub fn small_total(f: &Straight, g: &Straight) -> Option<Straight>
+    ensures { IfSome result (λ s. IsApplied OpKind.Sum (straight_curve f.now) (straight_curve g.now) (straight_curve s)) }
+{
+    if !are_small(f, g) {
+        return None;
+    }
+    is_kept(f);
+    is_kept(g);
+    let both = total_of(f, g);
+    is_kept(&both);
+    Some(both)
+}
+
+// Refuses a sum over a limit.
 fn refuse_sum(f: &Curve, g: &Curve, left: &Straight, right: &Straight) -> Result<(), OpFault>
     requires left { f.now ≡ straight_curve left.now }
     requires right { g.now ≡ straight_curve right.now }
     ensures within { IfOk result (λ u. IsSumWithin f.now g.now) }
     ensures refused { IfErr result (IsRefusedAt OpKind.Sum f.now g.now 0 0) }
 {
-    if both_little(left, right, 1, 1 << 48) {
-        return Ok(());
-    }
-    if both_little(left, right, 1 << 16, 1 << 32) {
+    if are_small(left, right) {
         return Ok(());
     }
     match within(&OpKind::Sum, f, g, 0) {
@@ -165,5 +195,6 @@ pub(crate) fn sum_straight(
     f.keeps();
     g.keeps();
     refuse_sum(f, g, left, right)?;
-    Ok(total_of(alloc, left, right)?)
+    let both = total_of(left, right);
+    Ok(line_curve(alloc, &both)?)
 }

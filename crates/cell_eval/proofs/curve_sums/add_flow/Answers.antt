@@ -3,7 +3,7 @@ use Rattle.std.specs.Prelude.{Ok}
 use Rattle.net_cells.specs.declared.cell.Kind.TheVariants.{In}
 use Rattle.net_cells.specs.Order.{at_visit}
 use Rattle.cell_numbers.specs.Chosen.{visit_list}
-use Rattle.cell_eval.specs.Partial.{Adds, in_place}
+use Rattle.cell_eval.specs.Partial.{Adds, in_place, partial_of}
 use Rattle.cell_eval.proofs.SumSteps.{adds_none}
 use Rattle.cell_eval.proofs.curve_sums.add_flow.Goals as goal
 
@@ -13,13 +13,14 @@ add-requires-clause-cell g c =
 
 pub returns-in-Some-clause-sum : goal.returns-in-Some-clause-sum
 returns-in-Some-clause-sum g c = λ cells h.
-    let at = g.T.Table.at c.args.table.now in
+    let at = g.T.Table.at c.args.inputs.now.table.now in
     let is = c.chosen_at.ensures ∙ ap (visit_list c.args.flow) c.in-Some.is in
-    subst (λ vs. Adds at cells (map (at_visit In) vs) c.args.steps.now c.add.new.steps (in_place c.add.new.so_far c.add.result)) (sym is) (c.add.ensures.sum cells h)
+    let r = in_place (partial_of c.add.new.so_far) c.add.result in
+    subst (λ vs. Adds at cells (map (at_visit In) vs) c.args.steps.now c.add.new.steps r) (sym is) (c.add.ensures.sum cells h)
 
 pub returns-in-None-clause-sum : goal.returns-in-None-clause-sum
 returns-in-None-clause-sum g c = λ cells h.
-    let at = g.T.Table.at c.args.table.now in
+    let at = g.T.Table.at c.args.inputs.now.table.now in
     let is = c.chosen_at.ensures ∙ ap (visit_list c.args.flow) c.in-None.is in
-    subst (λ vs. Adds at cells (map (at_visit In) vs) c.args.steps.now c.args.steps.now (Ok c.args.so_far.now)) (sym is)
-    (adds_none at cells c.args.so_far.now c.args.steps.now h)
+    subst (λ vs. Adds at cells (map (at_visit In) vs) c.args.steps.now c.args.steps.now (Ok (partial_of c.args.so_far.now))) (sym is)
+    (adds_none at cells (partial_of c.args.so_far.now) c.args.steps.now h)

@@ -10,7 +10,7 @@ pub returns : goal.returns
 returns g c = λ cells h.
     let f = c.args.so_far.now in
     let k = c.deref.result.now in
-    adds_sum (g.T.Table.at c.args.table.now) cells f k c.args.cell c.args.steps.now _ c.intact.result h
+    adds_sum (g.T.Table.at c.args.inputs.now.table.now) cells f k c.args.cell c.args.steps.now _ c.intact.result h
     (c.curve_at.ensures ∙ ap (λ f. Some (curve f)) (sym c.deref.ensures))
     (applied_seen Sum f k c.sum.result c.intact.result c.intact.ensures.same c.sum.ensures.value c.sum.ensures.limits c.intact.ensures.kept)
     c.sum.ensures.count

@@ -22,40 +22,40 @@ use Rattle.cell_eval.proofs.parts.part_made.Goals as goal
 
 -- ---- the sum of the part's flows
 abbrev visits : (g : Over) → After-flows_sum g → List Visit
-visits g c = in_part c.args.net.now c.args.place.0 c.args.place.1 c.args.part
+visits g c = in_part c.args.inputs.now.net.now c.args.place.0 c.args.place.1 c.args.part
 
 abbrev Adding : (g : Over) → After-flows_sum g → List Visit → Result Partial OpFault → Type 0
-Adding g c vs = Adds (g.T.Table.at c.args.table.now) [] (map (at_visit In) vs) c.args.steps.now c.flows_sum.new.steps
+Adding g c vs = Adds (g.T.Table.at c.args.inputs.now.table.now) [] (map (at_visit In) vs) c.args.steps.now c.flows_sum.new.steps
 
 summed : (g : Over) (c : After-flows_sum g) (r : Result Partial OpFault) → c.flows_sum.result ≡ r → Adding g c (visits g c) r
 summed g c r is =
     subst (Adding g c (visits g c)) is
-    (subst (λ (vs : List Visit). Adding g c vs c.flows_sum.result) (sym (part_visits c.args.net.now c.args.place.0 c.args.place.1 c.args.part))
+    (subst (λ (vs : List Visit). Adding g c vs c.flows_sum.result) (sym (part_visits c.args.inputs.now.net.now c.args.place.0 c.args.place.1 c.args.part))
     c.flows_sum.ensures.sum)
 
 -- of the flows that enter there
 entered : (g : Over) (c : After-flows_sum g) (p : Partial) → c.flows_sum.result ≡ Ok p → c.args.part ≡ 0
-    → Adding g c (in_part c.args.net.now c.args.place.0 c.args.place.1 0) (Ok p)
+    → Adding g c (in_part c.args.inputs.now.net.now c.args.place.0 c.args.place.1 0) (Ok p)
 entered g c p is none =
-    subst (λ k. Adding g c (in_part c.args.net.now c.args.place.0 c.args.place.1 k) (Ok p)) none (summed g c (Ok p) is)
+    subst (λ k. Adding g c (in_part c.args.inputs.now.net.now c.args.place.0 c.args.place.1 k) (Ok p)) none (summed g c (Ok p) is)
 
 pub returns-then-part-eq0-clause-part : goal.returns-then-part-eq0-clause-part
 returns-then-part-eq0-clause-part g c =
     let adds = entered g (goal.at.returns-then-part-eq0-clause-part g c).After-flows_sum c.in-Ok.flows c.in-Ok.is c.if-part-eq0.true in
-    let at = g.T.Table.at c.args.table.now in
-    subst (λ k. MakesPart at c.args.net.now c.args.place.0 c.args.place.1 k (Ok c.in-Ok.flows)) (sym c.if-part-eq0.true)
-    (entering at c.args.net.now c.args.place.0 c.args.place.1 c.in-Ok.flows adds.0 (search rules))
+    let at = g.T.Table.at c.args.inputs.now.table.now in
+    subst (λ k. MakesPart at c.args.inputs.now.net.now c.args.place.0 c.args.place.1 k (Ok c.in-Ok.flows)) (sym c.if-part-eq0.true)
+    (entering at c.args.inputs.now.net.now c.args.place.0 c.args.place.1 c.in-Ok.flows adds.0 (search rules))
 
 pub returns-then-part-eq0-clause-counts : goal.returns-then-part-eq0-clause-counts
 returns-then-part-eq0-clause-counts g c =
     let adds = entered g (goal.at.returns-then-part-eq0-clause-counts g c).After-flows_sum c.in-Ok.flows c.in-Ok.is c.if-part-eq0.true in
-    let net = c.args.net.now in
+    let net = c.args.inputs.now.net.now in
     let old = c.args.steps.now in
     let new = c.flows_sum.new.steps in
-    let r = part_answer (g.T.Table.at c.args.table.now) (Ok c.in-Ok.flows) in
+    let r = part_answer (g.T.Table.at c.args.inputs.now.table.now) (Ok c.in-Ok.flows) in
     subst (λ k. Counts (part_work net c.args.place.0 c.args.place.1 k) old new r) (sym c.if-part-eq0.true)
     (counts_all (part_work net c.args.place.0 c.args.place.1 0) old new r
-    (entering_counts net c.args.place.0 c.args.place.1 old new (g.T.Table.at c.args.table.now) c.in-Ok.flows adds))
+    (entering_counts net c.args.place.0 c.args.place.1 old new (g.T.Table.at c.args.inputs.now.table.now) c.in-Ok.flows adds))
 
 -- of those that come over a link
 pub returns-else-part-eq0-clause-part : goal.returns-else-part-eq0-clause-part
@@ -71,9 +71,9 @@ returns-else-part-eq0-clause-counts g c =
 pub returns-else-part-eq0-clause-refused : goal.returns-else-part-eq0-clause-refused
 returns-else-part-eq0-clause-refused g c =
     let here = (goal.at.returns-else-part-eq0-clause-refused g c).After-flows_sum in
-    let at = g.T.Table.at c.args.table.now in
+    let at = g.T.Table.at c.args.inputs.now.table.now in
     let vs = visits g here in
-    let sum = part_sum c.args.net.now c.args.part vs in
+    let sum = part_sum c.args.inputs.now.net.now c.args.part vs in
     err_map c.cut_part.result
     (λ e. (old : ℕ) → Adds at [] (map (at_visit In) vs) old c.flows_sum.new.steps (Ok c.in-Ok.flows)
     → RefusedAt at sum e (c.cut_part.new.steps - old))
@@ -84,20 +84,21 @@ returns-else-part-eq0-clause-refused g c =
 pub returns-in-Err-clause-part : goal.returns-in-Err-clause-part
 returns-in-Err-clause-part g c =
     let here = (goal.at.returns-in-Err-clause-part g c).After-flows_sum in
-    refused_part (g.T.Table.at c.args.table.now) c.args.net.now c.args.place.0 c.args.place.1 c.args.part c.args.steps.now c.flows_sum.new.steps
+    let net = c.args.inputs.now.net.now in
+    refused_part (g.T.Table.at c.args.inputs.now.table.now) net c.args.place.0 c.args.place.1 c.args.part c.args.steps.now c.flows_sum.new.steps
     c.in-Err.fault (summed g here (Err c.in-Err.fault) c.in-Err.is).0
 
 pub returns-in-Err-clause-counts : goal.returns-in-Err-clause-counts
 returns-in-Err-clause-counts g c =
     let here = (goal.at.returns-in-Err-clause-counts g c).After-flows_sum in
-    refused_counts c.args.net.now c.args.place.0 c.args.place.1 c.args.part c.args.steps.now c.flows_sum.new.steps
-    (g.T.Table.at c.args.table.now) c.in-Err.fault (summed g here (Err c.in-Err.fault) c.in-Err.is)
+    refused_counts c.args.inputs.now.net.now c.args.place.0 c.args.place.1 c.args.part c.args.steps.now c.flows_sum.new.steps
+    (g.T.Table.at c.args.inputs.now.table.now) c.in-Err.fault (summed g here (Err c.in-Err.fault) c.in-Err.is)
 
 pub returns-in-Err-clause-refused : goal.returns-in-Err-clause-refused
 returns-in-Err-clause-refused g c =
     let here = (goal.at.returns-in-Err-clause-refused g c).After-flows_sum in
-    let at = g.T.Table.at c.args.table.now in
+    let at = g.T.Table.at c.args.inputs.now.table.now in
     let new = c.flows_sum.new.steps in
-    part_refused at c.args.net.now c.args.part (visits g here) c.in-Err.fault (new - c.args.steps.now)
+    part_refused at c.args.inputs.now.net.now c.args.part (visits g here) c.in-Err.fault (new - c.args.steps.now)
     (failed_at at (map (at_visit In) (visits g here)) c.args.steps.now new c.in-Err.fault
     (summed g here (Err c.in-Err.fault) c.in-Err.is).0)

@@ -18,14 +18,14 @@ part_made-requires-clause-curves g c =
 
 pub loop-part-init : goal.loop-part-init
 loop-part-init g c =
-    let at = g.T.Table.at c.args.table.now in
-    subst (λ ps. AreMade at c.args.net.now c.args.place.0 c.args.place.1 0 ps c.args.steps.now c.args.steps.now) (sym c.new-parts.ensures)
-    (none_made at c.args.net.now c.args.place.0 c.args.place.1 c.args.steps.now)
+    let at = g.T.Table.at c.args.inputs.now.table.now in
+    subst (λ ps. AreMade at c.args.inputs.now.net.now c.args.place.0 c.args.place.1 0 ps c.args.steps.now c.args.steps.now) (sym c.new-parts.ensures)
+    (none_made at c.args.inputs.now.net.now c.args.place.0 c.args.place.1 c.args.steps.now)
 
 pub loop-part-preserved : goal.loop-part-preserved
 loop-part-preserved g c =
-    let at = g.T.Table.at c.args.table.now in
-    let net = c.args.net.now in
+    let at = g.T.Table.at c.args.inputs.now.table.now in
+    let net = c.args.inputs.now.net.now in
     let s = c.args.place.0 in
     let q = c.args.place.1 in
     let n = c.loop-part.part in
@@ -36,8 +36,8 @@ loop-part-preserved g c =
 
 pub returns-in-Err-clause-refused : goal.returns-in-Err-clause-refused
 returns-in-Err-clause-refused g c =
-    let at = g.T.Table.at c.args.table.now in
-    let net = c.args.net.now in
+    let at = g.T.Table.at c.args.inputs.now.table.now in
+    let net = c.args.inputs.now.net.now in
     let s = c.args.place.0 in
     let q = c.args.place.1 in
     let n = c.loop-part.part in
@@ -53,9 +53,10 @@ returns-in-Err-clause-refused g c =
 
 pub returns-clause-made : goal.returns-clause-made
 returns-clause-made g c =
-    let at = g.T.Table.at c.args.table.now in
+    let at = g.T.Table.at c.args.inputs.now.table.now in
     let count = ap length c.servers.ensures.servers in
     let every = length-map c.servers.result.now server_of in
-    let last : c.loop-part.part ≡ suc (length c.args.net.now.servers) =
+    let last : c.loop-part.part ≡ suc (length c.args.inputs.now.net.now.servers) =
     omega (arith, count, every, c.loop-part-test.false, c.loop-part.auto.part-end) in
-    subst (λ n. AreMade at c.args.net.now c.args.place.0 c.args.place.1 n c.loop-part.parts.items c.args.steps.now c.loop-part.steps) last c.loop-part.invariant
+    let net = c.args.inputs.now.net.now in
+    subst (λ n. AreMade at net c.args.place.0 c.args.place.1 n c.loop-part.parts.items c.args.steps.now c.loop-part.steps) last c.loop-part.invariant

@@ -8,8 +8,9 @@ use Rattle.net_cells.specs.Cells.{path_kinds}
 use Rattle.net_cells.specs.Order.{evaluation_order, server_cells, path_cells}
 use Rattle.net_cells.proofs.Lists.{contains_has}
 use Rattle.cell_rules.specs.cell_changes.Changes.{TouchedOf}
-use Rattle.cell_rules.specs.Marks.{MarksReached, IsSearched, Searches, StandBehind}
+use Rattle.cell_rules.specs.Marks.{AreOfPaths, MarksReached, IsSearched, Searches, StandBehind}
 use Rattle.cell_rules.proofs.Found.{few_touched}
+use Rattle.cell_rules.proofs.PathMarks.{of_paths}
 use Rattle.cell_rules.proofs.Searched.{searched_none, stand_server, stand_paths, both_parts, more_server}
 use Rattle.cell_rules.proofs.finding.touched_cells.Goals as goal
 
@@ -51,8 +52,8 @@ loop-place-preserved c =
           (c.in_ok-search_server.ensures.reached front stand inv.searched inv.reached);
     }
 
-pub search-requires-clause-place : goal.search-requires-clause-place
-search-requires-clause-place c =
+pub search_paths-requires-clause-place : goal.search_paths-requires-clause-place
+search_paths-requires-clause-place c =
     let net = c.args.net.now in
     let order = c.args.order.now in
     let same = c.deref.ensures.value ∙ c.in_ok-paths.ensures in (
@@ -61,8 +62,12 @@ search-requires-clause-place c =
           (stand_paths net order c.requires.order),
     )
 
-pub search-requires-clause-bare : goal.search-requires-clause-bare
-search-requires-clause-bare c =
+pub search_paths-requires-clause-paths : goal.search_paths-requires-clause-paths
+search_paths-requires-clause-paths c =
+    subst AreOfPaths (sym (c.deref.ensures.value ∙ c.in_ok-paths.ensures)) (of_paths c.args.net.now)
+
+pub search_paths-requires-clause-bare : goal.search_paths-requires-clause-bare
+search_paths-requires-clause-bare c =
     let inv = c.loop-place.invariant in record { room = inv.searched.flags_are.room; bare = inv.searched.bare }
 
 -- all are searched
@@ -81,10 +86,10 @@ at_end old net order i cells flags more touched longer o h e before all =
 pub returns-clause-touched : goal.returns-clause-touched
 returns-clause-touched c =
     at_end c.args.old.now c.args.net.now c.args.order.now c.loop-place.place c.deref.result.now c.loop-place.flags.items
-    c.search.new.flags.items c.loop-place.touched.items c.search.new.touched.items c.requires.order (omega arith)
-    (c.deref.ensures.value ∙ c.in_ok-paths.ensures) c.loop-place.invariant.searched c.in_ok-search.ensures.searched
+    c.search_paths.new.flags.items c.loop-place.touched.items c.search_paths.new.touched.items c.requires.order (omega arith)
+    (c.deref.ensures.value ∙ c.in_ok-paths.ensures) c.loop-place.invariant.searched c.in_ok-search_paths.ensures
 
 pub returns-clause-few : goal.returns-clause-few
 returns-clause-few c =
-    few_touched c.args.old.now c.args.net.now c.args.order.now c.search.new.touched.items c.keeps.ensures c.requires.order
+    few_touched c.args.old.now c.args.net.now c.args.order.now c.search_paths.new.touched.items c.keeps.ensures c.requires.order
     (returns-clause-touched c)

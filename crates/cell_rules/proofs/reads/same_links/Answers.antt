@@ -1,5 +1,5 @@
 use Rattle.std.proofs.Common.{◌≡◌, ◌∙◌, sym, ℕ, arith, below_more}
-use Rattle.net_cells.specs.Numbered.{hops, link, server_of_hop}
+use Rattle.net_cells.specs.Numbered.{link, server_of_hop}
 use Rattle.cell_rules.proofs.Tells.{tells_yes, tells_no}
 use Rattle.cell_rules.proofs.SameMade.{same_links, other_link}
 use Rattle.cell_rules.proofs.reads.same_links.Goals as goal

@@ -20,15 +20,13 @@ of_server : (net : Net) (s q : ℕ) (x : Server) → slice_get net.servers s ≡
     → left_formula x.service (left_of net s q (views.discipline_of x.discipline)) ≡ formula_of net QueueService s q
 of_server net s q x is = sym (ap (λ (o : Option NetServer). left_formula (service_of o) (left_of net s q (discipline_of o))) is)
 
-pub same_left-requires : goal.same_left-requires
-same_left-requires c =
+pub same_left-requires-clause-fit : goal.same_left-requires-clause-fit
+same_left-requires-clause-fit c =
     let old = c.args.old.now in
     let s = c.args.place.0 in
     let q = c.args.place.1 in
     let here = subst (λ (o : Option NetServer). q < queue_count (discipline_of o)) c.requires.old c.requires.queue in
-    record {
-      fit = subst IsFit (c.leaves.ensures old s q) (left_fits old s q (views.discipline_of c.args.f.now.discipline) c.requires.kept.queues here);
-    }
+    subst IsFit (c.leaves.ensures old s q) (left_fits old s q (views.discipline_of c.args.f.now.discipline) c.requires.kept.queues here)
 
 pub returns-then-same_curve : goal.returns-then-same_curve
 returns-then-same_curve c =

@@ -1,13 +1,10 @@
-use Rattle.std.proofs.Common.{◌∙◌}
+use Rattle.std.proofs.Common.{refl}
 use Rattle.std.specs.Prelude.{◌+◌}
+use Rattle.upp_curve.specs.Unrolled.{unroll}
 use Rattle.upp_normal.proofs.NormaliseForm.{ok_map}
 use Rattle.plain_operators.proofs.pointwise.LatticeCalls.{left_rise, right_rise, from_fits}
-use Rattle.curve_conv.proofs.ConvolveAnswers.{windows, convolved_answer, convolved_values}
+use Rattle.curve_conv.proofs.ConvolveAnswers.{convolved_answer, convolved_values}
 use Rattle.curve_conv.proofs.operator.convolved_within.Goals as goal
-
-pub window_convolution-requires : goal.window_convolution-requires
-window_convolution-requires c =
-    windows c.args.f.now c.args.g.now c.args.frame.now c.deref.result.now c.deref-2.result.now c.requires (c.deref.ensures.value ∙ c.in_ok-left.ensures) (c.deref-2.ensures.value ∙ c.in_ok-right.ensures)
 
 pub repetition-repeats-requires-clause-first : goal.repetition-repeats-requires-clause-first
 repetition-repeats-requires-clause-first c = let r = c.args.frame.now in let F = c.requires in (left_rise c.args.f.now c.args.g.now r.start r.period r.end (F.number + 1) F.sizes F.call).fits
@@ -20,13 +17,13 @@ repetition-repeats-requires-clause-fits c = let r = c.args.frame.now in let F = 
 
 pub framed_answer-requires : goal.framed_answer-requires
 framed_answer-requires c =
-    convolved_answer c.args.f.now c.args.g.now c.args.frame.now c.deref.result.now c.deref-2.result.now c.in_ok-pieces.pieces.items c.repetition-repeats.result.0 c.repetition-repeats.result.1 c.requires
-    (c.deref.ensures.value ∙ c.in_ok-left.ensures) (c.deref-2.ensures.value ∙ c.in_ok-right.ensures) c.in_ok-pieces.ensures c.repetition-repeats.ensures.from c.repetition-repeats.ensures.rise
+    convolved_answer c.args.f.now c.args.g.now c.args.frame.now (unroll c.args.f.now c.args.frame.now.end) (unroll c.args.g.now c.args.frame.now.end) c.in_ok-pieces.pieces.items c.repetition-repeats.result.0 c.repetition-repeats.result.1 c.requires
+    refl refl c.in_ok-pieces.ensures c.repetition-repeats.ensures.from c.repetition-repeats.ensures.rise
 
 pub returns : goal.returns
 returns c =
     ok_map c.framed_answer.result _ _
     (λ a h.
-    convolved_values c.args.f.now c.args.g.now c.args.frame.now c.deref.result.now c.deref-2.result.now c.in_ok-pieces.pieces.items c.repetition-repeats.result.0 c.repetition-repeats.result.1 a c.requires
-    (c.deref.ensures.value ∙ c.in_ok-left.ensures) (c.deref-2.ensures.value ∙ c.in_ok-right.ensures) c.in_ok-pieces.ensures c.repetition-repeats.ensures.from c.repetition-repeats.ensures.rise h)
+    convolved_values c.args.f.now c.args.g.now c.args.frame.now (unroll c.args.f.now c.args.frame.now.end) (unroll c.args.g.now c.args.frame.now.end) c.in_ok-pieces.pieces.items c.repetition-repeats.result.0 c.repetition-repeats.result.1 a c.requires
+    refl refl c.in_ok-pieces.ensures c.repetition-repeats.ensures.from c.repetition-repeats.ensures.rise h)
     c.framed_answer.ensures

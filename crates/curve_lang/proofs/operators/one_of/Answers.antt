@@ -14,7 +14,7 @@ returns-in-Close g c =
     subst (λ k. OneFinds k c.args.f.now (found c.kept_call.result) c.args.steps.now c.close.new.steps) (sym c.in-Close.is)
     (close_found c.args.f.now c.close.result (found c.kept_call.result) c.args.steps.now c.close.new.steps c.close.ensures.answer
     (subst (λ x. IfOk x IsCurve) c.intact.ensures.same c.intact.ensures.kept) c.close.ensures.value
-    record { all = c.close.ensures.exact; memory = c.close.ensures.memory; most = c.close.ensures.within }
+    c.close.ensures.spends
     (subst (λ x. CallKept x (found c.kept_call.result)) c.intact.ensures.same c.kept_call.ensures))
 
 pub returns-in-RunSup : goal.returns-in-RunSup

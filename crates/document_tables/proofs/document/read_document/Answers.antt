@@ -10,6 +10,7 @@ use Rattle.document_tables.specs.Ways.{AreBranchesOf}
 use Rattle.document_tables.proofs.TableRanges.{ports_in_range, links_in_range}
 use Rattle.document_tables.proofs.LinkFacts.{links_are}
 use Rattle.document_tables.proofs.BranchWays.{branches_are}
+use Rattle.document_tables.proofs.ShortNodes.{short_trees}
 use Rattle.document_tables.proofs.NetworkFacts.{network_range, branches_range, same_length, links_length}
 use Rattle.document_tables.proofs.document.read_document.Goals as goal
 
@@ -19,6 +20,16 @@ document_with-requires-clause-ports c = (ports_in_range (map row_view c.args.por
 pub document_with-requires-clause-keys : goal.document_with-requires-clause-keys
 document_with-requires-clause-keys c =
     (links_in_range (ports_view c.in-Ok.ports) c.args.overhead (map line_row (rows_of c.args.link_rows.now)) (links_view c.in-Ok-read_links.table) c.in-Ok-read_links.ensures.value).0
+
+pub document_with-requires-clause-short : goal.document_with-requires-clause-short
+document_with-requires-clause-short c =
+    let ports = ports_view c.in-Ok.ports in
+    let table = c.in-Ok-read_links.table in
+    let rows = map line_row (rows_of c.args.link_rows.now) in
+    let read = c.in-Ok-read_links.ensures in
+    let texts = ports_in_range (map row_view c.args.port_rows.now) ports c.in-Ok.ensures in
+    let keys = links_in_range ports c.args.overhead rows (links_view table) read.value in
+    short_trees ports c.args.overhead table texts.1 keys.0 (links_are ports c.args.overhead rows (links_view table) read.value) read.kept
 
 pub returns-in-Ok-document_with-clause-network : goal.returns-in-Ok-document_with-clause-network
 returns-in-Ok-document_with-clause-network c =

@@ -1,5 +1,6 @@
 use Rattle.std.proofs.Common.{◌+◌, ◌<◌, ◌++◌, ◌∷◌, [], List, map, length, drop, refl, sym, ap, ◌∙◌, arith}
 use Rattle.std.proofs.lemmas.List.{map-append}
+use Rattle.std.proofs.lemmas.Option.{slice_get-get_or}
 use Rattle.tree_network.specs.declared.network.Link.{Link}
 use Rattle.document_tables.specs.Grids.{LinkOnGrid, grid_link, link_on_grid, links_from}
 use Rattle.document_tables.specs.Ports.{ports_view}
@@ -41,3 +42,9 @@ returns c = λ branches are.
     let ports = (ports_view c.args.ports.now).ports in
     sym (links_all ports c.args.overhead branches (map grid_link c.loop-number.links.items) c.args.keys.now c.loop-number.number (omega arith))
     ∙ c.loop-number.invariant.made branches are
+
+pub link_of-requires-clause-short : goal.link_of-requires-clause-short
+link_of-requires-clause-short c =
+    let k = c.loop-number.number in
+    let there = sym (c.loop-number.invariant.left k (omega arith)) ∙ c.take_tree-tree.ensures.tree in
+    c.requires.short k _ c.take_tree-tree.result (slice_get-get_or c.args.keys.now k _ (omega arith)) there

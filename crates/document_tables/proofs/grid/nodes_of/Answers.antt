@@ -21,3 +21,6 @@ returns c =
     let entries = c.args.tree.now.stops in
     let make = node_of (ports_view c.args.ports.now).ports c.args.priority entries in
     c.loop-place.invariant ∙ ap (map make) (take_all c.loop-place.place entries (omega (arith, c.len-place-end.ensures, c.loop-place-test.false)))
+
+pub node_of-requires : goal.node_of-requires
+node_of-requires c = c.requires c.loop-place.place c.stop-port.result c.stop-port.ensures

@@ -65,9 +65,11 @@ returns-clause-kept c =
     let same = length-set trees c.args.link c.grow.new.self in record {
       names = kept.names;
       trees = omega (arith, same, kept.trees);
-      each = each_set (λ (k : ℕ) (t : Tree). IsTreeOf (paths_of k (map (branch_view c.push_branch.new.passed.items) c.push_branch.new.branches.items)) t) trees c.args.link c.grow.new.self below
-          (λ k t other at. subst (λ (ps : List (List ℕ)). IsTreeOf ps t) (sym (ap (paths_of k) branches ∙ paths_same k before.branches text (λ e. other (sym e)))) (kept.each k t at))
-          (subst (λ (ps : List (List ℕ)). IsTreeOf ps c.grow.new.self) (sym (ap (paths_of c.args.link) branches ∙ paths_more c.args.link before.branches text refl)) grown.1);
+      of_paths = record {
+        each = each_set (λ (k : ℕ) (t : Tree). IsTreeOf (paths_of k (map (branch_view c.push_branch.new.passed.items) c.push_branch.new.branches.items)) t) trees c.args.link c.grow.new.self below
+            (λ k t other at. subst (λ (ps : List (List ℕ)). IsTreeOf ps t) (sym (ap (paths_of k) branches ∙ paths_same k before.branches text (λ e. other (sym e)))) (kept.of_paths.each k t at))
+            (subst (λ (ps : List (List ℕ)). IsTreeOf ps c.grow.new.self) (sym (ap (paths_of c.args.link) branches ∙ paths_more c.args.link before.branches text refl)) grown.1);
+      };
       others = λ k h. ap (paths_of k) branches ∙ (paths_same k before.branches text (λ e. apart c.args.link k (length c.args.table.now.keys.items) c.requires.there h e) ∙ kept.others k h);
       hung = λ k b h.
           subst (λ (ns : List ℕ). IsHung ns (map (branch_view c.push_branch.new.passed.items) c.push_branch.new.branches.items) b) (sym ports)

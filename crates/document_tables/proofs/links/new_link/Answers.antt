@@ -28,10 +28,12 @@ returns-clause-kept c =
     let one_tree = length-append old.trees.items (c.new.result ∷ []) in record {
       names = omega (arith, more_names, one_name, more_keys, one_key, kept.names);
       trees = omega (arith, more_trees, one_tree, more_keys, one_key, kept.trees);
-      each = λ k tree h.
-          each_push (λ (k : ℕ) (t : Tree). IsTreeOf (paths_of k branches) t) old.trees.items c.new.result kept.each
-          (subst (λ (paths : List (List ℕ)). IsTreeOf paths c.new.result) (sym (kept.others (length old.trees.items) (omega (arith, kept.trees)))) c.new.ensures)
-          k tree (ap (λ (ts : List Tree). slice_get ts k) (sym trees) ∙ h);
+      of_paths = record {
+        each = λ k tree h.
+            each_push (λ (k : ℕ) (t : Tree). IsTreeOf (paths_of k branches) t) old.trees.items c.new.result kept.of_paths.each
+            (subst (λ (paths : List (List ℕ)). IsTreeOf paths c.new.result) (sym (kept.others (length old.trees.items) (omega (arith, kept.trees)))) c.new.ensures)
+            k tree (ap (λ (ts : List Tree). slice_get ts k) (sym trees) ∙ h);
+      };
       others = λ k h. kept.others k (omega (arith, h, more_keys, one_key));
       hung = kept.hung;
     }

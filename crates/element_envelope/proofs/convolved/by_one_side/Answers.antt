@@ -1,39 +1,51 @@
-use Rattle.std.proofs.Common.{sym, subst}
+use Rattle.std.specs.Prelude.{◌≡◌, List, Option, Some, IfSome, Vec}
+use Rattle.std.proofs.Common.{sym, subst, Global}
+use Rattle.upp_curve.specs.declared.affine_segment.line.Piece.{Piece}
 use Rattle.element_envelope.specs.CopyWindows.{IsCopyWindow}
-use Rattle.element_envelope.proofs.CopyWindows.{SideCopies, first_is, side_room, own_room, side_ready, side_convolves, ok_both}
-use Rattle.element_envelope.proofs.convolved.by_one_side.Goals.{After-deref-2}
+use Rattle.element_envelope.specs.OneSide.{IsOneSided}
+use Rattle.element_envelope.proofs.CopyWindows.{SideCopies, first_operand, second_operand, first_is, side_room, own_room, side_ready, side_convolves}
+use Rattle.element_envelope.proofs.convolved.by_one_side.Goals.{After-deref-3}
 use Rattle.element_envelope.proofs.convolved.by_one_side.Goals as goal
 
+pub starts_of_one_side-requires-clause-first : goal.starts_of_one_side-requires-clause-first
+starts_of_one_side-requires-clause-first c = (c.args.end, first_operand c.args.from c.args.end c.args.f.now c.args.g.now c.requires.windows)
+
+pub starts_of_one_side-requires-clause-second : goal.starts_of_one_side-requires-clause-second
+starts_of_one_side-requires-clause-second c = (c.args.end, second_operand c.args.from c.args.end c.args.f.now c.args.g.now c.requires.windows)
+
+-- the starts that were found
+side_starts : (found : Option (Vec Piece Global)) (v : Vec Piece Global) (f g ks : List Piece) → found ≡ Some v → ks ≡ v.items → IfSome found (λ w. IsOneSided f g w.items) → IsOneSided f g ks
+side_starts found v f g ks e d h = subst (IsOneSided f g) (sym d) (subst (λ z. IfSome z (λ w. IsOneSided f g w.items)) e h)
+
 pub near_copies-requires-clause-room : goal.near_copies-requires-clause-room
-near_copies-requires-clause-room c = side_room c.args.from c.args.end c.args.f.now c.args.g.now c.args.starts.now c.requires.starts c.requires.windows
+near_copies-requires-clause-room c =
+    side_room c.args.from c.args.end c.args.f.now c.args.g.now c.deref.result.now (side_starts _ c.in-Some.starts c.args.f.now c.args.g.now c.deref.result.now c.in-Some.is c.deref.ensures.value c.in_ok-starts.ensures) c.requires.windows
 
 pub copy_window-requires : goal.copy_window-requires
 copy_window-requires c =
     let H = first_is c.args.g.now c.index-g-0.result c.requires.windows.right.starts c.index-g-0.is in
     own_room c.args.from c.args.end c.args.f.now c.args.g.now H.0 c.index-g-0.result H.1 c.requires.windows
 
-copies : (c : After-deref-2) → SideCopies c.args.from c.args.end c.args.f.now c.args.g.now c.args.starts.now c.deref.result.now c.deref-2.result.now
+copies : (c : After-deref-3) → SideCopies c.args.from c.args.end c.args.f.now c.args.g.now c.deref.result.now c.deref-2.result.now c.deref-3.result.now
 copies c =
     let H = first_is c.args.g.now c.index-g-0.result c.requires.windows.right.starts c.index-g-0.is in
     record {
-      sided = c.requires.starts;
+      sided = side_starts _ c.in-Some.starts c.args.f.now c.args.g.now c.deref.result.now c.in-Some.is c.deref.ensures.value c.in_ok-starts.ensures;
       piece = c.index-g-0.result;
       more = H.0;
       first = H.1;
-      copies = subst (IsCopyWindow c.args.from c.args.end c.args.starts.now c.args.g.now) (sym c.deref.ensures.value) c.in_ok-copies.ensures;
-      own = subst (IsCopyWindow c.args.from c.args.end _ c.args.f.now) (sym c.deref-2.ensures.value) c.in_ok-own.ensures;
+      copies = subst (IsCopyWindow c.args.from c.args.end c.deref.result.now c.args.g.now) (sym c.deref-2.ensures.value) c.in_ok-copies.ensures;
+      own = subst (IsCopyWindow c.args.from c.args.end _ c.args.f.now) (sym c.deref-3.ensures.value) c.in_ok-own.ensures;
     }
 
 pub window_lower-requires-clause-cuts : goal.window_lower-requires-clause-cuts
 window_lower-requires-clause-cuts c =
-    (side_ready c.args.from c.args.end c.args.f.now c.args.g.now c.args.starts.now _ _ c.requires.windows (copies (goal.at.window_lower-requires-clause-cuts c).After-deref-2)).cuts
+    (side_ready c.args.from c.args.end c.args.f.now c.args.g.now c.deref.result.now _ _ c.requires.windows (copies (goal.at.window_lower-requires-clause-cuts c).After-deref-3)).cuts
 
 pub window_lower-requires-clause-fits : goal.window_lower-requires-clause-fits
 window_lower-requires-clause-fits c =
-    (side_ready c.args.from c.args.end c.args.f.now c.args.g.now c.args.starts.now _ _ c.requires.windows (copies (goal.at.window_lower-requires-clause-fits c).After-deref-2)).fits
+    (side_ready c.args.from c.args.end c.args.f.now c.args.g.now c.deref.result.now _ _ c.requires.windows (copies (goal.at.window_lower-requires-clause-fits c).After-deref-3)).fits
 
 pub returns : goal.returns
 returns c =
-    ok_both c.window_lower.result c.args.from c.args.end c.deref.result.now c.deref-2.result.now c.args.f.now c.args.g.now
-    (λ qs L. side_convolves c.args.from c.args.end c.args.f.now c.args.g.now c.args.starts.now _ _ qs c.requires.windows c.requires.left c.requires.right (copies (goal.at.returns c).After-deref-2) L)
-    c.window_lower.ensures
+    side_convolves c.args.from c.args.end c.args.f.now c.args.g.now c.deref.result.now _ _ _ c.requires.windows c.requires.left c.requires.right (copies (goal.at.returns c).After-deref-3) c.in_ok-window_lower.ensures

@@ -1,9 +1,8 @@
 use Rattle.std.specs.Prelude.{pos, ◌∷◌, []}
-use Rattle.std.proofs.Common.{◌+◌, ap, refl, subst, sym, ◌∙◌, drop, drop_of_length-le}
-use Rattle.rational.specs.Rational.{int, ◌≤ℚ◌}
+use Rattle.std.proofs.Common.{◌+◌, ap, refl, drop, drop_of_length-le}
+use Rattle.rational.specs.Rational.{int}
 use Rattle.rational.proofs.Laws.{le_trans, le_refl}
 use Rattle.upp_curve.proofs.affine_segment.NextPiece.{next_piece}
-use Rattle.element_envelope.specs.Pace.{stretch_end}
 use Rattle.element_envelope.proofs.Paces.{all_seen, seen_start}
 use Rattle.element_envelope.proofs.pace.more_than.Goals as goal
 

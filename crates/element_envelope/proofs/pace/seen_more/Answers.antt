@@ -1,4 +1,3 @@
-use Rattle.std.proofs.Common.{sym, subst}
 use Rattle.element_envelope.proofs.PaceSteps.{seen_is}
 use Rattle.element_envelope.proofs.pace.seen_more.Goals as goal
 

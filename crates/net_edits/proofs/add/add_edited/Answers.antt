@@ -1,4 +1,4 @@
-use Rattle.std.proofs.Common.{w64, Ok, ◌≡◌, List, ℕ, length, sym, ap, ◌∙◌, subst, arith}
+use Rattle.std.proofs.Common.{w64, Ok, ◌≡◌, ◌<◌, List, ℕ, length, sym, ap, ◌∙◌, subst, arith}
 use Rattle.std.specs.Prelude.{ℤ}
 use Rattle.std.specs.Option.{option_map}
 use Rattle.std.proofs.lemmas.Int.{to_z-of_z}
@@ -9,7 +9,7 @@ use Rattle.net_model.specs.Views.{flow_of}
 use Rattle.net_edits.specs.Values.{whole_that, is_length, fits_along, may_be_path}
 use Rattle.net_edits.specs.Changed.{with_more}
 use Rattle.net_edits.proofs.Signs.{nonneg_of}
-use Rattle.net_edits.proofs.Steps.{edited_reply}
+use Rattle.net_edits.proofs.Steps.{change_reply}
 use Rattle.net_edits.proofs.Added.{MayBeAdded, add_stands, add_edit, no_more}
 use Rattle.net_edits.proofs.add.add_edited.Goals as goal
 use Rattle.net_edits.proofs.add.add_edited.Goals.{After-flows}
@@ -59,14 +59,9 @@ returns-then-flows-ge-MOST_FLOWS c =
     let at = (goal.at.returns-then-flows-ge-MOST_FLOWS c).After-flows in
     no_more (passed at) (omega (arith, given at, c.if-flows-ge-MOST_FLOWS.true))
 
-pub with_more-requires : goal.with_more-requires
-with_more-requires c =
-    let at = (goal.at.with_more-requires c).After-flows in
-    subst (λ (f : NetFlow). IsAccepted (with_more f c.args.net.now)) (sym c.in_ok-flow.ensures)
-    (add_stands (passed at) (omega (arith, given at, c.if-flows-ge-MOST_FLOWS.false)))
-
 pub returns : goal.returns
 returns c =
     let at = (goal.at.returns c).After-flows in
-    edited_reply _ _ c.in_ok-with_more.field-0 (add_edit (passed at) (omega (arith, given at, c.if-flows-ge-MOST_FLOWS.false)))
-    (c.in_ok-with_more.ensures ∙ ap (λ (f : NetFlow). with_more f c.args.net.now) c.in_ok-flow.ensures) tt
+    let left : length c.args.net.now.flows < 256 = omega (arith, given at, c.if-flows-ge-MOST_FLOWS.false) in
+    change_reply _ _ c.args.net.now _ (add_edit (passed at) left) (ap (λ (f : NetFlow). with_more f c.args.net.now) c.in_ok-flow.ensures) tt
+    (subst (λ (f : NetFlow). IsAccepted (with_more f c.args.net.now)) (sym c.in_ok-flow.ensures) (add_stands (passed at) left))

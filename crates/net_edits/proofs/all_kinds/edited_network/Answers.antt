@@ -1,128 +1,45 @@
-use Rattle.std.proofs.Common.{ℕ, List, sym, subst, rules, w64}
-use Rattle.std.specs.Prelude.{ℤ}
-use Rattle.std.proofs.lemmas.Int.{to_z-of_z}
-use mir.Val.{SFits, of_z, to_z}
-use Rattle.net_model.specs.declared.edit.Edit.{Edit}
-use Rattle.net_model.specs.declared.edit.PathEntry.{PathEntry}
-use Rattle.net_edits.specs.Edited.{edited, rate_edited, latency_edited, link_edited, quantum_edited, bucket_edited, stair_edited, packet_edited, route_edited, drop_edited}
-use Rattle.net_edits.specs.Replies.{IsReply, IsOverNone}
-use Rattle.net_edits.proofs.OverNone.{link_none, quantum_none, bucket_none, packet_none, route_none, drop_none, add_none}
+use Rattle.std.proofs.Common.{◌≡◌, Err, ap, sym, ◌∙◌, subst}
+use Rattle.std.proofs.lemmas.Result.{err_from_is_err_and}
+use Rattle.net_model.specs.Networks.{Net}
+use Rattle.net_model.specs.Accepted.{IsAccepted}
+use Rattle.net_edits.specs.declared.fault.EditFault.TheVariants.{NoMemory}
+use Rattle.net_edits.specs.Changed.{changed}
+use Rattle.net_edits.specs.Edited.{edited}
+use Rattle.net_edits.specs.Replies.{IsEdited, IsChange}
+use Rattle.net_edits.proofs.Steps.{changed_reply, same_reply}
+use Rattle.net_edits.proofs.OverNone.{within_none}
 use Rattle.net_edits.proofs.all_kinds.edited_network.Goals as goal
 
-pub returns-in-Rate-clause-reply : goal.returns-in-Rate-clause-reply
-returns-in-Rate-clause-reply c =
-    let net = c.args.net.now in
-    let r = c.rate_edited.result in
-    subst (λ (e : Edit). IsReply (edited net e) r) (sym c.in-Rate.is)
-    (subst (λ (bytes : List ℕ). IsReply (rate_edited net bytes c.in-Rate.rate) r) c.deref.ensures c.rate_edited.ensures.reply)
+pub changed-requires : goal.changed-requires
+changed-requires c =
+    subst (λ (n : Net). IsAccepted (changed c.in_ok-change.change n)) (sym c.in_ok-copy.ensures) c.in_ok-change.ensures.reply.accepted
 
-pub returns-in-Latency-clause-reply : goal.returns-in-Latency-clause-reply
-returns-in-Latency-clause-reply c =
-    let net = c.args.net.now in
-    let r = c.latency_edited.result in
-    subst (λ (e : Edit). IsReply (edited net e) r) (sym c.in-Latency.is)
-    (subst (λ (bytes : List ℕ). IsReply (latency_edited net bytes c.in-Latency.latency) r) c.deref-in-Latency.ensures c.latency_edited.ensures.reply)
+pub returns-clause-reply : goal.returns-clause-reply
+returns-clause-reply c =
+    changed_reply _ c.args.net.now c.in_ok-changed.field-0 c.in_ok-change.change c.in_ok-change.ensures.reply
+    (c.in_ok-changed.ensures.changed ∙ ap (changed c.in_ok-change.change) c.in_ok-copy.ensures)
 
-pub returns-in-Link-clause-reply : goal.returns-in-Link-clause-reply
-returns-in-Link-clause-reply c =
-    let net = c.args.net.now in
-    let r = c.link_edited.result in
-    subst (λ (e : Edit). IsReply (edited net e) r) (sym c.in-Link.is)
-    (subst (λ (bytes : List ℕ). IsReply (link_edited net bytes c.in-Link.link) r) c.deref-in-Link.ensures c.link_edited.ensures)
+-- ---- refused
+pub returns-in_err-change-clause-reply : goal.returns-in_err-change-clause-reply
+returns-in_err-change-clause-reply c =
+    let p = err_from_is_err_and c.from_residual.result c.from_residual.ensures.1 in
+    let r = edited c.args.net.now c.args.edit.now in
+    rw (p.1, p.2) (same_reply (IsChange r c.args.net.now) (IsEdited r) r c.in_err-change.field-0.0 c.in_err-change.ensures.reply)
 
-pub returns-in-Bucket-clause-reply : goal.returns-in-Bucket-clause-reply
-returns-in-Bucket-clause-reply c =
-    let net = c.args.net.now in
-    let r = c.bucket_edited.result in
-    subst (λ (e : Edit). IsReply (edited net e) r) (sym c.in-Bucket.is)
-    (subst (λ (bytes : List ℕ). IsReply (bucket_edited net bytes c.in-Bucket.burst c.in-Bucket.rate) r) c.deref-in-Bucket.ensures c.bucket_edited.ensures)
+pub returns-in_err-change-clause-memory : goal.returns-in_err-change-clause-memory
+returns-in_err-change-clause-memory c = λ told.
+    let p = err_from_is_err_and c.from_residual.result c.from_residual.ensures.1 in
+    let same : p.0 ≡ NoMemory = cc (sym p.1 ∙ told) in
+    c.in_err-change.ensures.memory (ap Err (sym p.2 ∙ same))
 
-pub returns-in-Stair-clause-reply : goal.returns-in-Stair-clause-reply
-returns-in-Stair-clause-reply c =
-    let net = c.args.net.now in
-    let r = c.stair_edited.result in
-    subst (λ (e : Edit). IsReply (edited net e) r) (sym c.in-Stair.is)
-    (subst (λ (bytes : List ℕ). IsReply (stair_edited net bytes c.in-Stair.period c.in-Stair.jitter) r) c.deref-in-Stair.ensures c.stair_edited.ensures.reply)
+pub returns-in_err-copy-clause-memory : goal.returns-in_err-copy-clause-memory
+returns-in_err-copy-clause-memory c = λ told.
+    let edit = c.in_ok-change.ensures.reply.edited in within_none _ edit.edited edit.is edit.within
 
-pub returns-in-Drop-clause-reply : goal.returns-in-Drop-clause-reply
-returns-in-Drop-clause-reply c =
-    let net = c.args.net.now in
-    let r = c.drop_edited.result in
-    subst (λ (e : Edit). IsReply (edited net e) r) (sym c.in-Drop.is)
-    (subst (λ (bytes : List ℕ). IsReply (drop_edited net bytes) r) c.deref-in-Drop.ensures c.drop_edited.ensures)
+pub returns-in_err-changed-clause-memory : goal.returns-in_err-changed-clause-memory
+returns-in_err-changed-clause-memory c = λ told.
+    let edit = c.in_ok-change.ensures.reply.edited in within_none _ edit.edited edit.is edit.within
 
-pub returns-in-Quantum-clause-reply : goal.returns-in-Quantum-clause-reply
-returns-in-Quantum-clause-reply c =
-    let net = c.args.net.now in
-    let r = c.quantum_edited.result in
-    let queue = c.in-Quantum.queue in
-    let bits = c.in-Quantum.bits in
-    let first : SFits w64 queue = search rules in
-    let second : SFits w64 bits = search rules in
-    subst (λ (e : Edit). IsReply (edited net e) r) (sym c.in-Quantum.is)
-    (subst (λ (bytes : List ℕ). IsReply (quantum_edited net bytes queue bits) r) c.deref-in-Quantum.ensures
-    (subst (λ (z : ℤ). IsReply (quantum_edited net c.deref-in-Quantum.result.now queue z) r) (to_z-of_z w64 bits second)
-    (subst (λ (z : ℤ). IsReply (quantum_edited net c.deref-in-Quantum.result.now z (to_z w64 (of_z w64 bits))) r) (to_z-of_z w64 queue first)
-    c.quantum_edited.ensures)))
-
-pub returns-in-Packet-clause-reply : goal.returns-in-Packet-clause-reply
-returns-in-Packet-clause-reply c =
-    let net = c.args.net.now in
-    let r = c.packet_edited.result in
-    let bits = c.in-Packet.bits in
-    let fits : SFits w64 bits = search rules in
-    subst (λ (e : Edit). IsReply (edited net e) r) (sym c.in-Packet.is)
-    (subst (λ (bytes : List ℕ). IsReply (packet_edited net bytes bits) r) c.deref-in-Packet.ensures
-    (subst (λ (z : ℤ). IsReply (packet_edited net c.deref-in-Packet.result.now z) r) (to_z-of_z w64 bits fits)
-    c.packet_edited.ensures))
-
-pub returns-in-Route-clause-reply : goal.returns-in-Route-clause-reply
-returns-in-Route-clause-reply c =
-    let net = c.args.net.now in
-    let r = c.route_edited.result in
-    subst (λ (e : Edit). IsReply (edited net e) r) (sym c.in-Route.is)
-    (subst (λ (bytes : List ℕ). IsReply (route_edited net bytes c.in-Route.path.items) r) c.deref-in-Route.ensures
-    (subst (λ (entries : List PathEntry). IsReply (route_edited net c.deref-in-Route.result.now entries) r) c.deref-in-Route-2.ensures.value
-    c.route_edited.ensures))
-
--- ---- want of memory
-pub returns-in-Rate-clause-memory : goal.returns-in-Rate-clause-memory
-returns-in-Rate-clause-memory c = λ told.
-    let net = c.args.net.now in
-    subst (λ (e : Edit). IsOverNone (edited net e)) (sym c.in-Rate.is)
-    (subst (λ (bytes : List ℕ). IsOverNone (rate_edited net bytes c.in-Rate.rate)) c.deref.ensures (c.rate_edited.ensures.memory told))
-
-pub returns-in-Latency-clause-memory : goal.returns-in-Latency-clause-memory
-returns-in-Latency-clause-memory c = λ told.
-    let net = c.args.net.now in
-    subst (λ (e : Edit). IsOverNone (edited net e)) (sym c.in-Latency.is)
-    (subst (λ (bytes : List ℕ). IsOverNone (latency_edited net bytes c.in-Latency.latency)) c.deref-in-Latency.ensures
-    (c.latency_edited.ensures.memory told))
-
-pub returns-in-Stair-clause-memory : goal.returns-in-Stair-clause-memory
-returns-in-Stair-clause-memory c = λ told.
-    let net = c.args.net.now in
-    subst (λ (e : Edit). IsOverNone (edited net e)) (sym c.in-Stair.is)
-    (subst (λ (bytes : List ℕ). IsOverNone (stair_edited net bytes c.in-Stair.period c.in-Stair.jitter)) c.deref-in-Stair.ensures
-    (c.stair_edited.ensures.memory told))
-
-pub returns-in-Link-clause-memory : goal.returns-in-Link-clause-memory
-returns-in-Link-clause-memory c = λ told. subst (λ (e : Edit). IsOverNone (edited c.args.net.now e)) (sym c.in-Link.is) (link_none c.args.net.now _ _)
-
-pub returns-in-Quantum-clause-memory : goal.returns-in-Quantum-clause-memory
-returns-in-Quantum-clause-memory c = λ told. subst (λ (e : Edit). IsOverNone (edited c.args.net.now e)) (sym c.in-Quantum.is) (quantum_none c.args.net.now _ c.in-Quantum.queue c.in-Quantum.bits)
-
-pub returns-in-Bucket-clause-memory : goal.returns-in-Bucket-clause-memory
-returns-in-Bucket-clause-memory c = λ told. subst (λ (e : Edit). IsOverNone (edited c.args.net.now e)) (sym c.in-Bucket.is) (bucket_none c.args.net.now _ _ _)
-
-pub returns-in-Packet-clause-memory : goal.returns-in-Packet-clause-memory
-returns-in-Packet-clause-memory c = λ told. subst (λ (e : Edit). IsOverNone (edited c.args.net.now e)) (sym c.in-Packet.is) (packet_none c.args.net.now _ c.in-Packet.bits)
-
-pub returns-in-Route-clause-memory : goal.returns-in-Route-clause-memory
-returns-in-Route-clause-memory c = λ told. subst (λ (e : Edit). IsOverNone (edited c.args.net.now e)) (sym c.in-Route.is) (route_none c.args.net.now _ _)
-
-pub returns-in-Drop-clause-memory : goal.returns-in-Drop-clause-memory
-returns-in-Drop-clause-memory c = λ told. subst (λ (e : Edit). IsOverNone (edited c.args.net.now e)) (sym c.in-Drop.is) (drop_none c.args.net.now _)
-
-pub returns-in-Add-clause-memory : goal.returns-in-Add-clause-memory
-returns-in-Add-clause-memory c = λ told. subst (λ (e : Edit). IsOverNone (edited c.args.net.now e)) (sym c.in-Add.is) (add_none c.args.net.now _ c.in-Add.bits c.in-Add.burst c.in-Add.rate c.in-Add.path.items)
+pub returns-clause-memory : goal.returns-clause-memory
+returns-clause-memory c = λ told.
+    let edit = c.in_ok-change.ensures.reply.edited in within_none _ edit.edited edit.is edit.within

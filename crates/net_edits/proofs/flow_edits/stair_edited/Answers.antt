@@ -9,8 +9,9 @@ use Rattle.net_model.specs.Views.{flow_of}
 use Rattle.net_edits.specs.declared.fault.EditFault.TheVariants.{NoMemory}
 use Rattle.net_edits.specs.Changed.{put_flow, with_arrival}
 use Rattle.net_edits.specs.Edited.{Edited, as_arrival, stair_edited}
+use Rattle.net_edits.specs.Replies.{IsChange}
 use Rattle.net_edits.proofs.Signs.{nonneg_of, positive_of}
-use Rattle.net_edits.proofs.Steps.{edited_reply, over_reply}
+use Rattle.net_edits.proofs.Steps.{change_reply, over_reply}
 use Rattle.net_edits.proofs.OverNone.{within_none, memory_within, unknown_none}
 use Rattle.net_edits.proofs.FlowEdits.{stair_stands, stair_edit}
 use Rattle.net_edits.proofs.flow_edits.stair_edited.Goals as goal
@@ -44,7 +45,7 @@ pub returns-in_err-arrival-clause-reply : goal.returns-in_err-arrival-clause-rep
 returns-in_err-arrival-clause-reply c =
     let p = err_from_is_err_and c.from_residual-in_err-arrival.result c.from_residual-in_err-arrival.ensures.1 in
     rw (p.1, p.2)
-    (over_reply _ _ c.in_err-arrival.field-0.0 (is_edit (goal.at.returns-in_err-arrival-clause-reply c).After-flow_of_number-old)
+    (over_reply (IsChange (stair_edited c.args.net.now c.args.name.now c.args.period c.args.jitter) c.args.net.now) _ _ c.in_err-arrival.field-0.0 (is_edit (goal.at.returns-in_err-arrival-clause-reply c).After-flow_of_number-old)
     c.in_err-arrival.ensures)
 
 pub returns-in_err-arrival-clause-memory : goal.returns-in_err-arrival-clause-memory
@@ -58,26 +59,17 @@ pub returns-in_err-flow-clause-memory : goal.returns-in_err-flow-clause-memory
 returns-in_err-flow-clause-memory c = λ told.
     within_none _ _ (is_edit (goal.at.returns-in_err-flow-clause-memory c).After-flow_of_number-old) c.in_ok-arrival.ensures.1
 
-pub returns-in_err-with_flow-clause-memory : goal.returns-in_err-with_flow-clause-memory
-returns-in_err-with_flow-clause-memory c = λ told.
-    within_none _ _ (is_edit (goal.at.returns-in_err-with_flow-clause-memory c).After-flow_of_number-old) c.in_ok-arrival.ensures.1
-
 -- ---- the flow with the stair
-pub with_flow-requires-clause-accepted : goal.with_flow-requires-clause-accepted
-with_flow-requires-clause-accepted c =
+pub returns-clause-reply : goal.returns-clause-reply
+returns-clause-reply c =
     let net = c.args.net.now in
     let i = c.in_ok-number.number in
     let at = c.flow_of_number-old in
     let old = flow_of at.result.now in
     let same = c.in_ok-flow.ensures ∙ ap (λ (x : SpecCurve). with_arrival x old) c.in_ok-arrival.ensures.0 in
-    subst (λ (p : Option NetFlow). IsAccepted (put_flow net i p)) (sym same)
+    change_reply _ _ net _ (is_edit (goal.at.returns-clause-reply c).After-flow_of_number-old) (ap (put_flow net i) same)
+    c.in_ok-arrival.ensures.1
+    (subst (λ (p : Option NetFlow). IsAccepted (put_flow net i p)) (sym same)
     (stair_stands net i old at.ensures.accepted at.ensures.flow at.ensures.kept c.args.period c.args.jitter
     (positive_of c.args.period (sym c.is_positive.ensures ∙ c.if-not-is_positive.false))
-    (nonneg_of c.args.jitter (sym c.is_negative.ensures ∙ c.if-is_negative.false)))
-
-pub returns-clause-reply : goal.returns-clause-reply
-returns-clause-reply c =
-    let old = flow_of c.flow_of_number-old.result.now in
-    let same = c.in_ok-flow.ensures ∙ ap (λ (x : SpecCurve). with_arrival x old) c.in_ok-arrival.ensures.0 in
-    edited_reply _ _ c.in_ok-with_flow.field-0 (is_edit (goal.at.returns-clause-reply c).After-flow_of_number-old)
-    (c.in_ok-with_flow.ensures ∙ ap (put_flow c.args.net.now c.in_ok-number.number) same) c.in_ok-arrival.ensures.1
+    (nonneg_of c.args.jitter (sym c.is_negative.ensures ∙ c.if-is_negative.false))))

@@ -6,8 +6,9 @@ use Rattle.net_model.specs.Views.{server_of}
 use Rattle.net_edits.specs.declared.fault.EditFault.TheVariants.{NoMemory}
 use Rattle.net_edits.specs.Changed.{put_server, with_latency}
 use Rattle.net_edits.specs.Edited.{Edited, latency_made, latency_edited}
+use Rattle.net_edits.specs.Replies.{IsChange}
 use Rattle.net_edits.proofs.Signs.{nonneg_of}
-use Rattle.net_edits.proofs.Steps.{edited_reply, over_reply}
+use Rattle.net_edits.proofs.Steps.{change_reply, over_reply}
 use Rattle.net_edits.proofs.OverNone.{within_none, memory_within, unknown_none}
 use Rattle.net_edits.proofs.ServerEdits.{latency_stands, latency_edit}
 use Rattle.net_edits.proofs.server_edits.latency_edited.Goals as goal
@@ -40,7 +41,7 @@ returns-in_err-server-clause-reply c =
     let p = err_from_is_err_and c.from_residual-in_err-server.result c.from_residual-in_err-server.ensures.1 in
     let here = (goal.at.returns-in_err-server-clause-reply c).After-has_latency in
     rw (p.1, p.2)
-    (over_reply _ _ c.in_err-server.field-0.0 (is_edit here c.if-not-has_latency.false) c.in_err-server.ensures)
+    (over_reply (IsChange (latency_edited c.args.net.now c.args.name.now c.args.latency) c.args.net.now) _ _ c.in_err-server.field-0.0 (is_edit here c.if-not-has_latency.false) c.in_err-server.ensures)
 
 pub returns-in_err-server-clause-memory : goal.returns-in_err-server-clause-memory
 returns-in_err-server-clause-memory c = λ told.
@@ -50,23 +51,15 @@ returns-in_err-server-clause-memory c = λ told.
     within_none _ _ (is_edit here c.if-not-has_latency.false)
     (memory_within (after here).made c.in_err-server.field-0.0 c.in_err-server.ensures cc)
 
-pub with_server-requires-clause-accepted : goal.with_server-requires-clause-accepted
-with_server-requires-clause-accepted c =
+pub returns-clause-reply : goal.returns-clause-reply
+returns-clause-reply c =
     let net = c.args.net.now in
     let s = c.in_ok-number.number in
     let latency = c.args.latency in
     let found = c.server_at-old.ensures in
-    subst (λ (m : NetServer). IsAccepted (put_server net s m)) (sym c.in_ok-server.ensures.0)
-    (latency_stands net s (server_of c.server_at-old.result.now) found.accepted found.server found.kept latency
-    (nonneg_of latency (sym c.is_negative.ensures ∙ c.if-is_negative.false)))
-
-pub returns-in_err-with_server-clause-memory : goal.returns-in_err-with_server-clause-memory
-returns-in_err-with_server-clause-memory c = λ told.
-    let here = (goal.at.returns-in_err-with_server-clause-memory c).After-has_latency in
-    within_none _ _ (is_edit here c.if-not-has_latency.false) c.in_ok-server.ensures.1
-
-pub returns-clause-reply : goal.returns-clause-reply
-returns-clause-reply c =
     let here = (goal.at.returns-clause-reply c).After-has_latency in
-    edited_reply _ _ c.in_ok-with_server.field-0 (is_edit here c.if-not-has_latency.false)
-    (c.in_ok-with_server.ensures ∙ ap (put_server c.args.net.now c.in_ok-number.number) c.in_ok-server.ensures.0) c.in_ok-server.ensures.1
+    change_reply _ _ net _ (is_edit here c.if-not-has_latency.false) (ap (put_server net s) c.in_ok-server.ensures.0)
+    c.in_ok-server.ensures.1
+    (subst (λ (m : NetServer). IsAccepted (put_server net s m)) (sym c.in_ok-server.ensures.0)
+    (latency_stands net s (server_of c.server_at-old.result.now) found.accepted found.server found.kept latency
+    (nonneg_of latency (sym c.is_negative.ensures ∙ c.if-is_negative.false))))

@@ -7,18 +7,9 @@ use Rattle.net_model.specs.Views.{server_of}
 use Rattle.net_edits.specs.Changed.{put_server, with_link}
 use Rattle.net_edits.specs.Edited.{is_negative, link_edited}
 use Rattle.net_edits.proofs.Signs.{nonneg_of}
-use Rattle.net_edits.proofs.Steps.{edited_reply}
+use Rattle.net_edits.proofs.Steps.{change_reply}
 use Rattle.net_edits.proofs.ServerEdits.{server_edit, link_stands}
 use Rattle.net_edits.proofs.server_edits.link_edited.Goals as goal
-
-pub with_server-requires-clause-accepted : goal.with_server-requires-clause-accepted
-with_server-requires-clause-accepted c =
-    let net = c.args.net.now in
-    let s = c.in_ok-number.number in
-    let none : is_negative c.args.link ≡ false = sym c.is_negative.ensures ∙ c.if-is_negative.false in
-    subst (λ (m : NetServer). IsAccepted (put_server net s m)) (sym c.in_ok-server.ensures)
-    (link_stands net s (server_of c.server_at.result.now) c.server_at.ensures.accepted c.server_at.ensures.server c.server_at.ensures.kept
-    c.args.link (nonneg_of c.args.link none))
 
 pub returns : goal.returns
 returns c =
@@ -30,7 +21,8 @@ returns c =
     let none : is_negative link ≡ false = sym c.is_negative.ensures ∙ c.if-is_negative.false in
     let stands =
     link_stands net s old c.server_at.ensures.accepted c.server_at.ensures.server c.server_at.ensures.kept link (nonneg_of link none) in
-    edited_reply (link_edited net name link) (record { net = put_server net s (with_link link old); made = None }) c.in_ok-with_server.field-0
+    change_reply (link_edited net name link) (record { net = put_server net s (with_link link old); made = None }) net _
     (server_edit net name s (λ o. not (is_negative link)) (with_link link) (λ n o. None) old c.in_ok-number.ensures.number
     c.server_at.ensures.server (not_from_false (is_negative link) none) stands)
-    (c.in_ok-with_server.ensures ∙ ap (put_server net s) c.in_ok-server.ensures) tt
+    (ap (put_server net s) c.in_ok-server.ensures) tt
+    (subst (λ (m : NetServer). IsAccepted (put_server net s m)) (sym c.in_ok-server.ensures) stands)

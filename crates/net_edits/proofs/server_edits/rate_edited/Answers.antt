@@ -6,8 +6,9 @@ use Rattle.net_model.specs.Views.{server_of}
 use Rattle.net_edits.specs.declared.fault.EditFault.TheVariants.{NoMemory}
 use Rattle.net_edits.specs.Changed.{put_server, with_rate}
 use Rattle.net_edits.specs.Edited.{Edited, rate_made, rate_edited}
+use Rattle.net_edits.specs.Replies.{IsChange}
 use Rattle.net_edits.proofs.Signs.{positive_of}
-use Rattle.net_edits.proofs.Steps.{edited_reply, over_reply}
+use Rattle.net_edits.proofs.Steps.{change_reply, over_reply}
 use Rattle.net_edits.proofs.OverNone.{within_none, memory_within, unknown_none}
 use Rattle.net_edits.proofs.ServerEdits.{rate_stands, rate_edit}
 use Rattle.net_edits.proofs.server_edits.rate_edited.Goals as goal
@@ -34,7 +35,7 @@ pub returns-in_err-server-clause-reply : goal.returns-in_err-server-clause-reply
 returns-in_err-server-clause-reply c =
     let p = err_from_is_err_and c.from_residual-in_err-server.result c.from_residual-in_err-server.ensures.1 in
     rw (p.1, p.2)
-    (over_reply _ _ c.in_err-server.field-0.0 (is_edit (goal.at.returns-in_err-server-clause-reply c).After-server_at) c.in_err-server.ensures)
+    (over_reply (IsChange (rate_edited c.args.net.now c.args.name.now c.args.rate) c.args.net.now) _ _ c.in_err-server.field-0.0 (is_edit (goal.at.returns-in_err-server-clause-reply c).After-server_at) c.in_err-server.ensures)
 
 pub returns-in_err-server-clause-memory : goal.returns-in_err-server-clause-memory
 returns-in_err-server-clause-memory c = λ told.
@@ -43,20 +44,13 @@ returns-in_err-server-clause-memory c = λ told.
     let same : Err c.in_err-server.field-0.0 ≡ Err NoMemory = ap Err (sym p.2) ∙ sym p.1 ∙ told in
     within_none _ _ (is_edit here) (memory_within (after here).made c.in_err-server.field-0.0 c.in_err-server.ensures cc)
 
-pub with_server-requires-clause-accepted : goal.with_server-requires-clause-accepted
-with_server-requires-clause-accepted c =
+pub returns-clause-reply : goal.returns-clause-reply
+returns-clause-reply c =
     let net = c.args.net.now in
     let s = c.in_ok-number.number in
     let at = c.server_at in
-    subst (λ (m : NetServer). IsAccepted (put_server net s m)) (sym c.in_ok-server.ensures.0)
+    change_reply _ _ net _ (is_edit (goal.at.returns-clause-reply c).After-server_at) (ap (put_server net s) c.in_ok-server.ensures.0)
+    c.in_ok-server.ensures.1
+    (subst (λ (m : NetServer). IsAccepted (put_server net s m)) (sym c.in_ok-server.ensures.0)
     (rate_stands net s (server_of at.result.now) at.ensures.accepted at.ensures.server at.ensures.kept c.args.rate
-    (positive_of c.args.rate (sym c.is_positive.ensures ∙ c.if-not-is_positive.false)))
-
-pub returns-in_err-with_server-clause-memory : goal.returns-in_err-with_server-clause-memory
-returns-in_err-with_server-clause-memory c = λ told.
-    within_none _ _ (is_edit (goal.at.returns-in_err-with_server-clause-memory c).After-server_at) c.in_ok-server.ensures.1
-
-pub returns-clause-reply : goal.returns-clause-reply
-returns-clause-reply c =
-    edited_reply _ _ c.in_ok-with_server.field-0 (is_edit (goal.at.returns-clause-reply c).After-server_at)
-    (c.in_ok-with_server.ensures ∙ ap (put_server c.args.net.now c.in_ok-number.number) c.in_ok-server.ensures.0) c.in_ok-server.ensures.1
+    (positive_of c.args.rate (sym c.is_positive.ensures ∙ c.if-not-is_positive.false))))

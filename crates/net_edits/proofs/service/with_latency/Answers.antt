@@ -7,7 +7,7 @@ use Rattle.net_model.specs.Networks.{NetServer}
 use Rattle.net_model.specs.declared.server.ServiceKind.TheVariants.{Latency}
 use Rattle.net_model.specs.Views.{server_of}
 use Rattle.net_edits.specs.Edited.{MadeCurve}
-use Rattle.net_edits.specs.Replies.{MakesNone, IsMadeWithin}
+use Rattle.net_edits.specs.Replies.{MakesNone, MadeCurveFits}
 use Rattle.net_edits.proofs.Signs.{own_of}
 use Rattle.net_edits.proofs.Making.{none_below}
 use Rattle.net_edits.proofs.service.with_latency.Goals as goal
@@ -40,7 +40,7 @@ returns c =
     let made = c.in_ok-service.ensures (made_of here) (own here) in (
       ap (λ (s : NetServer). record s { kind = Latency c.args.latency; service = c.in_ok-service.service }) c.in_ok-changed.ensures
           ∙ ap (λ (x : SpecCurve). record (server_of c.args.server.now) { kind = Latency c.args.latency; service = x }) made.0,
-      subst IsMadeWithin (c.first_queue.ensures (made_of here)) made.1,
+      subst MadeCurveFits (c.first_queue.ensures (made_of here)) made.1,
     )
 
 pub returns-in_err-changed : goal.returns-in_err-changed
@@ -48,4 +48,4 @@ returns-in_err-changed c =
     let p = err_from_is_err_and c.from_residual-in_err-changed.result c.from_residual-in_err-changed.ensures.1 in
     let here = (goal.at.returns-in_err-changed c).After-rate_latency-made in
     rw (p.1, p.2)
-    (subst IsMadeWithin (c.first_queue.ensures (made_of here)) (c.in_ok-service.ensures (made_of here) (own here)).1)
+    (subst MadeCurveFits (c.first_queue.ensures (made_of here)) (c.in_ok-service.ensures (made_of here) (own here)).1)

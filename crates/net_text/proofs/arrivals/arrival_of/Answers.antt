@@ -1,14 +1,12 @@
 use Rattle.std.specs.String.{string_bytes}
-use Rattle.std.proofs.Common.{◌≡◌, ◌+◌, ◌≤◌, arith}
-use Rattle.std.proofs.lemmas.Result.{IfOk-weaker}
+use Rattle.std.proofs.Common.{◌-◌, Err, refl, sym, ap}
+use Rattle.std.proofs.lemmas.Result.{err_from_is_err_and}
+use Rattle.outcomes.proofs.Spending.{spends_nothing, spends_stopped, spends_by}
 use Rattle.net_draft.specs.CurveTexts.{text_of}
 use Rattle.net_text.specs.Becoming.{IsCurveOf}
-use Rattle.net_text.specs.Folds.{HasTaken}
-use Rattle.net_text.proofs.FoldSteps.{fold_is, closed_taken, open_taken}
-use Rattle.net_text.proofs.Wanting.{closure_wants}
-use Rattle.net_text.proofs.ClosedArrivals.{made_is, arrival_stands, closed_ok, closed_err}
-use Rattle.net_text.specs.FoldLimits.{OverFold}
-use Rattle.subadd_closure.specs.FoldWork.{fold_work}
+use Rattle.net_text.proofs.FoldSteps.{fold_is, open_is}
+use Rattle.net_text.proofs.Wanting.{closure_wants, open_wants}
+use Rattle.net_text.proofs.ClosedArrivals.{made_is, arrival_stands, closed_ok, closed_err, limit_is_told}
 use Rattle.net_text.proofs.arrivals.arrival_of.Goals as goal
 
 pub closure_of-requires-clause-finite : goal.closure_of-requires-clause-finite
@@ -21,34 +19,38 @@ pub returns-then-flow-clause-becomes : goal.returns-then-flow-clause-becomes
 returns-then-flow-clause-becomes g c =
     let f = c.args.flow.now in
     let is : IsCurveOf (text_of f.arrival.text) c.in-Ok.curve = record { curve = c.closure_of.ensures.own; made = made_is f.packet f.arrival c.in-Ok.curve c.requires c.in-Ok.is } in
-    closed_ok OverFold f.closes (text_of f.arrival.text) c.in-Ok.curve c.closure_of.result c.if-flow.true is c.closure_of.ensures.closed
+    closed_ok f.closes (text_of f.arrival.text) c.in-Ok.curve c.closure_of.result c.if-flow.true is c.closure_of.ensures.closed
 
 pub returns-then-flow-clause-over : goal.returns-then-flow-clause-over
 returns-then-flow-clause-over g c =
     let f = c.args.flow.now in
     let is : IsCurveOf (text_of f.arrival.text) c.in-Ok.curve = record { curve = c.closure_of.ensures.own; made = made_is f.packet f.arrival c.in-Ok.curve c.requires c.in-Ok.is } in
-    closed_err OverFold f.closes (text_of f.arrival.text) c.in-Ok.curve (string_bytes c.args.place) c.closure_of.result c.if-flow.true is c.closure_of.ensures.over
+    closed_err f.closes (text_of f.arrival.text) c.in-Ok.curve (string_bytes c.args.place) c.closure_of.result c.if-flow.true is c.closure_of.ensures.over
 
-pub returns-then-flow-clause-most : goal.returns-then-flow-clause-most
-returns-then-flow-clause-most g c = λ k h.
+-- ---- what is counted, and want of memory
+pub returns-then-flow-clause-spends : goal.returns-then-flow-clause-spends
+returns-then-flow-clause-spends g c =
     let f = c.args.flow.now in
-    let is : IsCurveOf (text_of f.arrival.text) c.in-Ok.curve = record { curve = c.closure_of.ensures.own; made = made_is f.packet f.arrival c.in-Ok.curve c.requires c.in-Ok.is } in
-    let same : k ≡ fold_work c.in-Ok.curve = fold_is fold_work f.closes (text_of f.arrival.text) c.in-Ok.curve k c.if-flow.true is h in
-    let most : c.closure_of.new.steps ≤ c.args.steps.now + fold_work c.in-Ok.curve = c.closure_of.ensures.most in
-    omega (arith, same, most)
+    let text = text_of f.arrival.text in
+    let curve = c.in-Ok.curve in
+    let is : IsCurveOf text curve = record { curve = c.closure_of.ensures.own; made = made_is f.packet f.arrival curve c.requires c.in-Ok.is } in
+    spends_by c.closure_of.ensures.spends (λ k h. sym (fold_is f.closes text curve k c.if-flow.true is h))
+    (closure_wants f.closes text curve (c.closure_of.new.steps - c.args.steps.now) c.if-flow.true is)
 
-pub returns-then-flow-clause-memory : goal.returns-then-flow-clause-memory
-returns-then-flow-clause-memory g c = λ wants.
+pub returns-in_err-copy_of-in-Ok-clause-spends : goal.returns-in_err-copy_of-in-Ok-clause-spends
+returns-in_err-copy_of-in-Ok-clause-spends g c =
     let f = c.args.flow.now in
-    let is : IsCurveOf (text_of f.arrival.text) c.in-Ok.curve = record { curve = c.closure_of.ensures.own; made = made_is f.packet f.arrival c.in-Ok.curve c.requires c.in-Ok.is } in
-    closure_wants f.closes (text_of f.arrival.text) c.in-Ok.curve c.args.steps.now c.closure_of.new.steps c.if-flow.true is (c.closure_of.ensures.memory wants)
+    let p = err_from_is_err_and c.from_residual.result c.from_residual.ensures.1 in
+    spends_stopped c.from_residual.result p.0 p.1
+    (λ lack n none. open_wants f.closes (text_of f.arrival.text) c.in-Ok.curve n c.if-flow.false
+    (made_is f.packet f.arrival c.in-Ok.curve c.requires c.in-Ok.is) none)
 
-pub returns-then-flow-clause-taken : goal.returns-then-flow-clause-taken
-returns-then-flow-clause-taken g c =
+pub returns-in_ok-copy_of-in-Ok-clause-spends : goal.returns-in_ok-copy_of-in-Ok-clause-spends
+returns-in_ok-copy_of-in-Ok-clause-spends g c =
     let f = c.args.flow.now in
-    let is : IsCurveOf (text_of f.arrival.text) c.in-Ok.curve = record { curve = c.closure_of.ensures.own; made = made_is f.packet f.arrival c.in-Ok.curve c.requires c.in-Ok.is } in
-    IfOk-weaker c.closure_of.result (λ _. c.closure_of.new.steps ≡ c.args.steps.now + fold_work c.in-Ok.curve) (λ _. HasTaken fold_work f.closes (text_of f.arrival.text) c.args.steps.now c.closure_of.new.steps)
-    (λ _ sum. closed_taken fold_work f.closes (text_of f.arrival.text) c.in-Ok.curve c.args.steps.now c.closure_of.new.steps c.if-flow.true is sum) c.closure_of.ensures.exact
+    spends_nothing (λ n work. open_is f.closes (text_of f.arrival.text) n c.if-flow.false work)
 
-pub returns-in_ok-copy_of-in-Ok-clause-taken : goal.returns-in_ok-copy_of-in-Ok-clause-taken
-returns-in_ok-copy_of-in-Ok-clause-taken g c = let f = c.args.flow.now in open_taken fold_work f.closes (text_of f.arrival.text) c.args.steps.now c.if-flow.false
+pub returns-in-Err-clause-spends : goal.returns-in-Err-clause-spends
+returns-in-Err-clause-spends g c =
+    spends_stopped _ c.limit_fault.result refl
+    (λ lack. absurd (limit_is_told c.in-Err.limit (string_bytes c.args.place) c.limit_fault.result c.limit_fault.ensures (ap Err lack)))

@@ -8,7 +8,6 @@ use Rattle.net_text.specs.Built.{IsServerOf}
 use Rattle.net_text.specs.Firsts.{services_from}
 use Rattle.net_text.proofs.Firsts.{goes_on, stops, service_entry, services_more}
 use Rattle.net_text.proofs.Zips.{zip_more, zip_whole}
-use Rattle.net_text.specs.FoldLimits.{OverFold}
 use Rattle.net_text.proofs.servers.servers_of.Goals as goal
 
 pub server_of-requires : goal.server_of-requires
@@ -20,7 +19,7 @@ returns-in_err-server-clause-over c =
     let ds = c.args.drafts.now in
     let i = c.loop-number.number in
     let d = c.index-drafts-number.result in
-    rw (p.1, p.2) (stops OverFold (services_from i (map server_text (drop i ds))) (services_from 0 (map server_text ds)) (service_entry i d) (services_from (i + 1) (map server_text (drop (i + 1) ds)))
+    rw (p.1, p.2) (stops (services_from i (map server_text (drop i ds))) (services_from 0 (map server_text ds)) (service_entry i d) (services_from (i + 1) (map server_text (drop (i + 1) ds)))
     c.in_err-server.field-0.0 (services_more ds i d c.loop-number-test.true c.index-drafts-number.is) c.in_err-server.ensures.over c.loop-number.invariant.leads)
 
 pub loop-number-preserved : goal.loop-number-preserved
@@ -34,7 +33,7 @@ loop-number-preserved c =
     let views : map server_of c.push.new.self.items ≡ map server_of xs ++ server_of s ∷ [] = ap (map server_of) grown ∙ map_push server_of xs s in
     record {
       built = rw views (zip_more IsServerOf server_text ds i d (map server_of xs) (server_of s) c.loop-number-test.true c.index-drafts-number.is c.loop-number.invariant.built c.in_ok-server.ensures.built);
-      leads = goes_on OverFold (services_from i (map server_text (drop i ds))) (services_from 0 (map server_text ds)) (service_entry i d) (services_from (i + 1) (map server_text (drop (i + 1) ds)))
+      leads = goes_on (services_from i (map server_text (drop i ds))) (services_from 0 (map server_text ds)) (service_entry i d) (services_from (i + 1) (map server_text (drop (i + 1) ds)))
           (services_more ds i d c.loop-number-test.true c.index-drafts-number.is) (record { curve = (server_of s).service; is = c.in_ok-server.ensures.built.service }) c.loop-number.invariant.leads;
     }
 

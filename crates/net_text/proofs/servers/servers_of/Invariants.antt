@@ -5,11 +5,10 @@ use Rattle.net_draft.specs.Views.{server_text}
 use Rattle.net_text.specs.Built.{IsServerOf}
 use Rattle.net_text.specs.Firsts.{services_from}
 use Rattle.net_text.proofs.Firsts.{Leads}
-use Rattle.net_text.specs.FoldLimits.{OverFold}
 use Rattle.net_text.proofs.servers.servers_of.Given as goal
 
 abbrev pub invariant-loop-number : goal.invariant-loop-number
 invariant-loop-number l = record {
   built : AllZip IsServerOf (map server_text (take l.number l.drafts)) (servers_of l.servers.items);
-  leads : Leads OverFold (services_from l.number (map server_text (drop l.number l.drafts))) (services_from 0 (map server_text l.drafts));
+  leads : Leads (services_from l.number (map server_text (drop l.number l.drafts))) (services_from 0 (map server_text l.drafts));
 }

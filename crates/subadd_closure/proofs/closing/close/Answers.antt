@@ -1,5 +1,6 @@
 use Rattle.std.proofs.Common.{refl}
 use Rattle.std.proofs.lemmas.Result.{err_from_is_err_and}
+use Rattle.outcomes.proofs.Spending.{spends_stopped}
 use Rattle.subadd_closure.proofs.FoldMemory.{none_wants}
 use Rattle.subadd_closure.proofs.ClosedValues.{closed_value, closed_keeps}
 use Rattle.subadd_closure.proofs.FirstElements.{no_memory}
@@ -23,6 +24,8 @@ returns-clause-keeps g c =
     closed_keeps c.args.f.now c.keeps.ensures.normal c.requires.finite c.requires.nonneg c.closed.result
     c.closed.ensures.answer
 
-pub returns-in_err-es-clause-memory : goal.returns-in_err-es-clause-memory
-returns-in_err-es-clause-memory g c is =
-    none_wants c.args.f.now c.args.steps.now c.keeps.ensures.normal.raw c.requires.finite
+pub returns-in_err-es-clause-spends : goal.returns-in_err-es-clause-spends
+returns-in_err-es-clause-spends g c =
+    let p = err_from_is_err_and c.from_residual.result c.from_residual.ensures.1 in
+    spends_stopped c.from_residual.result p.0 p.1
+    (λ lack n none. none_wants c.args.f.now n none c.keeps.ensures.normal.raw c.requires.finite)

@@ -1,17 +1,18 @@
 use Rattle.std.specs.Prelude.{[]}
-use Rattle.std.proofs.Common.{◌≡◌, ◌+◌, ◌-◌, length, map, take}
-use Rattle.std.proofs.Common.{drop, sym, refl, ap, subst, arith, inl, inr}
+use Rattle.std.proofs.Common.{◌≡◌, ◌+◌, ◌-◌, ◌≤◌, length, map, take}
+use Rattle.std.proofs.Common.{drop, sym, refl, ap, ◌∙◌, subst, arith, inl, inr}
 use Rattle.std.proofs.lemmas.Result.{err_from_is_err_and}
 use Rattle.rational.specs.Extended.{◌≤ₑ◌}
 use Rattle.rational.specs.declared.Extended.TheVariants.{Fin}
 use Rattle.rational.proofs.Laws.{le_refl}
 use Rattle.min_plus.specs.Functions.{zero_q}
+use Rattle.outcomes.proofs.Spending.{counts_all, spends_so, spends_part}
 use Rattle.subadd_closure.specs.CurveParts.{part_of}
-use Rattle.subadd_closure.specs.FoldWork.{parts_work, fold_work}
+use Rattle.subadd_closure.specs.FoldWork.{part_work, parts_work, fold_work}
 use Rattle.subadd_closure.specs.SegmentLimits.{IsElementOf}
-use Rattle.subadd_closure.proofs.FoldMemory.{same_want, then_wants}
+use Rattle.subadd_closure.proofs.FoldMemory.{then_wants}
 use Rattle.subadd_closure.proofs.FirstElements.{two_elements}
-use Rattle.subadd_closure.proofs.FoldSteps.{early_refusal, last_refusal, last_part, always}
+use Rattle.subadd_closure.proofs.FoldSteps.{early_refusal, last_refusal, last_part}
 use Rattle.subadd_closure.proofs.FoldLists.{all_elements, split_parts, work_front, work_up_to}
 use Rattle.subadd_closure.proofs.LastElements.{is_last, last_curves, last_wants, last_work}
 use Rattle.subadd_closure.proofs.closing.closed.Goals as goal
@@ -44,16 +45,6 @@ returns-in_err-sofar-clause-answer g c =
     c.from_residual.result
     (split_parts f es n c.requires.elements) c.in_err-sofar.ensures.answer (rw (p.1, p.2) refl)
 
-pub returns-in_err-sofar-clause-within : goal.returns-in_err-sofar-clause-within
-returns-in_err-sofar-clause-within g c =
-    let f = c.args.f.now in
-    let es = c.args.es.now in
-    let n = length es - 1 in
-    let most = c.in_err-sofar.ensures.most in
-    let all = ap parts_work (split_parts f es n c.requires.elements) in
-    let work = work_front (map (part_of f.tail) (take n es)) (map (part_of f.tail) (drop n es)) in
-    omega (arith, most, all, work)
-
 pub element_star-requires-clause-part : goal.element_star-requires-clause-part
 element_star-requires-clause-part g c =
     let f = c.args.f.now in
@@ -71,16 +62,6 @@ returns-in_err-star-clause-answer g c =
     last_refusal f c.in_ok-sofar.sofar (map (part_of f.tail) (take (length c.args.es.now - 1) c.args.es.now)) (part_of f.tail c.index-es-last.result) c.in_err-star.field-0.0
     r.result
     L.are c.in_ok-sofar.ensures.answer c.in_err-star.ensures.answer (rw (p.1, p.2) refl)
-
-pub returns-in_err-star-clause-within : goal.returns-in_err-star-clause-within
-returns-in_err-star-clause-within g c =
-    let f = c.args.f.now in
-    let L = is_last f c.args.es.now c.index-es-last.result c.requires.elements c.requires.curve.normal c.requires.finite c.index-es-last.is in
-    let before = c.in_ok-sofar.ensures.all in
-    let most = c.in_err-star.ensures.most in
-    let all = ap parts_work L.are in
-    let work = work_up_to (map (part_of f.tail) (take (length c.args.es.now - 1) c.args.es.now)) (part_of f.tail c.index-es-last.result) [] L.some in
-    omega (arith, before, most, all, work)
 
 pub started_from-requires-clause-operands : goal.started_from-requires-clause-operands
 started_from-requires-clause-operands g c =
@@ -102,48 +83,59 @@ returns-clause-answer g c =
     c.started_from.result L.are
     c.in_ok-sofar.ensures.answer c.in_ok-star.ensures.answer c.start_of.ensures c.started_from.ensures.answer
 
-pub returns-clause-within : goal.returns-clause-within
-returns-clause-within g c =
+-- ---- what is counted, and want of memory
+pub returns-in_err-sofar-clause-spends : goal.returns-in_err-sofar-clause-spends
+returns-in_err-sofar-clause-spends g c =
     let f = c.args.f.now in
-    let L = is_last f c.args.es.now c.index-es-last.result c.requires.elements c.requires.curve.normal c.requires.finite c.index-es-last.is in
-    let is = last_work f c.args.es.now c.index-es-last.result L c.args.steps.now c.folded.new.steps c.element_star.new.steps c.started_from.new.steps c.in_ok-sofar.ensures.all
-    c.in_ok-star.ensures.all c.started_from.ensures.count in
-    omega (arith, is)
-
-pub returns-clause-exact : goal.returns-clause-exact
-returns-clause-exact g c =
-    let f = c.args.f.now in
-    let L = is_last f c.args.es.now c.index-es-last.result c.requires.elements c.requires.curve.normal c.requires.finite c.index-es-last.is in
-    always (c.started_from.new.steps ≡ c.args.steps.now + fold_work f) c.started_from.result
-    (last_work f c.args.es.now c.index-es-last.result L c.args.steps.now c.folded.new.steps c.element_star.new.steps c.started_from.new.steps c.in_ok-sofar.ensures.all
-    c.in_ok-star.ensures.all c.started_from.ensures.count)
-
-pub returns-in_err-sofar-clause-memory : goal.returns-in_err-sofar-clause-memory
-returns-in_err-sofar-clause-memory g c is =
+    let es = c.args.es.now in
+    let n = length es - 1 in
     let r = c.from_residual in
     let p = err_from_is_err_and r.result r.ensures.1 in
-    c.in_err-sofar.ensures.memory (same_want r.result p.0 c.in_err-sofar.field-0.0 p.1 p.2 is)
+    let all = ap parts_work (split_parts f es n c.requires.elements) in
+    let work = work_front (map (part_of f.tail) (take n es)) (map (part_of f.tail) (drop n es)) in
+    let none : c.args.steps.now ≡ c.args.steps.now + 0 = omega arith in
+    spends_part 0 none c.in_err-sofar.ensures.spends (fold_work f) (omega (arith, all, work)) r.result p.0 p.1 (λ told. sym p.2 ∙ told)
+    (λ lack wants. wants)
 
-pub returns-in_err-star-clause-memory : goal.returns-in_err-star-clause-memory
-returns-in_err-star-clause-memory g c is =
+pub returns-in_err-star-clause-spends : goal.returns-in_err-star-clause-spends
+returns-in_err-star-clause-spends g c =
     let f = c.args.f.now in
-    let L = is_last f c.args.es.now c.index-es-last.result c.requires.elements c.requires.curve.normal c.requires.finite c.index-es-last.is in
+    let e = c.index-es-last.result in
+    let L = is_last f c.args.es.now e c.requires.elements c.requires.curve.normal c.requires.finite c.index-es-last.is in
     let r = c.from_residual-in_err-star in
     let p = err_from_is_err_and r.result r.ensures.1 in
-    last_wants f c.args.es.now c.index-es-last.result L c.in_ok-sofar.sofar c.args.steps.now c.folded.new.steps c.element_star.new.steps c.in_ok-sofar.ensures.answer
-    c.in_ok-sofar.ensures.all (inl (c.in_err-star.ensures.memory (same_want r.result p.0 c.in_err-star.field-0.0 p.1 p.2 is)))
+    let before = map (part_of f.tail) (take (length c.args.es.now - 1) c.args.es.now) in
+    let old = c.args.steps.now in
+    let mid = c.folded.new.steps in
+    let new = c.element_star.new.steps in
+    let spends = c.in_err-star.ensures.spends in
+    let rises : mid ≤ new = spends.rises in
+    let count : mid ≡ old + parts_work before = (c.in_ok-sofar.ensures.spends.counts (parts_work before) refl).exact in
+    let all = ap parts_work L.are in
+    let work = work_up_to before (part_of f.tail e) [] L.some in
+    spends_part (parts_work before) count spends (fold_work f) (omega (arith, all, work)) r.result p.0 p.1 (λ told. sym p.2 ∙ told)
+    (λ lack wants. last_wants f c.args.es.now e L c.in_ok-sofar.sofar (new - mid) (new - old) c.in_ok-sofar.ensures.answer
+    (omega (arith, count, rises)) (inl wants))
 
-pub returns-clause-memory : goal.returns-clause-memory
-returns-clause-memory g c is =
+pub returns-clause-spends : goal.returns-clause-spends
+returns-clause-spends g c =
     let f = c.args.f.now in
-    let L = is_last f c.args.es.now c.index-es-last.result c.requires.elements c.requires.curve.normal c.requires.finite c.index-es-last.is in
-    let star = c.in_ok-star.ensures.all in
-    let last = c.started_from.ensures.count in
-    last_wants f c.args.es.now c.index-es-last.result L c.in_ok-sofar.sofar c.args.steps.now c.folded.new.steps c.started_from.new.steps c.in_ok-sofar.ensures.answer
-    c.in_ok-sofar.ensures.all
+    let e = c.index-es-last.result in
+    let L = is_last f c.args.es.now e c.requires.elements c.requires.curve.normal c.requires.finite c.index-es-last.is in
+    let before = map (part_of f.tail) (take (length c.args.es.now - 1) c.args.es.now) in
+    let old = c.args.steps.now in
+    let mid = c.folded.new.steps in
+    let new = c.started_from.new.steps in
+    let count : mid ≡ old + parts_work before = (c.in_ok-sofar.ensures.spends.counts (parts_work before) refl).exact in
+    let star : c.element_star.new.steps ≡ mid + part_work (part_of f.tail e) = (c.in_ok-star.ensures.spends.counts (part_work (part_of f.tail e)) refl).exact in
+    let last : new ≡ c.element_star.new.steps + 1 = c.started_from.ensures.count in
+    let all = last_work f c.args.es.now e L old mid c.element_star.new.steps new count star last in
+    spends_so (fold_work f) old new c.started_from.result (counts_all (fold_work f) old new c.started_from.result all)
+    (λ is. last_wants f c.args.es.now e L c.in_ok-sofar.sofar (new - mid) (new - old) c.in_ok-sofar.ensures.answer
+    (omega (arith, count, star, last))
     (inr record {
       counted = omega (arith, star, last);
       star = c.in_ok-star.star;
       made = c.in_ok-star.ensures.answer;
       within = then_wants c.in_ok-sofar.sofar c.in_ok-star.star c.start_of.result c.started_from.result c.started_from.ensures.answer is;
-    })
+    }))

@@ -15,9 +15,9 @@ from_normal-requires c =
       top = subst (λ n. nat_abs n < 2 ^ 127) c.numerator-2.ensures.value c.numerator-2.ensures.size;
       bottom = subst (λ n. n < 2 ^ 127) c.denominator-2.ensures.value c.denominator-2.ensures.size;
     } in
-    subst IsCurve (sym (lattice_made c.zero-rank.result c.args.period c.args.rise c.in_ok-pieces.pieces.items c.zero-rank.ensures c.in_ok-pieces.ensures))
+    subst IsCurve (sym (lattice_made c.zero-rank.result c.args.period c.args.rise c.in_ok-pieces.pieces.items c.zero-rank.ensures c.in_ok-pieces.ensures.items))
     (lattice_is_curve c.args.period c.args.rise c.requires.some small_d small_c c.requires.rate)
 
 pub returns : goal.returns
 returns c =
-    c.from_normal.ensures ∙ lattice_made c.zero-rank.result c.args.period c.args.rise c.in_ok-pieces.pieces.items c.zero-rank.ensures c.in_ok-pieces.ensures
+    c.from_normal.ensures ∙ lattice_made c.zero-rank.result c.args.period c.args.rise c.in_ok-pieces.pieces.items c.zero-rank.ensures c.in_ok-pieces.ensures.items

@@ -16,3 +16,6 @@ loop-turn-preserved c =
       | in-Some w ↦ subst P (sym w.early-is) w.in-Some.ensures
       | in-None w ↦ subst P (sym w.early-is) c.loop-turn.invariant
     ]
+
+pub order_at-requires-clause-late : goal.order_at-requires-clause-late
+order_at-requires-clause-late c = c.loop-turn.invariant.below

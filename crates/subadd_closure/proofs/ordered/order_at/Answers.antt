@@ -2,8 +2,8 @@ use Rattle.std.proofs.Common.{refl}
 use Rattle.subadd_closure.proofs.OrderedCurves.{time_in}
 use Rattle.subadd_closure.proofs.ordered.order_at.Goals as goal
 
-pub is_below-requires : goal.is_below-requires
-is_below-requires c =
+pub is_below-requires-clause-window : goal.is_below-requires-clause-window
+is_below-requires-clause-window c =
     let (z, V, W, T, on) = c.requires.window in
     (z, V, W, time_in z c.args.end c.args.from c.args.own c.in_ok-t.t T on c.in_ok-t.ensures)
 

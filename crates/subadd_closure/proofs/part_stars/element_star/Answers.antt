@@ -1,12 +1,13 @@
-use Rattle.std.specs.Prelude.{IfOk}
-use Rattle.std.proofs.Common.{◌≡◌, ◌+◌, refl, sym, ap, ◌∙◌, subst, arith}
+use Rattle.std.proofs.Common.{◌≡◌, ◌+◌, ◌-◌, ◌≤◌, refl, sym, ap, ◌∙◌, subst, arith}
 use Rattle.std.proofs.lemmas.Result.{err_from_is_err_and}
 use Rattle.upp_curve.specs.declared.affine_segment.element.Element.TheVariants.{Point, Open}
-use Rattle.subadd_closure.specs.CurveParts.{copies_of}
+use Rattle.outcomes.proofs.Spending.{spends_stopped, spends_as}
+use Rattle.subadd_closure.specs.CurveParts.{copies_of, part_of}
+use Rattle.subadd_closure.specs.FoldWork.{part_work}
 use Rattle.subadd_closure.specs.PartStars.{turn_of}
 use Rattle.subadd_closure.specs.SegmentLimits.{IsElementOf}
 use Rattle.subadd_closure.specs.Stars.{IsPeriodAndRise, turn_work}
-use Rattle.subadd_closure.proofs.FoldMemory.{same_want, part_wants, segment_wants}
+use Rattle.subadd_closure.proofs.FoldMemory.{part_wants, segment_wants}
 use Rattle.subadd_closure.proofs.ElementFits.{point_start, point_low, segment_late}
 use Rattle.subadd_closure.proofs.ElementFits.{segment_reads, part_turns, turn_works}
 use Rattle.subadd_closure.proofs.PartStars.{star_is_part, part_refused}
@@ -36,22 +37,6 @@ returns-in-Point-clause-answer g c =
     let turn = c.turn_of-turn.ensures ∙ ap (λ t. turn_of (copies_of t e)) c.tail.ensures.tail in
     star_is_part f e (Point c.in-Point.x c.in-Point.v) c.turn_of-turn.result c.point_star.result c.in-Point.is turn tt
     c.point_star.ensures.answer
-
-pub returns-in-Point-clause-most : goal.returns-in-Point-clause-most
-returns-in-Point-clause-most g c =
-    let e = c.args.e.now in
-    let turn = c.turn_of-turn.ensures ∙ ap (λ t. turn_of (copies_of t e)) c.tail.ensures.tail in
-    let work = ap turn_work turn ∙ turn_works (copies_of c.args.f.now.tail e) in
-    let most = c.point_star.ensures.most in
-    omega (arith, work, most)
-
-pub returns-in-Point-clause-all : goal.returns-in-Point-clause-all
-returns-in-Point-clause-all g c =
-    let e = c.args.e.now in
-    let turn = c.turn_of-turn.ensures ∙ ap (λ t. turn_of (copies_of t e)) c.tail.ensures.tail in
-    let work = ap turn_work turn ∙ turn_works (copies_of c.args.f.now.tail e) in
-    subst (λ k. IfOk c.point_star.result (λ x. c.point_star.new.steps ≡ c.args.steps.now + k)) work
-    c.point_star.ensures.all
 
 pub returns-in_err-m-in-Open-clause-answer : goal.returns-in_err-m-in-Open-clause-answer
 returns-in_err-m-in-Open-clause-answer g c =
@@ -91,48 +76,35 @@ returns-in_ok-m-in-Open-clause-answer g c =
     c.in-Open.is turn
     c.in_ok-m-in-Open.ensures.within.within c.segment_star.ensures.answer
 
-pub returns-in_ok-m-in-Open-clause-most : goal.returns-in_ok-m-in-Open-clause-most
-returns-in_ok-m-in-Open-clause-most g c =
-    let e = c.args.e.now in
-    let turn = c.turn_of-turn.ensures ∙ ap (λ t. turn_of (copies_of t e)) c.tail.ensures.tail in
-    let work = ap turn_work turn ∙ turn_works (copies_of c.args.f.now.tail e) in
-    let most = c.segment_star.ensures.most in
-    omega (arith, work, most)
-
-pub returns-in_ok-m-in-Open-clause-all : goal.returns-in_ok-m-in-Open-clause-all
-returns-in_ok-m-in-Open-clause-all g c =
-    let e = c.args.e.now in
-    let turn = c.turn_of-turn.ensures ∙ ap (λ t. turn_of (copies_of t e)) c.tail.ensures.tail in
-    let work = ap turn_work turn ∙ turn_works (copies_of c.args.f.now.tail e) in
-    subst (λ k. IfOk c.segment_star.result (λ x. c.segment_star.new.steps ≡ c.args.steps.now + k)) work
-    c.segment_star.ensures.all
-
-pub returns-in-Point-clause-memory : goal.returns-in-Point-clause-memory
-returns-in-Point-clause-memory g c is =
+-- ---- what is counted, and want of memory
+pub returns-in-Point-clause-spends : goal.returns-in-Point-clause-spends
+returns-in-Point-clause-spends g c =
     let f = c.args.f.now in
     let e = c.args.e.now in
+    let call = c.point_star in
+    let old = c.args.steps.now in
     let turn = c.turn_of-turn.ensures ∙ ap (λ t. turn_of (copies_of t e)) c.tail.ensures.tail in
-    let work = ap turn_work turn ∙ turn_works (copies_of f.tail e) in
-    let most = c.point_star.ensures.most in
-    part_wants f e (Point c.in-Point.x c.in-Point.v) c.turn_of-turn.result c.args.steps.now c.point_star.new.steps
-    c.in-Point.is turn (omega (arith, work, most)) tt (c.point_star.ensures.memory is)
+    let work : turn_work c.turn_of-turn.result ≡ part_work (part_of f.tail e) = ap turn_work turn ∙ turn_works (copies_of f.tail e) in
+    let most : call.new.steps ≤ old + turn_work c.turn_of-turn.result = (call.ensures.spends.counts (turn_work c.turn_of-turn.result) refl).most in
+    spends_as call.ensures.spends (part_work (part_of f.tail e)) work
+    (λ told. part_wants f e (Point c.in-Point.x c.in-Point.v) c.turn_of-turn.result (call.new.steps - old) c.in-Point.is turn (omega (arith, work, most)) tt)
 
-pub returns-in_err-m-in-Open-clause-memory : goal.returns-in_err-m-in-Open-clause-memory
-returns-in_err-m-in-Open-clause-memory g c is =
-    let f = c.args.f.now in
-    let e = c.args.e.now in
+pub returns-in_err-m-in-Open-clause-spends : goal.returns-in_err-m-in-Open-clause-spends
+returns-in_err-m-in-Open-clause-spends g c =
     let r = c.from_residual in
     let p = err_from_is_err_and r.result r.ensures.1 in
-    segment_wants f e (Open c.in-Open.from c.in-Open.to c.in-Open.line) c.in_err-m-in-Open.field-0.0 c.args.steps.now
-    c.in-Open.is c.in_err-m-in-Open.ensures.over (same_want r.result p.0 c.in_err-m-in-Open.field-0.0 p.1 p.2 is)
+    spends_stopped r.result p.0 p.1
+    (λ lack n none. segment_wants c.args.f.now c.args.e.now (Open c.in-Open.from c.in-Open.to c.in-Open.line) c.in_err-m-in-Open.field-0.0 n
+    c.in-Open.is c.in_err-m-in-Open.ensures.over (sym p.2 ∙ lack) none)
 
-pub returns-in_ok-m-in-Open-clause-memory : goal.returns-in_ok-m-in-Open-clause-memory
-returns-in_ok-m-in-Open-clause-memory g c is =
+pub returns-in_ok-m-in-Open-clause-spends : goal.returns-in_ok-m-in-Open-clause-spends
+returns-in_ok-m-in-Open-clause-spends g c =
     let f = c.args.f.now in
     let e = c.args.e.now in
+    let call = c.segment_star in
+    let old = c.args.steps.now in
     let turn = c.turn_of-turn.ensures ∙ ap (λ t. turn_of (copies_of t e)) c.tail.ensures.tail in
-    let work = ap turn_work turn ∙ turn_works (copies_of f.tail e) in
-    let most = c.segment_star.ensures.most in
-    part_wants f e (Open c.in-Open.from c.in-Open.to c.in-Open.line) c.turn_of-turn.result c.args.steps.now
-    c.segment_star.new.steps c.in-Open.is turn (omega (arith, work, most))
-    c.in_ok-m-in-Open.ensures.within.within (c.segment_star.ensures.memory is)
+    let work : turn_work c.turn_of-turn.result ≡ part_work (part_of f.tail e) = ap turn_work turn ∙ turn_works (copies_of f.tail e) in
+    let most : call.new.steps ≤ old + turn_work c.turn_of-turn.result = (call.ensures.spends.counts (turn_work c.turn_of-turn.result) refl).most in
+    spends_as call.ensures.spends (part_work (part_of f.tail e)) work
+    (λ told. part_wants f e (Open c.in-Open.from c.in-Open.to c.in-Open.line) c.turn_of-turn.result (call.new.steps - old) c.in-Open.is turn (omega (arith, work, most)) c.in_ok-m-in-Open.ensures.within.within)

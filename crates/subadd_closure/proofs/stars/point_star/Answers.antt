@@ -1,6 +1,8 @@
-use Rattle.std.proofs.Common.{refl}
+use Rattle.std.proofs.Common.{◌-◌, refl}
 use Rattle.std.proofs.lemmas.Result.{err_from_is_err_and}
 use Rattle.upp_curve.specs.declared.affine_segment.element.Element.TheVariants.{Point}
+use Rattle.outcomes.proofs.Spending.{spends_stopped, spends_as}
+use Rattle.subadd_closure.specs.Stars.{turn_work}
 use Rattle.subadd_closure.proofs.FoldThins.{element_subadditive}
 use Rattle.subadd_closure.proofs.FoldMemory.{no_call, closure_wants}
 use Rattle.subadd_closure.proofs.ElementStars.{refused_star, made_star}
@@ -15,14 +17,15 @@ pub returns-clause-answer : goal.returns-clause-answer
 returns-clause-answer g c =
     made_star c.args.turn (Point c.args.x c.args.v) c.in_ok-c.c c.star_of.result c.in_ok-c.ensures c.star_of.ensures.answer
 
-pub returns-in_err-c-clause-memory : goal.returns-in_err-c-clause-memory
-returns-in_err-c-clause-memory g c is =
-    no_call c.args.turn (Point c.args.x c.args.v) c.args.steps.now c.args.steps.now refl
-
-pub returns-clause-memory : goal.returns-clause-memory
-returns-clause-memory g c is =
-    closure_wants c.args.turn (Point c.args.x c.args.v) c.in_ok-c.c c.args.steps.now c.star_of.new.steps c.in_ok-c.ensures
-    (c.star_of.ensures.memory is)
-
 pub star_of-requires-clause-subadditive : goal.star_of-requires-clause-subadditive
 star_of-requires-clause-subadditive g c = element_subadditive (Point c.args.x c.args.v) c.in_ok-c.c c.in_ok-c.ensures
+
+pub returns-in_err-c-clause-spends : goal.returns-in_err-c-clause-spends
+returns-in_err-c-clause-spends g c =
+    let p = err_from_is_err_and c.from_residual.result c.from_residual.ensures.1 in
+    spends_stopped c.from_residual.result p.0 p.1 (λ lack n none. no_call c.args.turn (Point c.args.x c.args.v) n none)
+
+pub returns-clause-spends : goal.returns-clause-spends
+returns-clause-spends g c =
+    spends_as c.star_of.ensures.spends (turn_work c.args.turn) refl
+    (λ told. closure_wants c.args.turn (Point c.args.x c.args.v) c.in_ok-c.c (c.star_of.new.steps - c.args.steps.now) c.in_ok-c.ensures)

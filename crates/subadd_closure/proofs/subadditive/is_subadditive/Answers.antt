@@ -1,10 +1,11 @@
-use Rattle.std.proofs.Common.{Err, arith, refl}
+use Rattle.std.proofs.Common.{◌≡◌, ◌+◌, ◌∙◌, Err, arith, refl, sym, ap}
 use Rattle.std.proofs.lemmas.Result.{err_from_is_err_and}
 use Rattle.upp_limits.specs.declared.op_kind.OpKind.TheVariants.{Min, Convolve}
 use Rattle.upp_curve.specs.Curve.{value_at}
 use Rattle.outcomes.specs.Calls.{goes_on, stops}
 use Rattle.curve_call.proofs.Applied.{applied_seen}
-use Rattle.subadd_closure.proofs.FoldMemory.{same_want, call_wants}
+use Rattle.outcomes.proofs.Spending.{spends_made, spends_fault}
+use Rattle.subadd_closure.proofs.FoldMemory.{call_wants}
 use Rattle.subadd_closure.proofs.SameConvolution.{subadditive_where_same, same_where_subadditive}
 use Rattle.subadd_closure.proofs.subadditive.is_subadditive.Goals as goal
 
@@ -40,20 +41,32 @@ returns-clause-limits g c =
     c.convolve.ensures.value c.convolve.ensures.limits c.intact.ensures.kept in
     goes_on c.in_ok-twice.twice (rw c.in_ok-twice.was at first) c.in_ok-lower.ensures.limits
 
-pub returns-in_err-twice-clause-memory : goal.returns-in_err-twice-clause-memory
-returns-in_err-twice-clause-memory g c is both =
-    let one = c.convolve.ensures.count in
-    absurd (omega (arith, one, both))
+-- ---- what is counted, and want of memory
+pub returns-in_err-twice-clause-spends : goal.returns-in_err-twice-clause-spends
+returns-in_err-twice-clause-spends g c =
+    let p = err_from_is_err_and c.from_residual.result c.from_residual.ensures.1 in
+    let one : c.convolve.new.steps ≡ c.args.steps.now + 1 = c.convolve.ensures.count in
+    spends_fault 2 c.args.steps.now c.convolve.new.steps c.from_residual.result p.0 p.1 (omega (arith, one)) (omega (arith, one))
+    (λ told both. absurd (omega (arith, one, both)))
 
-pub returns-in_err-lower-clause-memory : goal.returns-in_err-lower-clause-memory
-returns-in_err-lower-clause-memory g c is both =
+pub returns-in_err-lower-clause-spends : goal.returns-in_err-lower-clause-spends
+returns-in_err-lower-clause-spends g c =
     let r = c.from_residual-in_err-lower in
     let p = err_from_is_err_and r.result r.ensures.1 in
     let first = applied_seen Convolve c.args.f.now c.args.f.now c.convolve.result c.intact.result c.intact.ensures.same
     c.convolve.ensures.value c.convolve.ensures.limits c.intact.ensures.kept in
-    let want = same_want r.result p.0 c.in_err-lower.field-0.0 p.1 p.2 is in (
+    let one : c.convolve.new.steps ≡ c.args.steps.now + 1 = c.convolve.ensures.count in
+    let two : c.min.new.steps ≡ c.convolve.new.steps + 1 = c.in_err-lower.ensures.count in
+    spends_fault 2 c.args.steps.now c.min.new.steps r.result p.0 p.1 (omega (arith, one, two)) (omega (arith, one, two))
+    (λ told both. (
       c.in_ok-twice.twice,
       rw c.in_ok-twice.was at first,
       call_wants Min c.args.f.now c.in_ok-twice.twice (Err c.in_err-lower.field-0.0) (Err c.in_err-lower.field-0.0) refl
-          c.in_err-lower.ensures.limits want,
-    )
+          c.in_err-lower.ensures.limits (ap Err (sym p.2 ∙ told)),
+    ))
+
+pub returns-clause-spends : goal.returns-clause-spends
+returns-clause-spends g c =
+    let one : c.convolve.new.steps ≡ c.args.steps.now + 1 = c.convolve.ensures.count in
+    let two : c.min.new.steps ≡ c.convolve.new.steps + 1 = c.in_ok-lower.ensures.count in
+    spends_made 2 (omega (arith, one, two))

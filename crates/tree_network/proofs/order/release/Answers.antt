@@ -6,7 +6,7 @@ use Rattle.tree_network.proofs.order.release.Goals as goal
 use Rattle.tree_network.proofs.order.release.Goals.{then-left-eq0+in_ok-push, else-left-eq0}
 
 pub loop-n-init : goal.loop-n-init
-loop-n-init c = none_released (number_at c.args.spot_ports.now) c.args.numbers.now c.args.waiting.now.items c.args.ready.now.items c.requires.ready
+loop-n-init c = none_released (number_at c.args.spot_ports.now) c.args.numbers.now c.args.waiting.now.items c.args.ready.now.items
 
 pub overflow_sub-left : goal.overflow_sub-left
 overflow_sub-left c =

@@ -1,7 +1,6 @@
 use Rattle.std.proofs.Common.{◌-◌, ◌++◌, ◌<◌, length, arith, sym, ◌∙◌, ap, append-nil}
 use Rattle.std.proofs.lemmas.List.{get_or_default}
 use Rattle.tree_network.specs.Networks.{longest_frame, no_node}
-use Rattle.tree_network.specs.declared.network.Node.{Node}
 use Rattle.tree_network.proofs.SpotLists.{in_zero, link_more, link_length, is_spot_of}
 use Rattle.tree_network.proofs.spots.add_link.Goals as goal
 
@@ -22,24 +21,6 @@ pub overflow_cast-from : goal.overflow_cast-from
 overflow_cast-from c =
     let count = link_length c.args.number c.args.link.now c.loop-place.place c.args.spots.now.items c.loop-place.spots.items c.loop-place.invariant in
     omega (arith, count, c.spot_before-earlier.ensures.small, c.requires.few, c.loop-place-test.true, c.len-place-end.ensures)
-
-pub overflow_cast-port : goal.overflow_cast-port
-overflow_cast-port c =
-    let link = c.args.link.now in
-    let place = c.loop-place.place in
-    let inside : place < length link.nodes.items = omega (arith, c.loop-place-test.true, c.len-place-end.ensures) in
-    let node = ap (λ (n : Node). n.port) (c.index-node.ensures ∙ get_or_default link.nodes.items place c.index-node.result.now no_node inside) in
-    let few = c.requires.hangs.ports place inside in
-    omega (arith, node, few)
-
-pub overflow_cast-queue : goal.overflow_cast-queue
-overflow_cast-queue c =
-    let link = c.args.link.now in
-    let place = c.loop-place.place in
-    let inside : place < length link.nodes.items = omega (arith, c.loop-place-test.true, c.len-place-end.ensures) in
-    let node = ap (λ (n : Node). n.queue) (c.index-node.ensures ∙ get_or_default link.nodes.items place c.index-node.result.now no_node inside) in
-    let few = c.requires.hangs.queues place inside in
-    omega (arith, node, few)
 
 pub loop-place-preserved : goal.loop-place-preserved
 loop-place-preserved c =

@@ -9,7 +9,7 @@ use Rattle.tree_network.proofs.SpotLists.{below_zero, below_more}
 use Rattle.tree_network.proofs.spots.spots_in_order.Goals as goal
 
 pub loop-number-init : goal.loop-number-init
-loop-number-init c = c.new-spots.ensures.items ∙ sym (below_zero c.args.network.now)
+loop-number-init c = c.in_ok-spots.ensures.items ∙ sym (below_zero c.args.network.now)
 
 pub add_link-requires-clause-small : goal.add_link-requires-clause-small
 add_link-requires-clause-small c = omega (arith, c.loop-number-test.true, c.len-number-end.ensures, c.requires.few_links)

@@ -1,4 +1,4 @@
-use Rattle.std.proofs.Common.{◌≡◌, ◌+◌, ◌-◌, List, ◌∷◌, [], ◌++◌, take, drop, sum_by, sym, ap, ◌∙◌, subst, arith, Err}
+use Rattle.std.proofs.Common.{◌≡◌, ◌+◌, ◌-◌, List, ◌∷◌, [], ◌++◌, take, drop, sum_by, refl, sym, ap, ◌∙◌, subst, arith, Err}
 use Rattle.std.proofs.lemmas.List.{take_all, take_more}
 use Rattle.std.proofs.lemmas.List.Sums.{sum_by_more, sum_by_more_le}
 use Rattle.outcomes.proofs.Spending.{spends_all, spends_refused}
@@ -65,8 +65,8 @@ loop-cell-preserved g c =
       answers = subst (λ (xs : List Cell). AnswersAll net next xs) (sym longer) all;
       nothing = subst (λ (xs : List Cell). HasNothingElse next xs) (sym longer) none;
       cost = let more = sum_by_more (work net) cells i no_cell (omega arith) in
-          omega (arith, more, c.in-Ok.ensures.exact, c.loop-cell.invariant.cost);
-      same = c.in-Ok.ensures.same ∙ c.loop-cell.invariant.same;
+          omega (arith, more, (c.in-Ok.ensures.spends.counts (work net (cell_at cells i)) refl).exact, c.loop-cell.invariant.cost);
+      same = c.in-Ok.ensures.spends.same ∙ c.loop-cell.invariant.same;
     }
 
 pub returns-clause-table : goal.returns-clause-table
@@ -93,14 +93,14 @@ returns-in-Err-clause-spends g c =
     let mid = g.E.Evaluator.count c.loop-cell.eval in
     let new = g.E.Evaluator.count c.eval.new.self in
     let cost = c.loop-cell.invariant.cost in
-    let rises = c.in-Err.ensures.rises in
-    let most = c.in-Err.ensures.within in
+    let rises = c.in-Err.ensures.spends.rises in
+    let most = (c.in-Err.ensures.spends.counts (work net (cell_at cells i)) refl).most in
     let more = sum_by_more_le (work net) cells i no_cell (omega arith) in
     spends_refused (sum_by (work net) cells) c.refusal.result (omega (arith, cost, rises)) (omega (arith, cost, most, more))
     (λ lack. ends_here net cells at i (new - mid) (new - g.E.Evaluator.count c.args.eval.now) (omega arith) c.loop-cell.invariant.answers
-    (making (c.in-Err.ensures.memory (ap Err (lacks_too (cell_at cells i) c.in-Err.fault c.refusal.result c.refusal.ensures lack))))
+    (making (c.in-Err.ensures.spends.memory (ap Err (lacks_too (cell_at cells i) c.in-Err.fault c.refusal.result c.refusal.ensures lack))))
     (omega (arith, cost, rises)))
-    (c.in-Err.ensures.same ∙ c.loop-cell.invariant.same)
+    (c.in-Err.ensures.spends.same ∙ c.loop-cell.invariant.same)
 
 pub returns-in-Err-put-clause-spends : goal.returns-in-Err-put-clause-spends
 returns-in-Err-put-clause-spends g c =
@@ -109,7 +109,7 @@ returns-in-Err-put-clause-spends g c =
     let i = c.loop-cell.cell-index in
     let at : CellTable = held g.V.CellValue.meaning c.loop-cell.table.rows.items in
     let cost = c.loop-cell.invariant.cost in
-    let exact = c.in-Ok.ensures.exact in
+    let exact = (c.in-Ok.ensures.spends.counts (work net (cell_at cells i)) refl).exact in
     let more = sum_by_more_le (work net) cells i no_cell (omega arith) in
     spends_refused (sum_by (work net) cells) NoMemory (omega (arith, cost, exact)) (omega (arith, cost, exact, more))
     (λ lack. ends_here net cells at i (work net (cell_at cells i)) (g.E.Evaluator.count c.eval.new.self - g.E.Evaluator.count c.args.eval.now)
@@ -117,7 +117,7 @@ returns-in-Err-put-clause-spends g c =
     (keeping (g.V.CellValue.meaning c.in-Ok.value)
     (gives_ok at (formula net (cell_at cells i)) (g.V.CellValue.meaning c.in-Ok.value) c.in-Ok.ensures.answer)
     (work_is net (cell_at cells i))) (omega (arith, cost, exact)))
-    (c.in-Ok.ensures.same ∙ c.loop-cell.invariant.same)
+    (c.in-Ok.ensures.spends.same ∙ c.loop-cell.invariant.same)
 
 pub returns-clause-spends : goal.returns-clause-spends
 returns-clause-spends g c =

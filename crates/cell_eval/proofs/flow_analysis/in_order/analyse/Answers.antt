@@ -8,7 +8,7 @@ handed_back : {A E S : Type 0} (count counter : S → ℕ) (Works : ℕ → Type
     (after : ℕ) → Spends count counter Works lacking Ends old new r → after ≡ count new → SpendsSteps Works lacking Ends (count old) after r
 handed_back count counter Works lacking Ends old new r after h is =
     subst (λ (n : ℕ). SpendsSteps Works lacking Ends (count old) n r) (sym is)
-    (record { exact = h.exact; rises = h.rises; within = h.within; memory = h.memory; same = refl })
+    (record { counts = h.counts; rises = h.rises; memory = h.memory; same = refl })
 
 pub returns-clause-table : goal.returns-clause-table
 returns-clause-table g c = c.analysed_in_order.ensures.table

@@ -1,4 +1,4 @@
-use Rattle.std.proofs.Common.{◌≡◌, ◌<◌, ◌+◌, ◌-◌, List, length, sum_by, Some, Err, ◌∙◌, ap, arith}
+use Rattle.std.proofs.Common.{◌≡◌, ◌<◌, ◌+◌, ◌-◌, List, length, sum_by, Some, Err, ◌∙◌, refl, ap, arith}
 use Rattle.std.proofs.lemmas.List.{drop_all, take_all}
 use Rattle.std.proofs.lemmas.List.Sums.{sum_by_more, sum_by_more_le}
 use Rattle.outcomes.specs.Stages.{IsEqual}
@@ -59,8 +59,8 @@ returns-in-Err-clause-spends g c =
     let within : i < length touched = omega arith in
     let next = next_of c.requires within c.loop-cell.invariant.others (c.loop-cell.invariant.reached c.requires) in
     let cost = c.loop-cell.invariant.cost in
-    let rises = c.in-Err.ensures.rises in
-    let most = c.in-Err.ensures.within in
+    let rises = c.in-Err.ensures.spends.rises in
+    let most = (c.in-Err.ensures.spends.counts (work net (cell_at touched i)) refl).most in
     let more = sum_by_more_le (work net) touched i no_cell within in
     let mid = g.E.Evaluator.count c.loop-cell.eval in
     let new = g.E.Evaluator.count c.eval.new.self in
@@ -68,8 +68,8 @@ returns-in-Err-clause-spends g c =
     spends_refused (sum_by (work net) touched) c.refusal.result (omega (arith, cost, rises)) (omega (arith, cost, most, more))
     (wants_memory (EndsAtTouched net touched before counted) (cell_at touched i) c.in-Err.fault c.refusal.result c.refusal.ensures
     (λ lack. ends_at c.requires.old net c.requires.order before at touched i (new - mid) counted within c.loop-cell.invariant.others next
-    (making (c.in-Err.ensures.memory (ap Err lack))) (omega (arith, cost, rises))))
-    (c.in-Err.ensures.same ∙ c.loop-cell.invariant.same)
+    (making (c.in-Err.ensures.spends.memory (ap Err lack))) (omega (arith, cost, rises))))
+    (c.in-Err.ensures.spends.same ∙ c.loop-cell.invariant.same)
 
 -- a value that cannot be kept: the next cell's work is counted
 not_kept : (g : Over) (c : In-Ok g)
@@ -84,7 +84,7 @@ not_kept g c =
     let at : CellTable = placed g.V.CellValue.meaning c.loop-cell.values.versions.newest in
     let value = g.V.CellValue.meaning c.in-Ok.value in
     let cost = c.loop-cell.invariant.cost in
-    let exact = c.in-Ok.ensures.exact in
+    let exact = (c.in-Ok.ensures.spends.counts (work net next) refl).exact in
     let within : i < length touched = omega arith in
     let more = sum_by_more_le (work net) touched i no_cell within in
     spends_refused (sum_by (work net) touched) NoMemory (omega (arith, cost, exact)) (omega (arith, cost, exact, more))
@@ -92,7 +92,7 @@ not_kept g c =
     (work net next) (g.E.Evaluator.count c.eval.new.self - g.E.Evaluator.count c.args.eval.now) within
     c.loop-cell.invariant.others (next_of c.requires within c.loop-cell.invariant.others (c.loop-cell.invariant.reached c.requires))
     (keeping value (gives_ok at (formula net next) value c.in-Ok.ensures.answer) (work_is net next)) (omega (arith, cost, exact)))
-    (c.in-Ok.ensures.same ∙ c.loop-cell.invariant.same)
+    (c.in-Ok.ensures.spends.same ∙ c.loop-cell.invariant.same)
 
 pub returns-in_default-clause-spends : goal.returns-in_default-clause-spends
 returns-in_default-clause-spends g c = not_kept g (goal.at.returns-in_default-clause-spends g c).In-Ok
@@ -131,8 +131,8 @@ loop-cell-preserved g c =
       others = still_others touched i before at next within c.loop-cell.invariant.others c.in_default-put.ensures.others;
       before = c.put.ensures.before ∙ c.loop-cell.invariant.before;
       cost = let more = sum_by_more (work net) touched i no_cell (omega arith) in
-          omega (arith, more, c.in-Ok.ensures.exact, c.loop-cell.invariant.cost);
-      same = c.in-Ok.ensures.same ∙ c.loop-cell.invariant.same;
+          omega (arith, more, (c.in-Ok.ensures.spends.counts (work net (cell_at touched i)) refl).exact, c.loop-cell.invariant.cost);
+      same = c.in-Ok.ensures.spends.same ∙ c.loop-cell.invariant.same;
     }
 
 pub returns-clause-answers : goal.returns-clause-answers

@@ -7,4 +7,4 @@ use Rattle.cell_store.proofs.edit_store.plan.ordered_plan.Goals as goal
 pub returns-in-Err-clause-refused : goal.returns-in-Err-clause-refused
 returns-in-Err-clause-refused c =
     subst (λ (f : EditFault). IsUnplanned c.args.present.now c.args.edit.now f) (sym c.graph_fault.ensures)
-    (cycle_unplanned c.args.present.now c.args.edit.now c.args.net c.in-Err.fault c.requires c.in-Err.ensures.fault)
+    (cycle_unplanned c.args.present.now c.args.edit.now c.args.net c.in-Err.fault c.requires.gives c.in-Err.ensures.fault)

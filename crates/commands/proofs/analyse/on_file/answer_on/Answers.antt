@@ -11,12 +11,11 @@ pub returns-in-Ok : goal.returns-in-Ok
 returns-in-Ok g c =
     let all = by_network c.args.file.now c.args.bytes.now (IsReplyOnNet c.args.form) CountsOnCells c.in-Ok.network
     c.on_network.result c.args.steps.now c.network_from.new.steps c.on_network.new.steps c.in-Ok.ensures.network
-    c.network_from.ensures.rises c.network_from.ensures.folds c.on_network.ensures.reply c.on_network.ensures.counts in
+    c.in-Ok.ensures.counts c.on_network.ensures.reply c.on_network.ensures.counts in
     record { reply = all.reply; counts = all.counts }
 
 pub returns-in-Err : goal.returns-in-Err
 returns-in-Err g c =
     let all = by_none c.args.file.now c.args.bytes.now (IsReplyOnNet c.args.form) CountsOnCells c.in-Err.told
-    c.args.steps.now c.network_from.new.steps c.in-Err.ensures.none c.network_from.ensures.rises
-    c.network_from.ensures.folds (λ net status none. none_on_cells net status c.network_from.new.steps none) in
+    c.args.steps.now c.network_from.new.steps c.in-Err.ensures.none c.in-Err.ensures.counts (λ net status none. none_on_cells net status c.network_from.new.steps none) in
     record { reply = all.reply; counts = all.counts }

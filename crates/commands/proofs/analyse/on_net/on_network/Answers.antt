@@ -13,12 +13,11 @@ returns-in_ok-text-in-Ok-clause-reply g c =
 
 pub returns-in_ok-text-in-Ok-clause-counts : goal.returns-in_ok-text-in-Ok-clause-counts
 returns-in_ok-text-in-Ok-clause-counts g c =
-    at_status c.args.net.now 0 _ _ c.table_of.ensures.cells (λ is. c.in-Ok.ensures.exact)
+    at_status c.args.net.now 0 _ _ c.in-Ok.ensures.counts
 
 pub returns-in_err-text-in-Ok-clause-counts : goal.returns-in_err-text-in-Ok-clause-counts
 returns-in_err-text-in-Ok-clause-counts g c =
-    at_status c.args.net.now (status_of c.from_residual.result) _ _ c.table_of.ensures.cells
-    (λ is. c.in-Ok.ensures.exact)
+    at_status c.args.net.now (status_of c.from_residual.result) _ _ c.in-Ok.ensures.counts
 
 pub returns-in-Err-clause-reply : goal.returns-in-Err-clause-reply
 returns-in-Err-clause-reply g c =
@@ -26,4 +25,4 @@ returns-in-Err-clause-reply g c =
 
 pub returns-in-Err-clause-counts : goal.returns-in-Err-clause-counts
 returns-in-Err-clause-counts g c =
-    stopped_counts c.args.net.now c.in-Err.told _ _ c.table_of.ensures.cells c.in-Err.ensures.stopped
+    stopped_counts c.args.net.now c.in-Err.told _ _ c.in-Err.ensures.counts c.in-Err.ensures.stopped

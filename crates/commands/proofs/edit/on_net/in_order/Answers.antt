@@ -37,12 +37,12 @@ returns-in-Ok-clause-counts g c =
     let mid = g.E.Evaluator.count c.new.new.eval in
     let new = g.E.Evaluator.count c.reported.new.eval in
     by_order net edits order (status_of c.reported.result) old mid new c.requires.accepted c.requires.ordered
-    (c.in-Ok.ensures.spends.exact _ refl ∙ ap (λ (n : Net). old + work_of_cells n order) same)
+    ((c.in-Ok.ensures.spends.counts _ refl).exact ∙ ap (λ (n : Net). old + work_of_cells n order) same)
     (record {
-      rises = c.reported.ensures.rises;
-      most = λ all done w. c.reported.ensures.most all done
+      rises = c.reported.ensures.counts.rises;
+      most = λ all done w. c.reported.ensures.counts.most all done
           (subst (λ (n : Net). WorkOfEdits (begun n) edits all done) (sym present) w);
-      least = λ zero all done w. at_zero c.reported.result _ c.reported.ensures.least zero all done
+      least = λ zero all done w. at_zero c.reported.result _ c.reported.ensures.counts.least zero all done
           (subst (λ (n : Net). WorkOfEdits (begun n) edits all done) (sym present) w);
     })
 
@@ -66,7 +66,7 @@ returns-in-Err-TooMany-clause-counts g c =
     let other = refused c.cell_too_many.result (cell_over TooMany (cell_words c.args.net.now c.in-Err-TooMany.cell))
     (λ e. cc) (rw c.in-Err-TooMany.field-0-is at c.cell_too_many.ensures) in
     by_cells_of_copy c.args.net.now _ c.args.edits.now c.args.order.now (status_of c.cell_too_many.result) _ _
-    c.in_ok-copy.ensures c.requires.accepted c.requires.ordered c.new.ensures.spends.rises (c.new.ensures.spends.within _ refl) other
+    c.in_ok-copy.ensures c.requires.accepted c.requires.ordered c.new.ensures.spends.rises (c.new.ensures.spends.counts _ refl).most other
 
 pub returns-in-Err-TooWide-clause-reply : goal.returns-in-Err-TooWide-clause-reply
 returns-in-Err-TooWide-clause-reply g c =
@@ -88,12 +88,12 @@ returns-in-Err-TooWide-clause-counts g c =
     let other = refused c.cell_too_wide.result (cell_over TooWide (cell_words c.args.net.now c.in-Err-TooWide.cell))
     (λ e. cc) (rw c.in-Err-TooWide.field-0-is at c.cell_too_wide.ensures) in
     by_cells_of_copy c.args.net.now _ c.args.edits.now c.args.order.now (status_of c.cell_too_wide.result) _ _
-    c.in_ok-copy.ensures c.requires.accepted c.requires.ordered c.new.ensures.spends.rises (c.new.ensures.spends.within _ refl) other
+    c.in_ok-copy.ensures c.requires.accepted c.requires.ordered c.new.ensures.spends.rises (c.new.ensures.spends.counts _ refl).most other
 
 pub returns-in-Err-NoMemory-clause-counts : goal.returns-in-Err-NoMemory-clause-counts
 returns-in-Err-NoMemory-clause-counts g c =
     by_cells_of_copy c.args.net.now _ c.args.edits.now c.args.order.now 5 _ _
-    c.in_ok-copy.ensures c.requires.accepted c.requires.ordered c.new.ensures.spends.rises (c.new.ensures.spends.within _ refl) (no_memory 5 refl)
+    c.in_ok-copy.ensures c.requires.accepted c.requires.ordered c.new.ensures.spends.rises (c.new.ensures.spends.counts _ refl).most (no_memory 5 refl)
 
 -- ---- the counter
 pub returns-in-Ok-clause-same : goal.returns-in-Ok-clause-same

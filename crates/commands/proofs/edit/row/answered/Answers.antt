@@ -15,17 +15,17 @@ returns-clause-answered g c =
     (said_view said) accepted c.apply-answer.ensures.applied c.apply-answer.ensures.kept c.versions-versions.ensures.each is)
     c.said_by.ensures
 
-pub returns-clause-least : goal.returns-clause-least
-returns-clause-least g c = λ count done is taken.
-    at_least c.args.store.now c.apply-answer.new.self c.args.edit.now (g.E.Evaluator.count c.args.eval.now)
-    (g.E.Evaluator.count c.apply-answer.new.eval) count c.apply-answer.result done c.apply-answer.ensures.kept
-    c.apply-answer.ensures.spends.exact c.apply-answer.ensures.spends.rises is taken
-
-pub returns-clause-most : goal.returns-clause-most
-returns-clause-most g c = c.apply-answer.ensures.spends.within
-
-pub returns-clause-rises : goal.returns-clause-rises
-returns-clause-rises g c = c.apply-answer.ensures.spends.rises
-
 pub returns-clause-same : goal.returns-clause-same
 returns-clause-same g c = c.apply-answer.ensures.spends.same
+
+pub returns-clause-counts : goal.returns-clause-counts
+returns-clause-counts g c =
+    let spends = c.apply-answer.ensures.spends in
+    record {
+      rises = spends.rises;
+      most = λ count is. (spends.counts count is).most;
+      least = λ count done is taken.
+          at_least c.args.store.now c.apply-answer.new.self c.args.edit.now (g.E.Evaluator.count c.args.eval.now)
+          (g.E.Evaluator.count c.apply-answer.new.eval) count c.apply-answer.result done c.apply-answer.ensures.kept
+          (spends.counts count is) taken;
+    }

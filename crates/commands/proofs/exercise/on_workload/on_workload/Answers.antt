@@ -27,7 +27,7 @@ pub returns-in-Ok-clause-counts : goal.returns-in-Ok-clause-counts
 returns-in-Ok-clause-counts g c =
     let P : Net → Type 0 = λ n. CountsOnCells n (status_of c.simulated.result) c.args.steps.now c.table_of.new.steps in
     subst P c.requires.net
-    (at_status c.args.net.now (status_of c.simulated.result) _ _ c.table_of.ensures.cells (λ is. c.in-Ok.ensures.exact))
+    (at_status c.args.net.now (status_of c.simulated.result) _ _ c.in-Ok.ensures.counts)
 
 pub returns-in-Err-clause-reply : goal.returns-in-Err-clause-reply
 returns-in-Err-clause-reply g c =
@@ -38,4 +38,4 @@ pub returns-in-Err-clause-counts : goal.returns-in-Err-clause-counts
 returns-in-Err-clause-counts g c =
     let P : Net → Type 0 = λ n. CountsOnCells n (status_of c.in-Err.told) c.args.steps.now c.table_of.new.steps in
     subst P c.requires.net
-    (stopped_counts c.args.net.now c.in-Err.told _ _ c.table_of.ensures.cells c.in-Err.ensures.stopped)
+    (stopped_counts c.args.net.now c.in-Err.told _ _ c.in-Err.ensures.counts c.in-Err.ensures.stopped)

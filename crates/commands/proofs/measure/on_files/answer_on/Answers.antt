@@ -1,7 +1,8 @@
 use Rattle.std.proofs.Common.{inl}
 use Rattle.command_replies.specs.View.{status_of}
-use Rattle.commands.proofs.FileAnswers.{said_of_network, said_of_none, none_told}
-use Rattle.commands.proofs.measure.Counting.{counts_with, counts_without}
+use Rattle.commands.proofs.FileAnswers.{said_of_network, said_of_none, none_told, no_net}
+use Rattle.commands.proofs.FileCounts.{folds_made, folds_without}
+use Rattle.commands.proofs.measure.Counting.{counts_without}
 use Rattle.commands.proofs.measure.on_files.answer_on.Goals as goal
 
 pub returns-in-Ok-clause-reply : goal.returns-in-Ok-clause-reply
@@ -10,9 +11,11 @@ returns-in-Ok-clause-reply g c =
 
 pub returns-in-Ok-clause-counts : goal.returns-in-Ok-clause-counts
 returns-in-Ok-clause-counts g c =
-    counts_with c.args.net_bytes.now (status_of c.on_rows.result) c.args.steps.now c.network_from.new.steps
-    c.on_rows.new.steps c.network_from.ensures.rises c.network_from.ensures.folds
-    c.on_rows.ensures.from c.on_rows.ensures.most c.on_rows.ensures.report
+    record {
+      between = c.network_from.new.steps;
+      folds = folds_made c.args.net_bytes.now _ c.args.steps.now c.network_from.new.steps c.in-Ok.ensures.counts;
+      burst = c.on_rows.ensures.counts;
+    }
 
 pub returns-in-Err-clause-reply : goal.returns-in-Err-clause-reply
 returns-in-Err-clause-reply g c =
@@ -21,5 +24,6 @@ returns-in-Err-clause-reply g c =
 pub returns-in-Err-clause-counts : goal.returns-in-Err-clause-counts
 returns-in-Err-clause-counts g c =
     counts_without c.args.net_bytes.now (status_of c.in-Err.told) c.args.steps.now c.network_from.new.steps
-    c.network_from.ensures.rises c.network_from.ensures.folds
+    (folds_without c.args.net_bytes.now (status_of c.in-Err.told) c.args.steps.now c.network_from.new.steps c.in-Err.ensures.counts
+    (no_net c.args.net_file.now c.args.net_bytes.now c.in-Err.told c.in-Err.ensures.none))
     (λ zero. none_told c.args.net_file.now c.args.net_bytes.now c.in-Err.told c.in-Err.ensures.none (inl zero))

@@ -1,8 +1,11 @@
+use Rattle.std.proofs.Common.{arith}
 use Rattle.std.proofs.lemmas.Result.{IfOk-weaker}
+use Rattle.command_replies.specs.View.{status_of}
 use Rattle.command_replies.specs.Replies.{table_fault_reply}
 use Rattle.outcomes.specs.Stages.{stops, goes_on}
 use Rattle.command_replies.proofs.BadTraces.{on_told}
 use Rattle.command_replies.proofs.Statuses.{refused}
+use Rattle.commands.proofs.measure.Counting.{no_burst}
 use Rattle.commands.proofs.measure.on_files.on_rows.Goals as goal
 
 pub returns-in-Ok-clause-reply : goal.returns-in-Ok-clause-reply
@@ -15,6 +18,12 @@ returns-in-Err-clause-reply g c =
     (on_told c.args.net.now c.args.trace_file.now c.args.trace_bytes.now c.in-Err.fault c.on_table_fault.result
     c.in-Err.ensures.fault c.on_table_fault.ensures.reply c.on_table_fault.ensures.told)
 
-pub returns-in-Err-clause-report : goal.returns-in-Err-clause-report
-returns-in-Err-clause-report g c =
-    λ e. absurd (refused c.on_table_fault.result (table_fault_reply c.args.trace_file.now c.in-Err.fault) (λ k. cc) c.on_table_fault.ensures.reply e)
+-- ---- what is counted
+pub returns-in-Ok-clause-counts : goal.returns-in-Ok-clause-counts
+returns-in-Ok-clause-counts g c = c.on_trace.ensures.counts
+
+pub returns-in-Err-clause-counts : goal.returns-in-Err-clause-counts
+returns-in-Err-clause-counts g c =
+    let told = c.on_table_fault in
+    no_burst (status_of told.result) _ _
+    (refused told.result (table_fault_reply c.args.trace_file.now c.in-Err.fault) (λ k. cc) told.ensures.reply) (omega arith) (omega arith)

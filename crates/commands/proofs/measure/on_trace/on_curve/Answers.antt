@@ -1,11 +1,14 @@
 use Rattle.std.specs.Prelude.{codes}
+use Rattle.std.proofs.Common.{refl}
 use Rattle.std.proofs.lemmas.Result.{IfOk-weaker}
 use Rattle.upp_limits.specs.declared.own_limits.OverLimit.TheVariants.{TooMany, TooWide}
+use Rattle.outcomes.proofs.Spending.{counts_all}
 use Rattle.measure_curve.specs.Windows.{of_flow}
 use Rattle.command_replies.specs.Replies.{over}
-use Rattle.command_replies.specs.View.{reply_of}
+use Rattle.command_replies.specs.View.{reply_of, status_of}
 use Rattle.command_replies.proofs.Statuses.{refused}
 use Rattle.commands.proofs.measure.Answering.{measured, reported, shown, steep}
+use Rattle.commands.proofs.measure.Counting.{no_burst}
 use Rattle.commands.proofs.measure.on_trace.on_curve.Goals as goal
 
 pub returns-in_ok-text-in-Ok-clause-reply : goal.returns-in_ok-text-in-Ok-clause-reply
@@ -22,9 +25,6 @@ returns-in-Err-TooMany-clause-reply g c =
     let past = rw c.in-Err-TooMany.field-0-is at c.in-Err-TooMany.ensures.limits in
     IfOk-weaker c.too_many.result _ _ (λ r e. steep ps c.args.name.now c.args.rate c.args.curve.now TooMany (reply_of r) is past e) c.too_many.ensures
 
-pub returns-in-Err-TooMany-clause-report : goal.returns-in-Err-TooMany-clause-report
-returns-in-Err-TooMany-clause-report g c = λ e. absurd (refused c.too_many.result (over TooMany (codes "burst")) (λ k. cc) c.too_many.ensures e)
-
 pub returns-in-Err-TooWide-clause-reply : goal.returns-in-Err-TooWide-clause-reply
 returns-in-Err-TooWide-clause-reply g c =
     let ps = of_flow c.args.flow c.args.trace.now.packets in
@@ -32,5 +32,23 @@ returns-in-Err-TooWide-clause-reply g c =
     let past = rw c.in-Err-TooWide.field-0-is at c.in-Err-TooWide.ensures.limits in
     IfOk-weaker c.too_wide.result _ _ (λ r e. steep ps c.args.name.now c.args.rate c.args.curve.now TooWide (reply_of r) is past e) c.too_wide.ensures
 
-pub returns-in-Err-TooWide-clause-report : goal.returns-in-Err-TooWide-clause-report
-returns-in-Err-TooWide-clause-report g c = λ e. absurd (refused c.too_wide.result (over TooWide (codes "burst")) (λ k. cc) c.too_wide.ensures e)
+-- ---- what is counted
+pub returns-in_ok-text-in-Ok-clause-counts : goal.returns-in_ok-text-in-Ok-clause-counts
+returns-in_ok-text-in-Ok-clause-counts g c = counts_all 1 c.args.steps.now _ _ (c.in-Ok.ensures.spends.counts 1 refl).exact
+
+pub returns-in_err-text-in-Ok-clause-counts : goal.returns-in_err-text-in-Ok-clause-counts
+returns-in_err-text-in-Ok-clause-counts g c = counts_all 1 c.args.steps.now _ _ (c.in-Ok.ensures.spends.counts 1 refl).exact
+
+pub returns-in-Err-TooMany-clause-counts : goal.returns-in-Err-TooMany-clause-counts
+returns-in-Err-TooMany-clause-counts g c =
+    no_burst (status_of c.too_many.result) _ _ (refused c.too_many.result (over TooMany (codes "burst")) (λ k. cc) c.too_many.ensures)
+    c.least_burst.ensures.spends.rises (c.least_burst.ensures.spends.counts 1 refl).most
+
+pub returns-in-Err-TooWide-clause-counts : goal.returns-in-Err-TooWide-clause-counts
+returns-in-Err-TooWide-clause-counts g c =
+    no_burst (status_of c.too_wide.result) _ _ (refused c.too_wide.result (over TooWide (codes "burst")) (λ k. cc) c.too_wide.ensures)
+    c.least_burst.ensures.spends.rises (c.least_burst.ensures.spends.counts 1 refl).most
+
+pub returns-in-Err-NoMemory-clause-counts : goal.returns-in-Err-NoMemory-clause-counts
+returns-in-Err-NoMemory-clause-counts g c =
+    no_burst 5 _ _ (λ k. cc) c.least_burst.ensures.spends.rises (c.least_burst.ensures.spends.counts 1 refl).most

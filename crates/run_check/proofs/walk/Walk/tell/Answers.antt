@@ -20,7 +20,7 @@ returns-in-Enter c =
 
 pub reach-requires : goal.reach-requires
 reach-requires c =
-    rw c.passage_of-in-Reach.ensures
+    rw c.passage_of.ensures
     (stands (routes_of c.args.net.now) c.args.run.now c.args.place c.args.self.now (steps.Reach c.in-Reach.server c.in-Reach.packet c.in-Reach.time) c.requires.follows
     (step_at c.run.inside.steps.items c.args.run.now.steps c.args.place c.index.result.now (steps.Reach c.in-Reach.server c.in-Reach.packet c.in-Reach.time)
     (ap (λ r. r.steps) c.run.view_is) c.requires.more c.index.ensures c.in-Reach.is))
@@ -30,7 +30,7 @@ returns-in-Reach c =
     goes_by (routes_of c.args.net.now) c.args.run.now c.args.place c.args.self.now c.reach.new.self (steps.Reach c.in-Reach.server c.in-Reach.packet c.in-Reach.time) c.requires.follows
     (step_at c.run.inside.steps.items c.args.run.now.steps c.args.place c.index.result.now (steps.Reach c.in-Reach.server c.in-Reach.packet c.in-Reach.time)
     (ap (λ r. r.steps) c.run.view_is) c.requires.more c.index.ensures c.in-Reach.is)
-    c.reach.result c.run.inside.end (ap (λ r. r.end) c.run.view_is) (rw c.passage_of-in-Reach.ensures at c.reach.ensures)
+    c.reach.result c.run.inside.end (ap (λ r. r.end) c.run.view_is) (rw c.passage_of.ensures at c.reach.ensures)
 
 pub work-requires : goal.work-requires
 work-requires c =
@@ -47,7 +47,7 @@ returns-in-Work c =
 
 pub leave-requires : goal.leave-requires
 leave-requires c =
-    rw c.passage_of.ensures
+    rw c.passage_of-in-Leave.ensures
     (stands (routes_of c.args.net.now) c.args.run.now c.args.place c.args.self.now (steps.Leave c.in-Leave.server c.in-Leave.packet c.in-Leave.time) c.requires.follows
     (step_at c.run.inside.steps.items c.args.run.now.steps c.args.place c.index.result.now (steps.Leave c.in-Leave.server c.in-Leave.packet c.in-Leave.time)
     (ap (λ r. r.steps) c.run.view_is) c.requires.more c.index.ensures c.in-Leave.is))
@@ -57,7 +57,7 @@ returns-in-Leave c =
     goes_by (routes_of c.args.net.now) c.args.run.now c.args.place c.args.self.now c.leave.new.self (steps.Leave c.in-Leave.server c.in-Leave.packet c.in-Leave.time) c.requires.follows
     (step_at c.run.inside.steps.items c.args.run.now.steps c.args.place c.index.result.now (steps.Leave c.in-Leave.server c.in-Leave.packet c.in-Leave.time)
     (ap (λ r. r.steps) c.run.view_is) c.requires.more c.index.ensures c.in-Leave.is)
-    c.leave.result c.run.inside.end (ap (λ r. r.end) c.run.view_is) (rw c.passage_of.ensures at c.leave.ensures)
+    c.leave.result c.run.inside.end (ap (λ r. r.end) c.run.view_is) (rw c.passage_of-in-Leave.ensures at c.leave.ensures)
 
 pub visit-requires : goal.visit-requires
 visit-requires c = (

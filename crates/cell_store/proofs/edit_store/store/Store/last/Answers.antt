@@ -26,7 +26,7 @@ put_back-requires g c =
     c.in_ok-replaced-in-Some.ensures c.in_ok-present-in-Some.present ∙ ap (put_back last) c.in_ok-present-in-Some.ensures in
     subst IsAccepted (sym copied)
     (last_accepted g.V.CellValue.meaning fields.replaced.items (take (length fields.replaced.items - 1) fields.replaced.items) last
-    fields.present fields.values.versions c.self.invariant (split g (goal.at.put_back-requires g c).In-Some))
+    fields.present fields.values.versions c.self.invariant.kept (split g (goal.at.put_back-requires g c).In-Some))
 
 pub returns-in_ok-replaced-in-Some-clause-shown : goal.returns-in_ok-replaced-in-Some-clause-shown
 returns-in_ok-replaced-in-Some-clause-shown g c =

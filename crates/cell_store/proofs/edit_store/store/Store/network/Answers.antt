@@ -6,4 +6,4 @@ pub returns-clause-meets : goal.returns-clause-meets
 returns-clause-meets g c =
     let fields = c.self.inside in
     meets_of g.V.CellValue.meaning (networks_before fields.replaced.items fields.present) fields.present fields.values.versions
-    c.args.self.now c.self.view_is c.self.invariant.stored
+    c.args.self.now c.self.view_is c.self.invariant.kept.stored

@@ -9,7 +9,7 @@ use Rattle.cell_rules.specs.cell_values.Placed.{placed}
 use Rattle.cell_rules.specs.declared.edit_sites.replaced.Replaced.{Replaced}
 use Rattle.cell_store.specs.edit_store.Kept.{IsKept}
 use Rattle.cell_store.proofs.edit_store.Begun.{first_edit, first_stored}
-use Rattle.cell_store.proofs.edit_store.PutBack.{first_kept}
+use Rattle.cell_store.proofs.edit_store.PutBack.{first_kept, first_beside}
 use Rattle.cell_store.proofs.edit_store.store.Store.new.Goals as goal
 
 pub made_anew-requires : goal.made_anew-requires
@@ -22,12 +22,16 @@ pub invariant_of-result : goal.invariant_of-result
 invariant_of-result g c =
     let meaning = g.V.CellValue.meaning in
     let values = c.made_anew.new.values.versions in
-    subst (λ (rs : List Replaced). IsKept meaning rs c.args.net values) (sym c.new-2.ensures.items)
-    (first_kept meaning c.args.net values
-    (first_stored meaning c.args.net c.args.order.now c.deref.result.now
-    (placed meaning c.in-Ok.values.versions.newest) values c.requires (c.deref.ensures.value ∙ c.in-Ok-cells.ensures)
-    (c.made_anew.ensures.before ∙ c.in-Ok.ensures.first) c.in_ok-made_anew.ensures.answers c.in-Ok.ensures.nothing
-    c.made_anew.ensures.others))
+    record {
+      kept = subst (λ (rs : List Replaced). IsKept meaning rs c.args.net values) (sym c.new-2.ensures.items)
+          (first_kept meaning c.args.net values
+          (first_stored meaning c.args.net c.args.order.now c.deref.result.now
+          (placed meaning c.in-Ok.values.versions.newest) values c.requires (c.deref.ensures.value ∙ c.in-Ok-cells.ensures)
+          (c.made_anew.ensures.before ∙ c.in-Ok.ensures.first) c.in_ok-made_anew.ensures.answers c.in-Ok.ensures.nothing
+          c.made_anew.ensures.others));
+      beside = first_beside c.of.result.net c.of.result.replaced.items c.new-2.result.items c.args.net c.of.ensures.replaced
+          c.new-2.ensures.items c.of.ensures.same;
+    }
 
 -- ---- what is counted, and want of memory
 pub returns-in_default-clause-spends : goal.returns-in_default-clause-spends

@@ -1,5 +1,0 @@
-use Rattle.commands.proofs.analyse.Causes.{causes}
-use Rattle.commands.proofs.analyse.answer_laws.statuses_have_causes.Goals as goal
-
-pub returns : goal.returns
-returns c = causes

@@ -1,5 +1,0 @@
-use Rattle.commands.proofs.check.Within.{guarantee}
-use Rattle.commands.proofs.check.laws.check_reports_guarantee.Goals as goal
-
-pub returns : goal.returns
-returns c = guarantee

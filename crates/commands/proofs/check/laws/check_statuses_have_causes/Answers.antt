@@ -1,5 +1,0 @@
-use Rattle.commands.proofs.check.Causes.{causes}
-use Rattle.commands.proofs.check.laws.check_statuses_have_causes.Goals as goal
-
-pub returns : goal.returns
-returns c = causes

@@ -1,5 +1,0 @@
-use Rattle.commands.proofs.edit.OneReply.{replies_are_determined}
-use Rattle.commands.proofs.edit.laws.edit_replies_are_determined.Goals as goal
-
-pub returns : goal.returns
-returns c = replies_are_determined

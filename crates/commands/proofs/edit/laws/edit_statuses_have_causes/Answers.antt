@@ -1,5 +1,0 @@
-use Rattle.commands.proofs.edit.Causes.{causes}
-use Rattle.commands.proofs.edit.laws.edit_statuses_have_causes.Goals as goal
-
-pub returns : goal.returns
-returns c = causes

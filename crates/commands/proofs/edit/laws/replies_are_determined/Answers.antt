@@ -1,0 +1,5 @@
+use Rattle.commands.proofs.edit.OneReply.{replies_are_determined}
+use Rattle.commands.proofs.edit.laws.replies_are_determined.Goals as goal
+
+pub returns : goal.returns
+returns c = replies_are_determined

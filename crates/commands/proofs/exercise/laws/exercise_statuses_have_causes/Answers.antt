@@ -1,5 +1,0 @@
-use Rattle.commands.proofs.exercise.Causes.{causes}
-use Rattle.commands.proofs.exercise.laws.exercise_statuses_have_causes.Goals as goal
-
-pub returns : goal.returns
-returns c = causes

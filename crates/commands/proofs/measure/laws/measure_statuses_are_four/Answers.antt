@@ -1,5 +1,0 @@
-use Rattle.commands.proofs.measure.OneMeasure.{statuses_are_four}
-use Rattle.commands.proofs.measure.laws.measure_statuses_are_four.Goals as goal
-
-pub returns : goal.returns
-returns c = statuses_are_four

@@ -1,0 +1,5 @@
+use Rattle.commands.proofs.simulate.OneReply.{replies_are_complete}
+use Rattle.commands.proofs.simulate.laws.replies_are_complete.Goals as goal
+
+pub returns : goal.returns
+returns c = replies_are_complete

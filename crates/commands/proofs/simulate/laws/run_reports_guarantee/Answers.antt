@@ -1,5 +1,0 @@
-use Rattle.commands.proofs.simulate.Within.{guarantee}
-use Rattle.commands.proofs.simulate.laws.run_reports_guarantee.Goals as goal
-
-pub returns : goal.returns
-returns c = guarantee
