@@ -66,6 +66,12 @@ impl<'a> Checked<'a> {
     fn is_at(&self, packet: u32, server: u32) -> bool {
         self.ways[packet as usize].is_there && self.hop(packet).is_some_and(|hop| hop.0 == server)
     }
+    /// Whether a packet was worked off at a server before, so that any work there passes its bits.
+    fn has_left(&self, packet: u32, server: u32) -> bool {
+        let flow = self.packets[packet as usize].flow;
+        let hop = self.ways[packet as usize].hop;
+        self.net.flows[flow as usize].path[..hop].iter().any(|before| before.0 == server)
+    }
     fn put(&mut self, at: Fraction, packet: u32) {
         if let Some((server, queue)) = self.hop(packet) {
             self.ways[packet as usize].is_there = true;
@@ -116,12 +122,14 @@ impl<'a> Checked<'a> {
         holds((packet as usize) < self.packets.len(), 2)?;
         let is_there = self.is_at(packet, server);
         let whole = Fraction::int(self.packets[packet as usize].bits);
+        let has_left = self.has_left(packet, server);
         let site = &mut self.sites[server as usize];
         let done = match site.under_way {
             Some((_, other, done)) => {
                 holds(other == packet, 4)?;
                 done
             }
+            None if has_left => whole,
             None => ZERO,
         };
         holds(from < to && bits.n > 0 && site.until <= from && done.add(bits) <= whole, 4)?;
