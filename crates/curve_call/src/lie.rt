@@ -60,6 +60,12 @@ fn lie_of_lines(a: &Line, b: &Line, from: Frac, to: Frac) -> Lie
     }
     let apart = difference(b.icept, a.icept);
     let closing = difference(a.slope, b.slope);
+    if apart.numerator() <= 0 && closing.numerator() > 0 && from.numerator() >= 0 {
+        return throughout(false);
+    }
+    if apart.numerator() >= 0 && closing.numerator() < 0 && from.numerator() >= 0 {
+        return throughout(true);
+    }
     let x = quotient(apart, closing);
     meeting_lie(is_less(b.slope, a.slope), x, from, to)
 }
