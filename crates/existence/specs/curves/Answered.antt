@@ -7,7 +7,6 @@ use Rattle.upp_limits.specs.Windows.{IsLeastPeriods}
 use Rattle.upp_curve.specs.Curve.{SpecCurve}
 use Rattle.curve_call.specs.declared.frame.Frame.{Frame}
 use Rattle.curve_call.specs.Answers.{IsMadeBy}
-use Rattle.curve_call.specs.Calls.{Applies}
 use Rattle.curve_call.specs.Frames.{IsFrame}
 
 -- an answer of which P holds, and no want of memory

@@ -1,12 +1,10 @@
 -- Calls that are made one after the other have an answer that is not want of memory. Own choice.
-use Rattle.std.specs.Prelude.{◌≢◌, ℕ, List, Result, Err}
+use Rattle.std.specs.Prelude.{ℕ, List}
 use Rattle.rational.specs.Rational.{ℚ}
 use Rattle.rational.specs.Extended.{Ext}
 use Rattle.min_plus.specs.Functions.{IsFinite, IsNonnegative}
 use Rattle.upp_curve.specs.Curve.{SpecCurve, value_at}
 use Rattle.upp_curve.specs.Curves.{IsCurve}
-use Rattle.upp_limits.specs.declared.op_kind.OpFault.{OpFault}
-use Rattle.upp_limits.specs.declared.op_kind.OpFault.TheVariants.{NoMemory}
 use Rattle.upp_limits.specs.declared.op_kind.OpKind.TheVariants.{PosDiff, PosMinus, Scale, RunSup}
 use Rattle.residuals.specs.calls.PriorityCalls.{MakesPriority}
 use Rattle.residuals.specs.calls.DrrCalls.{MakesDrr}
