@@ -1,6 +1,6 @@
 -- A product of two short whole numbers fits, and so does one that is added to a third.
-use Rattle.std.specs.Prelude.{◌≡◌, ℕ, ◌*◌, ◌+◌, ◌<◌, ◌≤◌, ◌^◌, pos}
-use Rattle.std.proofs.Common.{arith, sym, ◌∙◌, ap, subst}
+use Rattle.std.specs.Prelude.{ℕ, ◌*◌, ◌+◌, ◌≤◌, ◌^◌, pos}
+use Rattle.std.proofs.Common.{arith, sym, ◌∙◌, subst}
 use Rattle.rational.specs.Rational.{ℚ, ◌+ℚ◌, ◌*ℚ◌, ◌≤ℚ◌, int}
 use Rattle.rational.specs.Fractions.{frac_self}
 use Rattle.rational.specs.Grid.{Whole, Within}
