@@ -15,6 +15,9 @@ program refuses), thousands a cell, and the operators that take most of the prog
 others, as the number of a convolution's periods is within convolutions, so the shares may come to more than 100 in 100. Then both work out single
 operators on two stairs that turn n and n + 1 times up to where both turn: instructions for each piece that is looked at.
 
+Of the file that is read alone more is told where Debian's packages librust-toml-dev and librust-serde-derive-dev are installed: what plain Rust takes
+with Rust's own crate `toml` (bench/twin_toml) in place of the reader of bench/twin, which is written for these files. These are no ratios of a shape.
+
 First the other one answers the cases of tests/ that it covers: those of `analyse`, `simulate` and `check` that have a report, but for runs that
 break a service curve, of which it says no more than that. The last lines tell the mean of the ratios, the largest, and how many are above 2. It ends with 1 where the two answer unlike each other, and
 asserts nothing about time.
@@ -36,6 +39,8 @@ from shapes import Shape, all_shapes
 FOLDER = Path(__file__).resolve().parent
 TESTS = FOLDER.parent / "tests"
 COMMANDS = ("analyse", "simulate", "check")
+REGISTRY = Path("/usr/share/cargo/registry")  # where Debian's packages lay crates
+READ_ALONE = "1 MiB in a ring, read alone"
 IS_LEFT_OUT = 3  # the twin's status where a service is broken
 HAS_VALGRIND = shutil.which("valgrind") is not None
 IS_QUICK = sys.argv[3:] == ["quick"]
@@ -83,10 +88,42 @@ def twin(folder: Path) -> str | None:
     if shutil.which("cargo") is None:
         print("no cargo: the program alone", file=sys.stderr)
         return None
-    copy = folder / "twin"
-    shutil.copytree(FOLDER / "twin", copy, ignore=shutil.ignore_patterns("target"))
-    subprocess.run(["cargo", "build", "--release", "--offline", "--quiet"], cwd=copy, check=True)
-    return str(copy / "target" / "release" / "twin")
+    return built("twin", folder, [])
+
+
+def built(name: str, folder: Path, words: list[str]) -> str:
+    """A program of bench/, built in a copy."""
+    copy = folder / name
+    shutil.copytree(FOLDER / name, copy, ignore=shutil.ignore_patterns("target"))
+    subprocess.run(["cargo", "build", "--release", "--offline", "--quiet", *words], cwd=copy, check=True)
+    return str(copy / "target" / "release" / name)
+
+
+def version_of(crate: str) -> str | None:
+    """The version of a crate of Debian's, or none where it is not installed."""
+    found = [path.name.removeprefix(f"{crate}-") for path in REGISTRY.glob(f"{crate}-[0-9]*")]
+    return found[0] if found else None
+
+
+def measure_crate(program: str, other: str, folder: Path) -> None:
+    """What reading a file alone takes in plain Rust by its own reader, and by Rust's crate; beside the twin's copy, whose modules it has."""
+    versions = [version_of(crate) for crate in ("toml", "serde_derive")]
+    if None in versions:
+        print("\nno crate toml: what reading takes with it is left out (Debian: librust-toml-dev librust-serde-derive-dev)")
+        return
+    debian = ['source.crates-io.replace-with="debian"', f'source.debian.directory="{REGISTRY}"']
+    crate = built("twin_toml", folder, [word for line in debian for word in ("--config", line)])
+    path = folder / "n"
+    path.write_text(next(shape.files["n"] for shape in all_shapes() if shape.name == READ_ALONE))
+    print(f"\n| {READ_ALONE}, in plain Rust | {UNIT} | Times as many in the program |\n|---|---|---|")
+    ours = measured([program, "analyse", str(path)], folder).took
+    for told, words in (
+        ("by a reader that is written for these files", [other, "analyse"]),
+        (f"by values of the crate toml {versions[0]}, with the same checks", [crate, "values"]),
+        (f"by structs over it that serde {versions[1]} derives, without the checks", [crate, "structs"]),
+    ):
+        its = measured([*words, str(path)], folder).took
+        print(f"| {told} | {its:,.1f} | {ours / its:.2f} |", flush=True)
 
 
 def text_in(path: Path) -> str:
@@ -239,6 +276,8 @@ def main() -> None:
         other = twin(Path(folder))
         is_alike = other is None or answers_cases(other)
         is_alike &= measure_shapes(program, other, Path(folder), word)
+        if other is not None and word in READ_ALONE:
+            measure_crate(program, other, Path(folder))
         if not word:
             measure_operators(program, other, Path(folder))
     sys.exit(0 if is_alike else 1)
