@@ -10,6 +10,8 @@ use Rattle.rational.proofs.Laws.{le_refl, le_of_lt, le_or_lt}
 use Rattle.std.specs.Ordering.{MatchOrdering}
 use Rattle.rational.proofs.MinMax.{le_q_not}
 use Rattle.upp_curve.specs.declared.affine_segment.line.Piece.{Piece}
+use Rattle.upp_curve.specs.affine_segment.Pieces.{StartsAtZero}
+use Rattle.upp_curve.specs.Fitting.{LaterFits}
 use Rattle.upp_curve.specs.Unrolled.{later, each_later, upto}
 use Rattle.upp_normal.specs.Normalising.{past, first_start, cut_at, second_copy}
 use Rattle.upp_curve.proofs.affine_segment.NextPiece.{next_piece, none_left}
@@ -96,6 +98,12 @@ past_from t (p ∷ ps) = elim (le_or_lt t p.x) [
   | inl l ↦ ap (λ n. past t (drop n (p ∷ ps))) (ap length (upto_none t p ps l))
   | inr l ↦ ap (λ n. past t (drop n (p ∷ ps))) (ap length (upto_some t p ps l)) ∙ past_from t ps ∙ sym (past_go t p ps (le_of_lt l))
 ]
+
+-- what is cut at t fits where it moves, if that of pieces from 0 on does
+pub cut_fits : (given seen : List Piece) (t d c : ℚ) (q : Piece) → StartsAtZero given → seen ≡ given → ((p : Piece) (ps : List Piece) → seen ≡ p ∷ ps → q ≡ cut_at p ps t)
+    → ((p : Piece) (ps : List Piece) → given ≡ p ∷ ps → LaterFits d c (cut_at p ps t)) → LaterFits d c q
+cut_fits [] seen t d c q zero e m f = absurd zero
+cut_fits (p ∷ ps) seen t d c q zero e m f = subst (LaterFits d c) (sym (m p ps e)) (f p ps refl)
 
 -- `pieces` are those given, with the copies of those past t among the first i; what is left makes the second copy
 pub record CopiesOn (given pieces : List Piece) (t d c : ℚ) (i : ℕ) : Type 0 where

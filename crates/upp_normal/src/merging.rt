@@ -29,9 +29,10 @@ pub fn merged(pieces: Vec<Piece>) -> Vec<Piece>
     let mut kept = pieces;
     let mut last = 0;
     for next in 1..kept.len() {
-        if !continues(&kept[last], &kept[next]) {
+        let q = kept[next];
+        if !continues(&kept[last], &q) {
             last += 1;
-            kept[last] = kept[next];
+            kept[last] = q;
         }
     }
     kept.truncate(last + 1);

@@ -126,14 +126,16 @@ pub fn normalise_on(raw: RawCurve, times: u128, values: u128) -> Result<Curve, A
     requires room { TailHasRoom times values raw.pieces.items raw.tail }
     ensures { IfOk result (λ r. HasSameValues r (raw_curve raw)) }
 {
-    match raw.tail {
-        Tail::Affine { rank: _ } => Ok(of_pieces(raw.pieces)),
+    let tail = raw.tail;
+    let pieces = raw.pieces;
+    match tail {
+        Tail::Affine { rank: _ } => Ok(of_pieces(pieces)),
         Tail::Infinite { rank } => {
-            let kept = ended(raw.pieces, rank)?;
+            let kept = ended(pieces, rank)?;
             Ok(of_pieces(kept))
         }
         Tail::Periodic { rank, period, rise } => {
-            of_periodic(raw.pieces, rank, period, rise, times, values)
+            of_periodic(pieces, rank, period, rise, times, values)
         }
     }
 }

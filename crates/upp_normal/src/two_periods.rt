@@ -63,7 +63,7 @@ pub(crate) fn two_periods(
     let end = pieces.len();
     let before = count_before(&pieces, rank);
     let cut = cut_at(&pieces, rank);
-    pieces.reserve_exact(end - before + 1)?;
+    pieces.reserve_exact(end.saturating_sub(before).saturating_add(1))?;
     pieces.push(later(period, rise, &cut))?;
     for i in before..end {
         let p = pieces[i];

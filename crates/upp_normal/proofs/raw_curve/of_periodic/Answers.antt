@@ -22,14 +22,14 @@ two_periods-requires-clause-copies c =
     let a = c.args in
     copies_of c.requires.room.0 a.times a.values a.given.items a.rank a.period a.rise c.requires.room.1 c.requires.starts c.requires.tail
 
-pub merged-requires-clause-starts : goal.merged-requires-clause-starts
-merged-requires-clause-starts c =
+pub merged-pieces-requires-clause-starts : goal.merged-pieces-requires-clause-starts
+merged-pieces-requires-clause-starts c =
     let a = c.args in
     let longer = λ (p : Piece) (ps : List Piece) (e : a.given.items ≡ p ∷ ps). c.in_ok-longer.ensures p ps e in
     two_periods_start a.given.items c.in_ok-longer.longer.items a.rank a.period a.rise c.requires.starts c.requires.tail.nonneg c.requires.tail.some c.requires.tail.starts longer
 
-pub merged-requires-clause-fits : goal.merged-requires-clause-fits
-merged-requires-clause-fits c =
+pub merged-pieces-requires-clause-fits : goal.merged-pieces-requires-clause-fits
+merged-pieces-requires-clause-fits c =
     let a = c.args in
     let longer = λ (p : Piece) (ps : List Piece) (e : a.given.items ≡ p ∷ ps). c.in_ok-longer.ensures p ps e in
     lines_fit c.requires.room.0 4 c.in_ok-longer.longer.items (omega arith)
