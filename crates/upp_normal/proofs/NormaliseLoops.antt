@@ -153,6 +153,6 @@ pub copies_end : (given pieces : List Piece) (t d c : ℚ) (i : ℕ) (p : Piece)
 copies_end given pieces t d c i p ps h l e k =
     k.are
     ∙ ap (λ zs. given ++ zs)
-        (copy_ends t d c _ k.copies (each_later d c (cut_at p ps t ∷ past t given)) (none_left given i h) (k.left p ps e)
-        ∙ ap (λ zs. each_later d c (cut_at p ps t ∷ zs)) (ap (past t) e ∙ past_go t p ps l))
+    (copy_ends t d c _ k.copies (each_later d c (cut_at p ps t ∷ past t given)) (none_left given i h) (k.left p ps e)
+    ∙ ap (λ zs. each_later d c (cut_at p ps t ∷ zs)) (ap (past t) e ∙ past_go t p ps l))
     ∙ ap (λ zs. zs ++ second_copy p ps t d c) e

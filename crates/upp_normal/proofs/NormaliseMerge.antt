@@ -200,7 +200,7 @@ joins_keep all items items2 last next p q b at h e off test w j =
       items_are =
           w
           ∙ ap (λ zs. set zs (last + 1) q)
-              (j.items_are ∙ ap (λ zs. j.kept ++ (j.top ∷ (j.free ++ zs))) L ∙ ap (λ zs. j.kept ++ (j.top ∷ zs)) F.is ∙ sym (append_assoc j.kept (j.top ∷ []) (F.head ∷ (F.now ++ more))))
+          (j.items_are ∙ ap (λ zs. j.kept ++ (j.top ∷ (j.free ++ zs))) L ∙ ap (λ zs. j.kept ++ (j.top ∷ zs)) F.is ∙ sym (append_assoc j.kept (j.top ∷ []) (F.head ∷ (F.now ++ more))))
           ∙ set_at (j.kept ++ j.top ∷ []) F.head (F.now ++ more) q (last + 1) k;
       done = k;
       seen = omega (arith, k, F.long, j.seen, j.done);
@@ -219,6 +219,6 @@ pub joins_end : (all items found : List Piece) (last next : ℕ) (p : Piece) (ps
 joins_end all items found last next p ps h f e j =
     let k : length (j.kept ++ j.top ∷ []) ≡ last + 1 = omega (arith, length_push j.kept j.top, j.done) in
     let n : length j.left ≡ 0 =
-        omega (arith, h, j.long, j.seen, ap length j.items_are, length-append j.kept (j.top ∷ (j.free ++ j.left)), length-append j.free j.left) in
+    omega (arith, h, j.long, j.seen, ap length j.items_are, length-append j.kept (j.top ∷ (j.free ++ j.left)), length-append j.free j.left) in
     let t = f ∙ ap (take (last + 1)) (j.items_are ∙ sym (append_assoc j.kept (j.top ∷ []) (j.free ++ j.left))) ∙ take_at (j.kept ++ j.top ∷ []) (j.free ++ j.left) (last + 1) k in
     subst (λ zs. Leaves zs found) (sym j.all_is ∙ e) (merge_is j.first j.rest j.kept j.top j.left found (nil_from_length j.left n) t j.merges)

@@ -1,4 +1,4 @@
-use Rattle.std.proofs.Common.{arith, ◌+◌, ◌<◌, ◌∙◌, sym, length, set, refl}
+use Rattle.std.proofs.Common.{arith, ◌+◌, ◌<◌, length, set, refl}
 use Rattle.upp_normal.proofs.NormaliseMerge.{joins_begin, joins_fits, joins_keep, joins_skip, joins_end}
 use Rattle.upp_normal.proofs.merging.merged.Goals as goal
 use Rattle.upp_normal.proofs.merging.merged.Goals.{then-not-continues, else-not-continues}

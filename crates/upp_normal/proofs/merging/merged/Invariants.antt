@@ -1,5 +1,3 @@
-use Rattle.std.proofs.Common.{List, ◌∷◌, ◌≡◌}
-use Rattle.upp_curve.specs.declared.affine_segment.line.Piece.{Piece}
 use Rattle.upp_normal.proofs.NormaliseMerge.{JoinsInPlace}
 use Rattle.upp_normal.proofs.merging.merged.Given as goal
 

@@ -1,6 +1,5 @@
-use Rattle.std.proofs.Common.{arith, ◌∷◌, List, ◌++◌, ◌∙◌, [], ◌<◌, ap, sym, subst, length}
+use Rattle.std.proofs.Common.{arith, ◌∷◌, ◌++◌, ◌∙◌, [], ◌<◌, ap, sym, subst, length}
 use Rattle.rational.specs.Rational.{◌≤ℚ◌}
-use Rattle.upp_curve.specs.declared.affine_segment.line.Piece.{Piece}
 use Rattle.upp_curve.specs.affine_segment.Pieces.{StartsAtZero}
 use Rattle.upp_curve.specs.Unrolled.{later, upto}
 use Rattle.upp_normal.proofs.NormaliseLoops.{cut_fits, copies_begin, copies_more, copies_skip, copies_end}

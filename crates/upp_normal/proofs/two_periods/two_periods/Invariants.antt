@@ -1,7 +1,3 @@
-use Rattle.std.proofs.Common.{◌≡◌, ◌++◌, ◌∷◌, ◌<◌, List, drop, length}
-use Rattle.upp_curve.specs.declared.affine_segment.line.Piece.{Piece}
-use Rattle.upp_curve.specs.Unrolled.{each_later}
-use Rattle.upp_normal.specs.Normalising.{past, cut_at}
 use Rattle.upp_normal.proofs.NormaliseLoops.{CopiesOn}
 use Rattle.upp_normal.proofs.two_periods.two_periods.Given as goal
 
