@@ -10,10 +10,14 @@ seconds of processor time and 1 GiB. A climb ends after 40 steps that gained not
 
 All is drawn by SEED (1), so others find the same files with the same program where the times do not decide otherwise. Of each kind the five slowest
 are printed: seconds, status, bytes and the climb. FILE then has the twenty slowest of each kind, with those that it had before: bench/climbed.json was
-made so, and bench/hostile.py runs it. It ends with 1 where one was late.
+made so, and bench/hostile.py runs it. What a climb found is there as soon as it has ended, so several of these may run at a time over one FILE, each with a
+seed of its own, and one that an interrupt (Ctrl-C, SIGINT) ends has written it. It ends with 1 where one was late.
 """
 
+import contextlib
+import fcntl
 import json
+import os
 import random
 import re
 import resource
@@ -21,6 +25,7 @@ import signal
 import sys
 import tempfile
 import time
+from collections.abc import Iterator
 from fractions import Fraction
 from pathlib import Path
 
@@ -74,17 +79,19 @@ class Found:
         self.status = "late" if self.late else str(came.status)
 
 
-def climb(program: str, kind: str, seed: str, until: float, folder: Path) -> Found:
-    """The slowest case of one climb."""
+def climb(program: str, kind: str, seed: str, until: float, folder: Path) -> Iterator[Found]:
+    """One climb: the slowest case so far, each time that there is another one."""
     draw = random.Random(seed)
     words, files = odd_cases.drawn(draw, kind)
     best = Found(program, mutate.Case(words, files), seed, folder)
+    yield best
     stale = 0
     while stale < STALE and not best.late and time.monotonic() < until:
         tried = Found(program, step(draw, best.case), seed, folder)
         stale = 0 if tried.seconds > 1.1 * best.seconds else stale + 1
-        best = tried if tried.seconds >= best.seconds else best
-    return best
+        if tried.seconds >= best.seconds:
+            best = tried
+            yield best
 
 
 def told(kind: str, slowest: list[Found], climbs: int) -> None:
@@ -94,21 +101,43 @@ def told(kind: str, slowest: list[Found], climbs: int) -> None:
         print(f"    {found.seconds:6.2f} s, status {found.status}, {size} bytes, climb {found.climb}", flush=True)
 
 
-def keep(kept: Path, kind: str, slowest: list[Found]) -> None:
-    """The file with these among those that it had, a kind's slowest first."""
-    had = json.loads(kept.read_text()) if kept.exists() else {}
-    mine = [
-        {
-            "climb": found.climb,
-            "seconds": round(found.seconds, 2),
-            "status": found.status,
-            "words": found.case.words,
-            "files": {name: text.decode("latin-1") for name, text in found.case.files.items()},
-        }
-        for found in slowest
-    ]
-    had[kind] = sorted(had.get(kind, []) + mine, key=lambda it: -it["seconds"])[:KEPT]
-    kept.write_text(json.dumps(had, indent=1) + "\n")
+def keep(kept: Path, kind: str, found: Found) -> None:
+    """The file with this among those that it had, a kind's slowest first. Another one takes its place, so it is there whole at each time."""
+    mine = {
+        "climb": found.climb,
+        "seconds": round(found.seconds, 2),
+        "status": found.status,
+        "words": found.case.words,
+        "files": {name: text.decode("latin-1") for name, text in found.case.files.items()},
+    }
+    lock = os.open(kept.parent, os.O_RDONLY)  # of the folder, since the file is another one each time
+    try:
+        fcntl.flock(lock, fcntl.LOCK_EX)  # till it is closed
+        had = json.loads(kept.read_text(encoding="utf-8") or "{}") if kept.exists() else {}
+        of_climb: dict[str, dict] = {}
+        for it in sorted([*had.get(kind, []), mine], key=lambda it: -it["seconds"]):
+            of_climb.setdefault(it["climb"], it)
+        had[kind] = list(of_climb.values())[:KEPT]
+        made = kept.with_name(f"{kept.name}.new")
+        made.write_text(json.dumps(dict(sorted(had.items())), indent=1) + "\n", encoding="utf-8")
+        os.replace(made, kept)
+    finally:
+        os.close(lock)
+
+
+def ended(climb_of: Iterator[Found], kind: str, found: list[Found], kept: Path | None) -> None:
+    """Goes through a climb; its slowest case is found and kept, also where an interrupt ends it."""
+    best = None
+    try:
+        for best in climb_of:
+            pass
+    finally:
+        signal.pthread_sigmask(signal.SIG_BLOCK, {signal.SIGINT})  # another one waits until it is kept
+        if best:
+            found.append(best)
+        if best and kept:
+            keep(kept, kind, best)
+        signal.pthread_sigmask(signal.SIG_UNBLOCK, {signal.SIGINT})
 
 
 def main() -> None:
@@ -120,18 +149,18 @@ def main() -> None:
     kept = Path(sys.argv[4]) if len(sys.argv) > 4 else None
     kinds = sys.argv[5:] or sorted(odd_cases.KINDS)
     mutate.limits = limits
+    signal.signal(signal.SIGINT, signal.default_int_handler)  # also where it was begun in the background
     late = 0
-    with tempfile.TemporaryDirectory(prefix="climb_") as folder:
+    with tempfile.TemporaryDirectory(prefix="climb_") as folder, contextlib.suppress(KeyboardInterrupt):
         for kind in kinds:
             found: list[Found] = []
             until = time.monotonic() + 60 * minutes / len(kinds)
-            while time.monotonic() < until:
-                found.append(climb(program, kind, f"{seed} {kind} {len(found)}", until, Path(folder)))
-            late += sum(it.late for it in found)
-            found.sort(key=lambda it: -it.seconds)
-            told(kind, found, len(found))
-            if kept:
-                keep(kept, kind, found[:KEPT])
+            try:
+                while time.monotonic() < until:
+                    ended(climb(program, kind, f"{seed} {kind} {len(found)}", until, Path(folder)), kind, found, kept)
+            finally:
+                late += sum(it.late for it in found)
+                told(kind, sorted(found, key=lambda it: -it.seconds), len(found))
     print(f"{late} climbs ended late")
     sys.exit(1 if late else 0)
 

@@ -6,7 +6,7 @@
 NETCALC is the program that the tools ask. CASES (500) times for each tool (or for those that are named) a call is drawn of files of examples/
 and tests/ and of answers to them, and one to eight changes are made to its files: those of bench/mutate.py, and what is hard on such tools:
 numerals of 5,000 digits, names of 100,000 letters, 400 tables or arrays in one another, long zeros, quotes and control signs, cells
-that a spreadsheet would run. Each call is a process of its own with a limit of 20 seconds of processor time, 60 of the clock and 3 GiB.
+that a spreadsheet would run. Each call is a process of its own with a limit of 20 seconds of processor time, 600 of the clock and 3 GiB.
 
 What is not wanted is printed with the number of its case: an end by a signal, another status than 0, 1 and 2, status 1 without a word, a traceback,
 and a cell of a table that a spreadsheet would run. The tools are called in turn; a last line of each says how many calls there were by status, also where
@@ -15,6 +15,8 @@ an interrupt (Ctrl-C, SIGINT) ends it early. It ends with 1 where something was 
 
 import contextlib
 import csv
+import gc
+import io
 import itertools
 import os
 import random
@@ -42,7 +44,7 @@ import round as rounding  # noqa: E402
 import sweep  # noqa: E402
 import what_if  # noqa: E402
 
-SECONDS, CLOCK, MEMORY = 20, 60, 3 * 2**30
+SECONDS, CLOCK, MEMORY = 20, 600, 3 * 2**30
 FAULT = 70  # the status of a call that raised what its tool does not tell
 RUN = "examples/one_flow_recorded.csv"
 NETWORKS = [str(path.relative_to(TOP)) for path in sorted([*TOP.glob("examples/**/*.toml"), *TOP.glob("tests/bounds/*/*.toml")])]
@@ -240,21 +242,36 @@ def call(calls: Calls, name: str, draw: random.Random, folder: Path) -> tuple[in
     return status, unwanted(status, folder), words
 
 
+def load_drawing() -> None:
+    """Draws a picture of each form, so that not every call has to load what does so, with the fonts."""
+    pictures = plot.drawing()
+    figure, axes = pictures.subplots()
+    axes.plot([0, 1], [0, 1], label="a")
+    axes.legend()
+    for form in ("svg", "png"):
+        figure.savefig(io.BytesIO(), format=form)
+    pictures.close(figure)
+
+
 def main() -> None:
     if len(sys.argv) < 2:
         sys.exit(__doc__)
     count = int(sys.argv[2]) if len(sys.argv) > 2 else 500
     seed = int(sys.argv[3]) if len(sys.argv) > 3 else 1
     calls = Calls(str(Path(sys.argv[1]).resolve()))
-    with contextlib.suppress(networks.Fault):
-        plot.drawing()  # so that not every call has to load it
+    tools = sys.argv[4:] or list(TOOLS)
+    if {"plot", "sweep"} & set(tools):
+        with contextlib.suppress(networks.Fault):
+            load_drawing()
+    gc.collect()
+    gc.freeze()  # so that no collection in a call writes on all that it shares with this process, which would be copied
     others = 0
     with tempfile.TemporaryDirectory(prefix="mutate_tools_") as name:
         folder, own = Path(name, "call"), Path(name, "own")
         folder.mkdir(), own.mkdir()
         calls.prepare(own)
         signal.signal(signal.SIGINT, signal.default_int_handler)  # also where it was begun in the background
-        came: dict[str, Counter] = {tool: Counter() for tool in sys.argv[4:] or TOOLS}
+        came: dict[str, Counter] = {tool: Counter() for tool in tools}
         with contextlib.suppress(KeyboardInterrupt):
             for number, tool in itertools.product(range(count), came):
                 status, said, words = call(calls, tool, random.Random(f"{seed} {tool} {number}"), folder)

@@ -162,6 +162,6 @@ def all_shapes() -> list[Shape]:
     found += [Shape(f"a closure, segment of 1/{parts}", "analyse n", {"n": network_files.closed(parts)}) for parts in (20, 40, 80)]
     found += [Shape(f"a closure, {steps} steps at drawn times", "analyse n", {"n": hostile.closed_walk(steps)}) for steps in (12, 20)]
     most = network_files.MOST_BYTES
-    for name, told in (("in a ring", "1 MiB in a ring, read alone"), ("alike names", "1 MiB, names alike, 256 flows of 16 hops")):
+    for name, told in (("in a ring", "0.8 MB in a ring, read alone"), ("alike names", "1 MiB, names alike, 256 flows of 16 hops")):
         found.append(Shape(told, "analyse n", {"n": network_files.FILES[name](most)}, name == "in a ring"))
     return found + examples() + runs()

@@ -15,9 +15,13 @@ program refuses), thousands a cell, and the operators that take most of the prog
 others, as the number of a convolution's periods is within convolutions, so the shares may come to more than 100 in 100. Then both work out single
 operators on two stairs that turn n and n + 1 times up to where both turn: instructions for each piece that is looked at.
 
+Of the file that is read alone more is told where Debian's packages librust-toml-dev, in its version 0.5, and librust-serde-derive-dev are installed: what
+plain Rust takes with Rust's own crate `toml` (bench/twin_toml) in place of the reader of bench/twin, which is written for these files. These are no
+ratios of a shape.
+
 First the other one answers the cases of tests/ that it covers: those of `analyse`, `simulate` and `check` that have a report, but for runs that
-break a service curve, of which it says no more than that. The last lines tell the mean of the ratios, the largest, and how many are above 2. It ends with 1 where the two answer unlike each other, and
-asserts nothing about time.
+break a service curve, of which it says no more than that. The last lines tell the mean of the ratios, the largest, and how many are above 2. It ends
+with 1 where the two answer unlike each other, or plain Rust says of the file that is read alone what it should not, and asserts nothing about time.
 """
 
 import re
@@ -36,6 +40,9 @@ from shapes import Shape, all_shapes
 FOLDER = Path(__file__).resolve().parent
 TESTS = FOLDER.parent / "tests"
 COMMANDS = ("analyse", "simulate", "check")
+REGISTRY = Path("/usr/share/cargo/registry")  # where Debian's packages lay crates
+VERSIONS = {"toml": "0.5.*", "serde_derive": "1.*"}  # those that bench/twin_toml is written for
+READ_ALONE = "0.8 MB in a ring, read alone"
 IS_LEFT_OUT = 3  # the twin's status where a service is broken
 HAS_VALGRIND = shutil.which("valgrind") is not None
 IS_QUICK = sys.argv[3:] == ["quick"]
@@ -83,10 +90,53 @@ def twin(folder: Path) -> str | None:
     if shutil.which("cargo") is None:
         print("no cargo: the program alone", file=sys.stderr)
         return None
-    copy = folder / "twin"
-    shutil.copytree(FOLDER / "twin", copy, ignore=shutil.ignore_patterns("target"))
-    subprocess.run(["cargo", "build", "--release", "--offline", "--quiet"], cwd=copy, check=True)
-    return str(copy / "target" / "release" / "twin")
+    return built("twin", folder, [])
+
+
+def built(name: str, folder: Path, words: list[str]) -> str:
+    """A program of bench/, built in a copy."""
+    copy = folder / name
+    shutil.copytree(FOLDER / name, copy, ignore=shutil.ignore_patterns("target"))
+    subprocess.run(["cargo", "build", "--release", "--offline", "--quiet", *words], cwd=copy, check=True)
+    return str(copy / "target" / "release" / name)
+
+
+def version_of(crate: str) -> str | None:
+    """The version of a crate of Debian's, or none where none is installed that bench/twin_toml can be built with."""
+    found = [path.name.removeprefix(f"{crate}-") for path in REGISTRY.glob(f"{crate}-{VERSIONS[crate]}")]
+    return found[0] if found else None
+
+
+def measure_crate(program: str, other: str, folder: Path) -> bool:
+    """What reading a file alone takes in plain Rust by its own reader, and by Rust's crate; beside the twin's copy, whose modules it has. Whether each
+    says what it should: only then its row is printed."""
+    versions = [version_of(crate) for crate in VERSIONS]
+    if None in versions:
+        print("\nno crate toml 0.5: what reading takes with it is left out (Debian 12: librust-toml-dev librust-serde-derive-dev)")
+        return True
+    debian = ['source.crates-io.replace-with="debian"', f'source.debian.directory="{REGISTRY}"']
+    crate = built("twin_toml", folder, [word for line in debian for word in ("--config", line)])
+    path = folder / "n"
+    text = next(shape.files["n"] for shape in all_shapes() if shape.name == READ_ALONE)
+    path.write_text(text)
+    network = tomllib.loads(text)
+    counts = f"servers {len(network['server'])} flows {len(network['flow'])}"
+    print(f"\n| {READ_ALONE}, in plain Rust | {UNIT} | Times as many in the program |\n|---|---|---|")
+    ours = measured([program, "analyse", str(path)], folder).took
+    unlike = []
+    for told, words, status, said in (
+        ("by a reader that is written for these files", [other, "analyse"], 8, "twin: cycle"),
+        (f"by values of the crate toml {versions[0]}, with the same checks", [crate, "values"], 0, "twin_toml: cycle"),
+        (f"by structs over it that serde {versions[1]} derives, without the checks", [crate, "structs"], 0, f"twin_toml: {counts}"),
+    ):
+        its = measured([*words, str(path)], folder)
+        if (its.status, its.report) == (status, f"{said}\n".encode()):
+            print(f"| {told} | {its.took:,.1f} | {ours / its.took:.2f} |", flush=True)
+        else:
+            unlike.append(told)
+    for told in unlike:
+        print(f"{READ_ALONE}, {told}: plain Rust answers otherwise")
+    return not unlike
 
 
 def text_in(path: Path) -> str:
@@ -239,6 +289,8 @@ def main() -> None:
         other = twin(Path(folder))
         is_alike = other is None or answers_cases(other)
         is_alike &= measure_shapes(program, other, Path(folder), word)
+        if other is not None and word in READ_ALONE:
+            is_alike &= measure_crate(program, other, Path(folder))
         if not word:
             measure_operators(program, other, Path(folder))
     sys.exit(0 if is_alike else 1)

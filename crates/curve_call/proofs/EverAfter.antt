@@ -2,7 +2,6 @@
 use Rattle.std.specs.Prelude.{ℕ, pos}
 use Rattle.std.proofs.Common.{arith, sym, subst, inl, inr}
 use Rattle.rational.specs.Rational.{ℚ, ◌+ℚ◌, ◌*ℚ◌, ◌≤ℚ◌, ◌<ℚ◌, int}
-use Rattle.rational.specs.Whole.{periods}
 use Rattle.rational.specs.Extended.{◌≤ₑ◌, ◌<ₑ◌, ◌+ₑ◌}
 use Rattle.rational.specs.declared.Extended.TheVariants.{Fin}
 use Rattle.rational.proofs.Linear.{with2}

@@ -40,6 +40,7 @@ pub mod Sums
 pub mod MapLoop
 pub mod OperandWindows
 pub mod LinesLie
+pub mod ShortSteps
 pub mod CrossFits
 pub mod MadeLoop
 pub mod SumLoop

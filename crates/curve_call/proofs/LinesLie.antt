@@ -3,12 +3,12 @@ use Rattle.std.specs.Prelude.{◌≡◌, Bool, true, false, not, pos, IsTrue, �
 use Rattle.std.proofs.Common.{arith, sym, ap, ◌∙◌, refl, subst, inl, inr}
 use Rattle.std.proofs.lemmas.Bool.{true≢false}
 use Rattle.rational.specs.Rational.{ℚ, ◌+ℚ◌, ◌-ℚ◌, ◌*ℚ◌, ◌≤ℚ◌, ◌<ℚ◌, int}
-use Rattle.rational.proofs.Laws.{le_of_lt, lt_cases, mul_le_mul_right}
-use Rattle.rational.proofs.Lines.{past_crossing, line_moved}
+use Rattle.rational.proofs.Laws.{le_of_lt, le_trans, le_total, lt_cases, mul_le_mul, mul_le_mul_right, sub_mul}
+use Rattle.rational.proofs.Lines.{past_crossing, line_moved, line_falls}
 use Rattle.rational.proofs.Linear.{with2, with3, with4}
 use Rattle.upp_curve.specs.declared.affine_segment.line.Line.{Line}
 use Rattle.upp_curve.specs.affine_segment.Values.{line_at}
-use Rattle.curve_call.specs.Lies.{IsOrdered, MeetsAt, CrossesAt}
+use Rattle.curve_call.specs.Lies.{IsOrdered, LiesBy, MeetsAt, CrossesAt}
 
 -- before two lines meet the shallower is the upper
 before_meeting : (k l r q t u : ℚ) → k +ℚ r *ℚ t ≡ l +ℚ q *ℚ t → r ≤ℚ q → u ≤ℚ t → l +ℚ q *ℚ u ≤ℚ k +ℚ r *ℚ u
@@ -57,3 +57,45 @@ pub after_crossing : (rises : Bool) (l m : Option Line) (x t : ℚ) → CrossesA
 after_crossing rises None m x t C h = absurd C
 after_crossing rises (Some l) None x t C h = absurd C
 after_crossing rises (Some l) (Some m) x t C h = after_turn rises l m x t C h
+
+-- ---- by what two lines are apart at 0, and what they close in a time unit
+apart_by : (l m : Line) (closing t : ℚ) → closing ≡ l.slope -ℚ m.slope → closing *ℚ t ≡ l.slope *ℚ t -ℚ m.slope *ℚ t
+apart_by l m closing t e = ap (λ z. z *ℚ t) e ∙ sub_mul l.slope m.slope t
+
+closed_below : (l m : Line) (apart closing t : ℚ) → apart ≡ m.icept -ℚ l.icept → closing ≡ l.slope -ℚ m.slope → closing *ℚ t ≤ℚ apart → line_at l t ≤ℚ line_at m t
+closed_below l m apart closing t p q h = lower l.icept m.icept (l.slope *ℚ t) (m.slope *ℚ t) (subst (λ z. z ≤ℚ m.icept -ℚ l.icept) (apart_by l m closing t q) (subst (λ z. closing *ℚ t ≤ℚ z) p h))
+  where
+    lower : (k l v w : ℚ) → v -ℚ w ≤ℚ l -ℚ k → k +ℚ v ≤ℚ l +ℚ w
+    lower k l v w h = with4 k l v w (λ c. omega (arith, c.le, c.lt, c.same))
+
+closed_above : (l m : Line) (apart closing t : ℚ) → apart ≡ m.icept -ℚ l.icept → closing ≡ l.slope -ℚ m.slope → apart ≤ℚ closing *ℚ t → line_at m t ≤ℚ line_at l t
+closed_above l m apart closing t p q h = upper l.icept m.icept (l.slope *ℚ t) (m.slope *ℚ t) (subst (λ z. m.icept -ℚ l.icept ≤ℚ z) (apart_by l m closing t q) (subst (λ z. z ≤ℚ closing *ℚ t) p h))
+  where
+    upper : (k l v w : ℚ) → l -ℚ k ≤ℚ v -ℚ w → l +ℚ w ≤ℚ k +ℚ v
+    upper k l v w h = with4 k l v w (λ c. omega (arith, c.le, c.lt, c.same))
+
+falls : (r s t : ℚ) → r ≤ℚ int (pos 0) → s ≤ℚ t → r *ℚ t ≤ℚ r *ℚ s
+falls r s t h k = let m = line_falls (int (pos 0)) r s t h k in with2 (r *ℚ s) (r *ℚ t) (λ c. omega (arith, c.le, c.lt, c.same))
+
+-- what is so at both ends is so between them
+below_between : (r from to t a : ℚ) → from ≤ℚ t → t ≤ℚ to → r *ℚ from ≤ℚ a → r *ℚ to ≤ℚ a → r *ℚ t ≤ℚ a
+below_between r from to t a h k first last = elim (le_total (int (pos 0)) r) [
+  | inl up ↦ le_trans (mul_le_mul r up k) last
+  | inr down ↦ le_trans (falls r from t down h) first
+]
+
+above_between : (r from to t a : ℚ) → from ≤ℚ t → t ≤ℚ to → a ≤ℚ r *ℚ from → a ≤ℚ r *ℚ to → a ≤ℚ r *ℚ t
+above_between r from to t a h k first last = elim (le_total (int (pos 0)) r) [
+  | inl up ↦ le_trans first (mul_le_mul r up h)
+  | inr down ↦ le_trans last (falls r t to down k)
+]
+
+pub lies_below : (l m : Line) (apart closing first last from to : ℚ) → apart ≡ m.icept -ℚ l.icept → closing ≡ l.slope -ℚ m.slope → first ≡ closing *ℚ from → last ≡ closing *ℚ to
+    → first ≤ℚ apart → last ≤ℚ apart → LiesBy true (Some l) (Some m) from to None
+lies_below l m apart closing first last from to p q e f h k = λ t past before.
+    closed_below l m apart closing t p q (below_between closing from to t apart (le_of_lt past) (le_of_lt before) (subst (λ z. z ≤ℚ apart) e h) (subst (λ z. z ≤ℚ apart) f k))
+
+pub lies_above : (l m : Line) (apart closing first last from to : ℚ) → apart ≡ m.icept -ℚ l.icept → closing ≡ l.slope -ℚ m.slope → first ≡ closing *ℚ from → last ≡ closing *ℚ to
+    → apart ≤ℚ first → apart ≤ℚ last → LiesBy false (Some l) (Some m) from to None
+lies_above l m apart closing first last from to p q e f h k = λ t past before.
+    closed_above l m apart closing t p q (above_between closing from to t apart (le_of_lt past) (le_of_lt before) (subst (λ z. apart ≤ℚ z) e h) (subst (λ z. apart ≤ℚ z) f k))

@@ -21,6 +21,7 @@ pub mod Bounds
 pub mod Stretches
 pub mod Walk
 pub mod Pointwise
+pub mod Short
 pub mod Lies
 pub mod Made
 pub mod Operands

@@ -58,5 +58,5 @@ pub fn answer(
         period,
         rise,
     };
-    normalise_on(alloc, &RawCurve { pieces, tail }, times, values)
+    normalise_on(RawCurve { pieces, tail }, times, values)
 }

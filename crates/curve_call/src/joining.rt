@@ -1,21 +1,33 @@
 //! Pieces added to others where they do not go on with the last one.
 
-ghost use Rattle.std.specs.Prelude.{◌≡◌, List, [], ◌∷◌, ◌++◌, IfSome, IsTrue, OnOk};
+ghost use Rattle.std.specs.Prelude.{◌≡◌, List, [], ◌∷◌, ◌++◌, Some, IfSome, IsTrue, OnOk};
 ghost use Rattle.upp_curve.specs.declared.affine_segment.line.Piece.{Piece as SpecPiece};
 ghost use Rattle.upp_curve.specs.Normal.{Continues};
 ghost use Rattle.upp_curve.specs.affine_segment.Values.{line_value};
 ghost use Rattle.curve_call.specs.declared.made.Made.TheVariants.{Lower};
 ghost use Rattle.curve_call.specs.Joining.{GoesOnLast, JoinsTo};
-ghost use Rattle.curve_call.specs.Made.{HasParts, StretchMadeFits};
+ghost use Rattle.curve_call.specs.Made.{made_line, HasParts, StretchMadeFits};
 
 use crate::lie::lie_of;
-use crate::made::{Made, made_lines, made_values};
+use crate::made::{Made, made_values};
+use crate::short::short_value;
 use crate::stretch::{Both, readable_line};
 use fraction128::{Ext, Frac};
 use rational::Extended;
 use std::alloc::AllocError;
 use upp_curve::affine_segment::{Line, Piece, value};
 use upp_curve::same::{same_ext, same_lines};
+
+// The value of a line; none where a step to it does not fit. A call of its own, since most lines are short.
+#[inline(never)]
+fn long_value(line: &Line, t: Frac) -> Option<Ext>
+    ensures { IfSome result (λ v. v ≡ line_value (Some line.now) t) }
+{
+    match value(line, t) {
+        Ok(v) => Some(Extended::Fin(v)),
+        Err(_) => None,
+    }
+}
 
 /// The value of a line that may be missing; none where a step to it does not fit.
 #[inline(always)]
@@ -24,9 +36,9 @@ pub fn line_there(line: &Option<Line>, t: Frac) -> Option<Ext>
 {
     match line {
         None => Some(Extended::Inf),
-        Some(l) => match value(l, t) {
-            Ok(v) => Some(Extended::Fin(v)),
-            Err(_) => None,
+        Some(l) => match short_value(l, t) {
+            Some(v) => Some(Extended::Fin(v)),
+            None => long_value(l, t),
         },
     }
 }
@@ -68,6 +80,14 @@ fn join(kept: &mut Vec<Piece>, q: Piece) -> Result<(), AllocError>
     Ok(())
 }
 
+// The line that is the lower one, in its place, since a line is long to copy.
+#[inline(always)]
+fn lower_line(below: bool, b: &Both) -> &Option<Line>
+    ensures { result.now ≡ made_line Lower below b.now.left.line b.now.right.line }
+{
+    if below { &b.left.line } else { &b.right.line }
+}
+
 /// Adds the pieces of the lower on a stretch, those left out that go on with the last one.
 #[inline]
 pub(crate) fn join_parts(kept: &mut Vec<Piece>, b: &Both, to: Frac) -> Result<(), AllocError>
@@ -81,15 +101,15 @@ pub(crate) fn join_parts(kept: &mut Vec<Piece>, b: &Both, to: Frac) -> Result<()
         Piece {
             x: b.left.x,
             at: made_values(Made::Lower, b.left.at, b.right.at),
-            line: made_lines(Made::Lower, lie.below, b.left.line, b.right.line),
+            line: *lower_line(lie.below, b),
         },
     )?;
     match lie.turn {
         None => Ok(()),
         Some(x) => {
-            let line = made_lines(Made::Lower, !lie.below, b.left.line, b.right.line);
-            let at = readable_line(&line, x);
-            join(kept, Piece { x, at, line })?;
+            let line = lower_line(!lie.below, b);
+            let at = readable_line(line, x);
+            join(kept, Piece { x, at, line: *line })?;
             Ok(())
         }
     }

@@ -20,6 +20,7 @@ mod lie;
 mod lower;
 mod made;
 mod rises;
+mod short;
 mod sides;
 mod stretch;
 mod sum;

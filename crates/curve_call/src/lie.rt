@@ -1,9 +1,10 @@
 //! How two lines lie on an open stretch.
 
-ghost use Rattle.std.specs.Prelude.{◌≡◌, Some, None};
+ghost use Rattle.std.specs.Prelude.{◌≡◌, ◌≢◌, Some, None, IfSome};
 ghost use Rattle.upp_curve.specs.declared.affine_segment.line.Line.{Line};
-ghost use Rattle.curve_call.specs.Lies.{IsLie, MeetsAt, CrossFits};
+ghost use Rattle.curve_call.specs.Lies.{IsLie, LiesBy, MeetsAt, CrossFits};
 
+use crate::short::short_product;
 use crate::stretch::Both;
 use fraction128::{Frac, difference, is_less, quotient};
 use std::cmp::Ordering;
@@ -18,6 +19,7 @@ pub(crate) struct Lie {
     pub(crate) turn: Option<Frac>,
 }
 
+#[inline(always)]
 fn throughout(below: bool) -> Lie
     ensures { result ≡ record { below = below; turn = None } }
 {
@@ -25,6 +27,7 @@ fn throughout(below: bool) -> Lie
 }
 
 // Of two lines with one slope.
+#[inline(always)]
 fn parallel_lie(a: &Line, b: &Line, from: Frac, to: Frac) -> Lie
     requires { a.now.slope ≡ b.now.slope }
     ensures { IsLie (Some a.now) (Some b.now) from to result }
@@ -51,6 +54,40 @@ fn meeting_lie(rises: bool, x: Frac, from: Frac, to: Frac) -> Lie
     }
 }
 
+// Which of two lines is nowhere above the other from one time to another, where products of short numbers tell that: their
+// slopes' difference times both times is then on one side of what they are apart at 0.
+#[inline(always)]
+fn order_between(a: &Line, b: &Line, from: Frac, to: Frac) -> Option<bool>
+    requires { CrossFits (Some a.now) (Some b.now) }
+    ensures { IfSome result (λ below. LiesBy below (Some a.now) (Some b.now) from to None) }
+{
+    let apart = difference(b.icept, a.icept);
+    let closing = difference(a.slope, b.slope);
+    let first = short_product(closing, from)?;
+    let last = short_product(closing, to)?;
+    if !is_less(apart, first) && !is_less(apart, last) {
+        return Some(true);
+    }
+    if !is_less(first, apart) && !is_less(last, apart) {
+        return Some(false);
+    }
+    None
+}
+
+// Of lines of two slopes, by the time at which they meet. A call of its own, since few lines need it.
+#[inline(never)]
+fn lie_by_meeting(a: &Line, b: &Line, from: Frac, to: Frac) -> Lie
+    requires differ { a.now.slope ≢ b.now.slope }
+    requires fits { CrossFits (Some a.now) (Some b.now) }
+    ensures { IsLie (Some a.now) (Some b.now) from to result }
+{
+    let apart = difference(b.icept, a.icept);
+    let closing = difference(a.slope, b.slope);
+    let x = quotient(apart, closing);
+    meeting_lie(is_less(b.slope, a.slope), x, from, to)
+}
+
+#[inline(always)]
 fn lie_of_lines(a: &Line, b: &Line, from: Frac, to: Frac) -> Lie
     requires { CrossFits (Some a.now) (Some b.now) }
     ensures { IsLie (Some a.now) (Some b.now) from to result }
@@ -58,13 +95,14 @@ fn lie_of_lines(a: &Line, b: &Line, from: Frac, to: Frac) -> Lie
     if a.slope == b.slope {
         return parallel_lie(a, b, from, to);
     }
-    let apart = difference(b.icept, a.icept);
-    let closing = difference(a.slope, b.slope);
-    let x = quotient(apart, closing);
-    meeting_lie(is_less(b.slope, a.slope), x, from, to)
+    match order_between(a, b, from, to) {
+        Some(below) => throughout(below),
+        None => lie_by_meeting(a, b, from, to),
+    }
 }
 
 /// How the lines of a stretch lie, up to its end.
+#[inline(always)]
 pub(crate) fn lie_of(b: &Both, to: Frac) -> Lie
     requires { CrossFits b.now.left.line b.now.right.line }
     ensures { IsLie b.now.left.line b.now.right.line b.now.left.x to result }

@@ -23,6 +23,7 @@ pub mod BoundsFound
 pub mod RisesFound
 pub mod SoonEnough
 pub mod OwnMoves
+pub mod BegunMoves
 pub mod OwnExtremes
 pub mod ConvolveCalls
 pub mod ConvolveAnswers

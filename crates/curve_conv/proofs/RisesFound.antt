@@ -1,4 +1,4 @@
--- By how much a curve is at most above itself a period earlier, step by step.
+-- By how much a curve is at most above itself some time earlier or later, step by step.
 use Rattle.std.specs.Prelude.{◌≡◌, ℕ, pos, [], ◌∷◌, Option, Some, None, IfSome}
 use Rattle.std.proofs.Common.{arith, sym, subst, inl, inr}
 use Rattle.rational.specs.Rational.{ℚ, ◌+ℚ◌, ◌-ℚ◌, ◌*ℚ◌, ◌≤ℚ◌, ◌<ℚ◌, int}
@@ -9,7 +9,7 @@ use Rattle.rational.specs.Extended.{Ext, ◌≤ₑ◌, ◌+ₑ◌}
 use Rattle.rational.specs.declared.Extended.TheVariants.{Fin}
 use Rattle.rational.proofs.Linear.{with_atoms, with2, with3, with4}
 use Rattle.rational.proofs.Laws.{le_refl, le_trans, le_of_lt, lt_le_trans, lt_cases, mul_add, sub_mul}
-use Rattle.rational.proofs.Grid.{whole_int, whole_add, whole_sub}
+use Rattle.rational.proofs.Grid.{whole_add, whole_sub}
 use Rattle.rational.proofs.MinMax.{max_q_le, max_q_ge_left, max_q_ge_right, min_q_one, below_min_in, below_min_out}
 use Rattle.rational.proofs.Stretch.{line_supremum}
 use Rattle.rational.proofs.ExtendedOrder.{le_ext_trans, add_le_ext, le_ext_refl}
@@ -113,19 +113,16 @@ pub record StepTimes (z : Sizes) (end d x : ℚ) : Type 0 where
   pub here : IsTimeIn z end x
   pub later : IsTimeIn z end (x +ℚ d)
 
-pub step_times : (z : Sizes) (end : ℚ) (c : SpecCurve) (first d : ℚ) (s : Looked) → HasLaterIn z end c first d → IsLookedUntil c first d s → s.until <ℚ first → StepTimes z end d s.until
-step_times z end c first d s H L before =
-    let w = L.grid z.dt (times_stand z end c H.window.curve H.window) H.begin H.period in
+pub step_times : (z : Sizes) (end : ℚ) (c : SpecCurve) (begin first d : ℚ) (s : Looked) → HasLaterIn z end c begin first d → IsLookedUntil c begin first d s → s.until <ℚ first → StepTimes z end d s.until
+step_times z end c begin first d s H L before =
+    let w = L.grid z.dt (times_stand z end c H.window.curve H.window) H.start H.stop H.period in
     record {
-      here = record { whole = w; nonneg = L.nonneg; before = soon s.until first d end before H.some H.early };
-      later = record { whole = whole_add z.dt s.until d w H.period; nonneg = on s.until d L.nonneg H.some; before = late s.until first d end before H.early };
+      here = record { whole = w; nonneg = le_trans H.nonneg L.late; before = lt_le_trans before H.soon };
+      later = record { whole = whole_add z.dt s.until d w H.period; nonneg = on begin s.until d H.later L.late; before = late s.until first d end before H.early };
     }
   where
-    soon : (x first d end : ℚ) → x <ℚ first → int (pos 0) <ℚ d → first +ℚ d ≤ℚ end → x <ℚ end
-    soon x first d end a b e = with4 x first d end (λ c. omega (arith, c.le, c.lt, c.same))
-
-    on : (x d : ℚ) → int (pos 0) ≤ℚ x → int (pos 0) <ℚ d → int (pos 0) ≤ℚ x +ℚ d
-    on x d a b = with2 x d (λ c. omega (arith, c.le, c.lt, c.same))
+    on : (b x d : ℚ) → int (pos 0) ≤ℚ b +ℚ d → b ≤ℚ x → int (pos 0) ≤ℚ x +ℚ d
+    on b x d h k = with3 b x d (λ c. omega (arith, c.le, c.lt, c.same))
 
     late : (x first d end : ℚ) → x <ℚ first → first +ℚ d ≤ℚ end → x +ℚ d <ℚ end
     late x first d end a e = with4 x first d end (λ c. omega (arith, c.le, c.lt, c.same))
@@ -146,12 +143,12 @@ step_found there here d x u least one two most a p b q e r = record {
   last = r;
 }
 
-pub step_on : (c : SpecCurve) (first d : ℚ) (s : Looked) (there here : Stretch) (u most : ℚ) → IsLookedUntil c first d s → s.until <ℚ first → GoesOn (value_at c) s.until here → GoesOn (value_at c) (s.until +ℚ d) there
+pub step_on : (c : SpecCurve) (begin first d : ℚ) (s : Looked) (there here : Stretch) (u most : ℚ) → IsLookedUntil c begin first d s → s.until <ℚ first → GoesOn (value_at c) s.until here → GoesOn (value_at c) (s.until +ℚ d) there
     → ((n : ℕ) → TimesStand n c → AtNext (Whole n) here.next) → ((n : ℕ) → TimesStand n c → AtNext (Whole n) there.next) → IsNextTime here.next there.next d first u → StepFound there here d s.until u s.most most
-    → IsLookedUntil c first d record { until = u; most = most }
-step_on c first d s there here u most L before H T A B N F = record {
-  nonneg = le_trans L.nonneg (le_of_lt past);
-  grid = λ n C f w. N.grid n (A n C) (B n C) f w;
+    → IsLookedUntil c begin first d record { until = u; most = most }
+step_on c begin first d s there here u most L before H T A B N F = record {
+  late = le_trans L.late (le_of_lt past);
+  grid = λ n C b f w. N.grid n (A n C) (B n C) f w;
   rises = rises;
 }
   where
@@ -161,7 +158,7 @@ step_on c first d s there here u most L before H T A B N F = record {
     on : (x t d : ℚ) → x <ℚ t → x +ℚ d <ℚ t +ℚ d
     on x t d h = with3 x t d (λ c. omega (arith, c.le, c.lt, c.same))
 
-    rises : RisesAtMost (value_at c) d u most
+    rises : RisesAtMost (value_at c) d begin u most
     rises t i = elim (lt_cases t s.until) [
       | inl l ↦ more_above (value_at c t) (value_at c (t +ℚ d)) s.most most F.low (L.rises t record { start = i.start; before = l })
       | inr (inl e) ↦
@@ -175,15 +172,15 @@ step_on c first d s there here u most L before H T A B N F = record {
     ]
 
 -- ---- before the first step, and after the last
-pub none_looked : (c : SpecCurve) (first d least zero : ℚ) → zero ≡ int (pos 0) → IsLookedUntil c first d record { until = zero; most = least }
-none_looked c first d least zero e = record {
-  nonneg = subst (λ x. int (pos 0) ≤ℚ x) (sym e) (le_refl (int (pos 0)));
-  grid = λ n C f w. subst (Whole n) (sym e) (whole_int n (pos 0));
-  rises = λ t i. absurd (empty t zero e i.start i.before);
+pub none_looked : (c : SpecCurve) (begin first d least : ℚ) → IsLookedUntil c begin first d record { until = begin; most = least }
+none_looked c begin first d least = record {
+  late = le_refl begin;
+  grid = λ n C b f w. b;
+  rises = λ t i. absurd (empty t begin i.start i.before);
 }
   where
-    empty : (t zero : ℚ) → zero ≡ int (pos 0) → int (pos 0) ≤ℚ t → t <ℚ zero → ⊥
-    empty t zero e a b = with2 t zero (λ c. omega (arith, c.le, c.lt, c.same))
+    empty : (t begin : ℚ) → begin ≤ℚ t → t <ℚ begin → ⊥
+    empty t begin a b = with2 t begin (λ c. omega (arith, c.le, c.lt, c.same))
 
-pub all_looked : (c : SpecCurve) (first d : ℚ) (s : Looked) → IsLookedUntil c first d s → first ≤ℚ s.until → RisesAtMost (value_at c) d first s.most
-all_looked c first d s L h = λ t i. L.rises t record { start = i.start; before = lt_le_trans i.before h }
+pub all_looked : (c : SpecCurve) (begin first d : ℚ) (s : Looked) → IsLookedUntil c begin first d s → first ≤ℚ s.until → RisesAtMost (value_at c) d begin first s.most
+all_looked c begin first d s L h = λ t i. L.rises t record { start = i.start; before = lt_le_trans i.before h }

@@ -11,6 +11,7 @@ use Rattle.rational.proofs.Linear.{with_atoms, with2, with3, with4, with5, with6
 use Rattle.rational.proofs.Laws.{le_refl, le_trans, le_of_lt, le_or_lt, mul_sub, mul_nonneg, zero_mul}
 use Rattle.rational.proofs.Integers.{nat_nonneg}
 use Rattle.rational.proofs.Quotients.{div_le}
+use Rattle.rational.proofs.Grid.{whole_int}
 use Rattle.rational.proofs.Whole.{whole_gt, one_more_times}
 use Rattle.rational.proofs.ExtendedOrder.{le_ext_trans, add_le_ext, le_ext_refl}
 use Rattle.upp_curve.specs.Curve.{SpecCurve, value_at}
@@ -36,7 +37,7 @@ moved_least β q na a ma mb (Fin z) Inf h i e = tt
 moved_least β q na a ma mb (Fin z) (Fin w) h i e = at_most β q na a ma mb z w h i e
 
 -- f repeats from x on and g from y on, both with d, by a and by b; n periods after both repeat and one more
-pub soon_enough : (f g : ℚ → Ext) (x y d a b q t : ℚ) (n : ℕ) → int (pos 0) ≤ℚ x → int (pos 0) ≤ℚ y → int (pos 0) <ℚ d → x ≤ℚ d → Repeats f x d a → Repeats g y d b → RisesAtMost f d x q
+pub soon_enough : (f g : ℚ → Ext) (x y d a b q t : ℚ) (n : ℕ) → int (pos 0) ≤ℚ x → int (pos 0) ≤ℚ y → int (pos 0) <ℚ d → x ≤ℚ d → Repeats f x d a → Repeats g y d b → RisesAtMost f d (int (pos 0)) x q
     → q -ℚ a ≤ℚ int (pos (n + 1)) *ℚ (b -ℚ a) → x +ℚ y +ℚ (int (pos n) *ℚ d +ℚ d) ≤ℚ t → IsLateLeast f g x y t
 soon_enough f g x y d a b q t n nx ny some long F G R bound far = λ β below i early after.
     let w = int (pos n) *ℚ d in
@@ -89,25 +90,28 @@ moved_once β q b (Fin z) (Fin w) h k = at_most_once β q b z w h k
 no_move : (i d : ℚ) → i +ℚ int (pos 0) *ℚ d ≡ i
 no_move i d = let e = zero_mul d in with3 i d (int (pos 0) *ℚ d) (λ c. omega (arith, c.le, c.lt, c.same))
 
--- n moves are enough
-moved_by : (f g : ℚ → Ext) (x y d b q t : ℚ) → int (pos 0) ≤ℚ y → int (pos 0) <ℚ d → Repeats g y d b → RisesAtMost f d x q → q ≤ℚ b → x +ℚ y +ℚ d ≤ℚ t
-    → (β : ℚ) → ((s : Split t) → x ≤ℚ s.first → Fin β ≤ₑ f s.first +ₑ g s.second) → (n : ℕ) (i : Split t) → x ≤ℚ i.first +ℚ int (pos n) *ℚ d → Fin β ≤ₑ f i.first +ₑ g i.second
-moved_by f g x y d b q t ny some G R gain far β below zero i h = below i (subst (λ k. x ≤ℚ k) (no_move i.first d) h)
-moved_by f g x y d b q t ny some G R gain far β below (suc n) i h = elim (le_or_lt x i.first) [
+-- n moves are enough, of a split of which the first side is o or later
+pub moved_by : (f g : ℚ → Ext) (o x y d b q t : ℚ) → int (pos 0) ≤ℚ y → int (pos 0) <ℚ d → Repeats g y d b → RisesAtMost f d o x q → q ≤ℚ b → x +ℚ y +ℚ d ≤ℚ t
+    → (β : ℚ) → ((s : Split t) → x ≤ℚ s.first → Fin β ≤ₑ f s.first +ₑ g s.second) → (n : ℕ) (i : Split t) → o ≤ℚ i.first → x ≤ℚ i.first +ℚ int (pos n) *ℚ d → Fin β ≤ₑ f i.first +ₑ g i.second
+moved_by f g o x y d b q t ny some G R gain far β below zero i begun h = below i (subst (λ k. x ≤ℚ k) (no_move i.first d) h)
+moved_by f g o x y d b q t ny some G R gain far β below (suc n) i begun h = elim (le_or_lt x i.first) [
   | inl late ↦ below i late
   | inr early ↦
       let u = i.second -ℚ d in
       let back : y ≤ℚ u = left x y d i.first i.second t early i.whole far in
       let split : Split t = record { first = i.first +ℚ d; second = u; first_nonneg = on i.first d i.first_nonneg some; second_nonneg = le_trans ny back; whole = same i.first i.second d t i.whole } in
       let more : x ≤ℚ i.first +ℚ d +ℚ int (pos n) *ℚ d = again x i.first d (int (pos n) *ℚ d) (int (pos (suc n)) *ℚ d) (one_more_times n d) h in
-      let least = moved_by f g x y d b q t ny some G R gain far β below n split more in
+      let least = moved_by f g o x y d b q t ny some G R gain far β below n split (later o i.first d begun some) more in
       let down : g i.second ≡ g u +ₑ Fin b = subst (λ k. g k ≡ g u +ₑ Fin b) (whole i.second d) (G.rule u back) in
       let sums : Fin β ≤ₑ f i.first +ₑ Fin q +ₑ g u =
       le_ext_trans (Fin β) (f (i.first +ℚ d) +ₑ g u) (f i.first +ₑ Fin q +ₑ g u) least
-      (add_le_ext (f (i.first +ℚ d)) (f i.first +ₑ Fin q) (g u) (g u) (R i.first record { start = i.first_nonneg; before = early }) (le_ext_refl (g u))) in
+      (add_le_ext (f (i.first +ℚ d)) (f i.first +ₑ Fin q) (g u) (g u) (R i.first record { start = begun; before = early }) (le_ext_refl (g u))) in
       subst (λ z. Fin β ≤ₑ f i.first +ₑ z) (sym down) (moved_once β q b (f i.first) (g u) sums gain)
 ]
   where
+    later : (o i d : ℚ) → o ≤ℚ i → int (pos 0) <ℚ d → o ≤ℚ i +ℚ d
+    later o i d a b = with3 o i d (λ c. omega (arith, c.le, c.lt, c.same))
+
     left : (x y d i j t : ℚ) → i <ℚ x → i +ℚ j ≡ t → x +ℚ y +ℚ d ≤ℚ t → y ≤ℚ j -ℚ d
     left x y d i j t a e b = with6 x y d i j t (λ c. omega (arith, c.le, c.lt, c.same))
 
@@ -124,19 +128,19 @@ moved_by f g x y d b q t ny some G R gain far β below (suc n) i h = elim (le_or
     whole j d = with2 j d (λ c. omega (arith, c.le, c.lt, c.same))
 
 -- some number of moves is
-enough_moves : (x d : ℚ) → int (pos 0) <ℚ d → x ≤ℚ int (pos (suc (whole_part (x /ℚ d)))) *ℚ d
+pub enough_moves : (x d : ℚ) → int (pos 0) <ℚ d → x ≤ℚ int (pos (suc (whole_part (x /ℚ d)))) *ℚ d
 enough_moves x d some = (div_le x d (int (pos (suc (whole_part (x /ℚ d))))) some).0 (le_of_lt (whole_gt (x /ℚ d)))
 
-pub at_once : (f g : ℚ → Ext) (x y d b q t : ℚ) → int (pos 0) ≤ℚ y → int (pos 0) <ℚ d → Repeats g y d b → RisesAtMost f d x q → q ≤ℚ b → x +ℚ y +ℚ d ≤ℚ t → IsLateLeast f g x y t
+pub at_once : (f g : ℚ → Ext) (x y d b q t : ℚ) → int (pos 0) ≤ℚ y → int (pos 0) <ℚ d → Repeats g y d b → RisesAtMost f d (int (pos 0)) x q → q ≤ℚ b → x +ℚ y +ℚ d ≤ℚ t → IsLateLeast f g x y t
 at_once f g x y d b q t ny some G R gain far = λ β below i early after.
     let n = suc (whole_part (x /ℚ d)) in
-    moved_by f g x y d b q t ny some G R gain far β below n i (over x i.first (int (pos n) *ℚ d) i.first_nonneg (enough_moves x d some))
+    moved_by f g (int (pos 0)) x y d b q t ny some G R gain far β below n i i.first_nonneg (over x i.first (int (pos n) *ℚ d) i.first_nonneg (enough_moves x d some))
   where
     over : (x i w : ℚ) → int (pos 0) ≤ℚ i → x ≤ℚ w → x ≤ℚ i +ℚ w
     over x i w a b = with3 x i w (λ c. omega (arith, c.le, c.lt, c.same))
 
 -- ---- over curves
-pub soon_after : (slow fast : SpecCurve) (from d end q : ℚ) (n : ℕ) → IsLateCall slow fast from d end → steady slow ≤ℚ d → RisesAtMost (value_at slow) d (steady slow) q
+pub soon_after : (slow fast : SpecCurve) (from d end q : ℚ) (n : ℕ) → IsLateCall slow fast from d end → steady slow ≤ℚ d → RisesAtMost (value_at slow) d (int (pos 0)) (steady slow) q
     → q -ℚ rise_over slow d ≤ℚ int (pos (n + 1)) *ℚ (rise_over fast d -ℚ rise_over slow d) → IsLateAfter slow fast from d n
 soon_after slow fast from d end q n C long R bound = λ t h l.
     let W = late_times slow fast from d end C in
@@ -149,46 +153,63 @@ soon_after slow fast from d end q n C long R bound = λ t h l.
 
 -- a split is moved by w, in which the faster curve rises by a
 pub moved_enough : (slow fast : SpecCurve) (from d end first q w a : ℚ) → IsLateCall slow fast from d end → first ≡ steady slow → int (pos 0) <ℚ w → w ≤ℚ d → Repeats (value_at fast) (steady fast) w a
-    → RisesAtMost (value_at slow) w first q → q ≤ℚ a → IsLateAfter slow fast from d 0
+    → RisesAtMost (value_at slow) w (int (pos 0)) first q → q ≤ℚ a → IsLateAfter slow fast from d 0
 moved_enough slow fast from d end first q w a C ef some short G R gain = λ t h l.
     let W = late_times slow fast from d end C in
-    at_once (value_at slow) (value_at fast) (steady slow) (steady fast) w a q t W.second.nonneg some G (subst (λ x. RisesAtMost (value_at slow) w x q) ef R) gain
+    at_once (value_at slow) (value_at fast) (steady slow) (steady fast) w a q t W.second.nonneg some G (subst (λ x. RisesAtMost (value_at slow) w (int (pos 0)) x q) ef R) gain
     (past (steady slow) (steady fast) d from t (int (pos 0) *ℚ d) w C.from_is (zero_mul d) short h)
   where
     past : (x y d from t v w : ℚ) → from ≡ x +ℚ y +ℚ d → v ≡ int (pos 0) → w ≤ℚ d → from +ℚ v ≤ℚ t → x +ℚ y +ℚ w ≤ℚ t
     past x y d from t v w start none short late = with7 x y d from t v w (λ c. omega (arith, c.le, c.lt, c.same))
 
-pub soon_at_once : (slow fast : SpecCurve) (from d end first q rise : ℚ) → IsLateCall slow fast from d end → first ≡ steady slow → rise ≡ rise_over fast d → RisesAtMost (value_at slow) d first q → q ≤ℚ rise
+pub soon_at_once : (slow fast : SpecCurve) (from d end first q rise : ℚ) → IsLateCall slow fast from d end → first ≡ steady slow → rise ≡ rise_over fast d → RisesAtMost (value_at slow) d (int (pos 0)) first q → q ≤ℚ rise
     → IsLateAfter slow fast from d 0
 soon_at_once slow fast from d end first q rise C ef er R gain =
     moved_enough slow fast from d end first q d (rise_over fast d) C ef C.some (le_refl d) (steady_rule fast d C.scan.second.curve.normal.raw C.second (le_of_lt C.some)) R (subst (λ x. q ≤ℚ x) er gain)
 
 -- as it is reckoned
-pub soon_number_is : (slow fast : SpecCurve) (from d end first q rise gained lead : ℚ) (r : Option ℕ) → IsLateCall slow fast from d end → first ≡ steady slow → first ≤ℚ d → RisesAtMost (value_at slow) d first q
+pub soon_number_is : (slow fast : SpecCurve) (from d end first q rise gained lead : ℚ) (r : Option ℕ) → IsLateCall slow fast from d end → first ≡ steady slow → first ≤ℚ d → RisesAtMost (value_at slow) d (int (pos 0)) first q
     → rise ≡ rise_over slow d → gained ≡ q -ℚ rise → lead ≡ rise_over fast d -ℚ rise_over slow d → IfSome r (λ n. gained ≤ℚ int (pos (n + 1)) *ℚ lead) → IfSome r (IsLateAfter slow fast from d)
 soon_number_is slow fast from d end first q rise gained lead None C ef long R er ed eq h = tt
 soon_number_is slow fast from d end first q rise gained lead (Some n) C ef long R er ed eq h =
     let is : gained ≡ q -ℚ rise_over slow d = ed ∙ ap (λ x. q -ℚ x) er in
-    soon_after slow fast from d end q n C (subst (λ x. x ≤ℚ d) ef long) (subst (λ x. RisesAtMost (value_at slow) d x q) ef R)
+    soon_after slow fast from d end q n C (subst (λ x. x ≤ℚ d) ef long) (subst (λ x. RisesAtMost (value_at slow) d (int (pos 0)) x q) ef R)
     (subst (λ x. x ≤ℚ int (pos (n + 1)) *ℚ (rise_over fast d -ℚ rise_over slow d)) is (subst (λ x. gained ≤ℚ int (pos (n + 1)) *ℚ x) eq h))
 
 -- ---- the window
-pub moved_window : (slow fast : SpecCurve) (from d end x w : ℚ) → IsLateCall slow fast from d end → x ≡ steady slow → int (pos 0) <ℚ w → w ≤ℚ d → Whole (sizes_in slow fast end).dt w → HasLater slow x w
-moved_window slow fast from d end x w C e some short whole =
-    let W = late_times slow fast from d end C in (
+pub later_window : (slow fast : SpecCurve) (from d end b x w : ℚ) → IsLateCall slow fast from d end → x ≡ steady slow → int (pos 0) <ℚ w → w ≤ℚ d → Whole (sizes_in slow fast end).dt b → int (pos 0) ≤ℚ b
+    → Whole (sizes_in slow fast end).dt w → HasLater slow b x w
+later_window slow fast from d end b x w C e some short start begun whole =
+    let W = late_times slow fast from d end C in
+    let E = early (steady slow) (steady fast) d from end w W.second.nonneg C.some C.from_is C.end_is in (
       sizes_in slow fast end,
       end,
       record {
         window = C.scan.first;
-        begin = subst (Whole (sizes_in slow fast end).dt) (sym e) W.first.whole;
+        start = start;
+        stop = subst (Whole (sizes_in slow fast end).dt) (sym e) W.first.whole;
         period = whole;
-        some = some;
-        early = subst (λ y. y +ℚ w ≤ℚ end) (sym e) (early (steady slow) (steady fast) d from end w W.second.nonneg C.some C.from_is C.end_is short);
+        nonneg = begun;
+        later = on b w begun some;
+        soon = subst (λ y. y ≤ℚ end) (sym e) W.first.early;
+        early = subst (λ y. y +ℚ w ≤ℚ end) (sym e) (E short);
       },
     )
   where
     early : (x y d from end w : ℚ) → int (pos 0) ≤ℚ y → int (pos 0) <ℚ d → from ≡ x +ℚ y +ℚ d → end ≡ from +ℚ d → w ≤ℚ d → x +ℚ w ≤ℚ end
     early x y d from end w a b e f h = with6 x y d from end w (λ c. omega (arith, c.le, c.lt, c.same))
 
-pub soon_window : (slow fast : SpecCurve) (from d end x : ℚ) → IsLateCall slow fast from d end → x ≡ steady slow → HasLater slow x d
-soon_window slow fast from d end x C e = moved_window slow fast from d end x d C e C.some (le_refl d) C.whole
+    on : (b w : ℚ) → int (pos 0) ≤ℚ b → int (pos 0) <ℚ w → int (pos 0) ≤ℚ b +ℚ w
+    on b w h k = with2 b w (λ c. omega (arith, c.le, c.lt, c.same))
+
+pub moved_window : (slow fast : SpecCurve) (from d end o x w : ℚ) → IsLateCall slow fast from d end → o ≡ int (pos 0) → x ≡ steady slow → int (pos 0) <ℚ w → w ≤ℚ d → Whole (sizes_in slow fast end).dt w → HasLater slow o x w
+moved_window slow fast from d end o x w C eo e some short whole =
+    subst (λ b. HasLater slow b x w) (sym eo)
+    (later_window slow fast from d end (int (pos 0)) x w C e some short (whole_int (sizes_in slow fast end).dt (pos 0)) (le_refl (int (pos 0))) whole)
+
+pub soon_window : (slow fast : SpecCurve) (from d end o x : ℚ) → IsLateCall slow fast from d end → o ≡ int (pos 0) → x ≡ steady slow → HasLater slow o x d
+soon_window slow fast from d end o x C eo e = moved_window slow fast from d end o x d C eo e C.some (le_refl d) C.whole
+
+-- from 0 on, as it is named
+pub from_zero : (f : ℚ → Ext) (d o x q : ℚ) → o ≡ int (pos 0) → RisesAtMost f d o x q → RisesAtMost f d (int (pos 0)) x q
+from_zero f d o x q e R = subst (λ b. RisesAtMost f d b x q) e R

@@ -8,3 +8,4 @@ pub mod SpanElements
 pub mod ConvolveCall
 pub mod Rises
 pub mod Moves
+pub mod Begun

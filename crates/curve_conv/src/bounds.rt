@@ -6,11 +6,12 @@ ghost use Rattle.upp_curve.specs.Steady.{steady, rise_over};
 ghost use Rattle.curve_conv.specs.Late.{IsLateAfter, IsLateCall, IsPartsCall};
 ghost use Rattle.curve_conv.specs.LateBounds.{IsLateBounds, IsSlowerBounds};
 
+use crate::begun::begun_suffices;
 use crate::extremes::{extremes_of, most_gap};
 use crate::moved::own_periods_suffice;
 use crate::number::lead;
 use crate::order::is_slower_curve;
-use crate::rises::rise_before;
+use crate::rises::rise_between;
 use crate::rows::Scan;
 use curve_call::{Bounds, Side, begin, checked_difference, is_slower, rise_over, zero_level};
 use fraction128::{Frac, is_less};
@@ -44,7 +45,7 @@ fn soon_number(s: &Scan, first: Frac, lead: Frac, from: Frac, period: Frac) -> O
     ensures { IfSome result (IsLateAfter s.now.first.now s.now.second.now from period) }
 {
     let rise = rise_over(s.first, period);
-    let most = rise_before(s.first, first, period, rise, MOST_PIECES)?;
+    let most = rise_between(s.first, Frac::zero(), first, period, rise, MOST_PIECES)?;
     if !is_less(rise_over(s.second, period), most) {
         return Some(0);
     }
@@ -80,7 +81,7 @@ fn is_zero(number: &Option<u128>) -> bool {
 }
 
 // A number of periods that is enough: 0 where a move by a common period tells it, or one by some periods of the faster
-// curve's own; else the first of both that is found.
+// curve's own, or both moves of a slower curve that is infinite after 0; else the first of both that is found.
 fn enough_number(s: &Scan, first: Frac, lead: Frac, from: Frac, period: Frac) -> Option<u128>
     requires call { IsLateCall s.now.first.now s.now.second.now from period s.now.end }
     requires first { first ≡ steady s.now.first.now }
@@ -93,6 +94,9 @@ fn enough_number(s: &Scan, first: Frac, lead: Frac, from: Frac, period: Frac) ->
         return soon;
     }
     if own_periods_suffice(s, first, from, period) {
+        return Some(0);
+    }
+    if begun_suffices(s, first, from, period) {
         return Some(0);
     }
     match soon {
@@ -121,10 +125,10 @@ fn bounds_of(s: &Scan, from: Frac, period: Frac) -> Option<Bounds>
 
 /// Bounds of what `late_periods` looks for; 0 and 0 for curves of one rate, and for a slower one that repeats from 0 on.
 /// As many periods as the upper one are enough too. It is found from how much more the slower curve is a period later
-/// than before it repeats, where the faster one rises as much in a period, or in some of its own, or the slower one
-/// repeats within a period; not where it has very many pieces there. Else it is found from one period of each curve and
-/// what the slower one is before; then there may be none where the slower one falls in the long run or is infinite in
-/// its period, or the faster one is infinite where its period begins. No memory is taken, and nothing is unrolled.
+/// than before it repeats, where the faster one rises as much in a period, or in some of its own, or by a late time where
+/// the slower one is infinite after 0, or that repeats within a period; not where it has very many pieces there. Else one
+/// period of each curve and what the slower one is before tell it; then there may be none where the slower one falls in
+/// the long run or is infinite in its period, or the faster one is infinite where its period begins. No memory is taken.
 pub fn late_bounds(f: &Curve, g: &Curve, from: Frac, period: Frac, end: Frac) -> Option<Bounds>
     requires { IsPartsCall f.now g.now from period end }
     ensures { IfSome result (IsSlowerBounds f.now g.now from period) }

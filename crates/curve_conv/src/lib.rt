@@ -3,6 +3,7 @@
 //! The convolution of two curves.
 #![tactic(auto)]
 
+mod begun;
 mod bounds;
 mod elements;
 mod extremes;

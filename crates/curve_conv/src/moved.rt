@@ -8,7 +8,7 @@ ghost use Rattle.curve_conv.specs.Late.{IsLateAfter, IsLateCall};
 ghost use Rattle.curve_conv.specs.Moves.{IsMove};
 ghost use Rattle.curve_conv.specs.Scans.{sizes_in};
 
-use crate::rises::rise_before;
+use crate::rises::rise_between;
 use crate::rows::Scan;
 use curve_call::{checked_product, period_or, rise_over};
 use fraction128::{Frac, is_less};
@@ -65,7 +65,7 @@ fn is_no_more(s: &Scan, first: Frac, n: u128, from: Frac, period: Frac) -> bool
     let Some(m) = move_by(s, n, from, period) else {
         return false;
     };
-    let Some(most) = rise_before(s.first, first, m.time, m.rise, PIECES) else {
+    let Some(most) = rise_between(s.first, Frac::zero(), first, m.time, m.rise, PIECES) else {
         return false;
     };
     if is_less(m.rise, most) {

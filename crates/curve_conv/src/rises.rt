@@ -1,4 +1,4 @@
-//! By how much a curve is at most above itself a period earlier, before it repeats. No memory is taken.
+//! By how much a curve is at most above itself some time earlier or later, over the times of a window. No memory is taken.
 
 ghost use Rattle.std.specs.Prelude.{IfSome};
 ghost use Rattle.rational.specs.Rational.{◌+ℚ◌, ◌≤ℚ◌, ◌<ℚ◌};
@@ -20,7 +20,7 @@ use upp_normal::stretch_at;
 pub(crate) struct Looked {
     /// The time before which it was.
     pub(crate) until: Frac,
-    /// It is nowhere before more than so much above itself a period earlier.
+    /// So much later or earlier, it is nowhere in the window before more than so much above itself.
     pub(crate) most: Frac,
 }
 
@@ -77,11 +77,11 @@ fn next_time(here: &Option<Frac>, there: &Option<Frac>, period: Frac, first: Fra
 }
 
 // One step on.
-fn step(c: &Curve, looked: Looked, first: Frac, period: Frac) -> Option<Looked>
-    requires later { HasLater c.now first period }
-    requires looked { IsLookedUntil c.now first period looked }
+fn step(c: &Curve, looked: Looked, begin: Frac, first: Frac, period: Frac) -> Option<Looked>
+    requires later { HasLater c.now begin first period }
+    requires looked { IsLookedUntil c.now begin first period looked }
     requires before { looked.until <ℚ first }
-    ensures { IfSome result (IsLookedUntil c.now first period) }
+    ensures { IfSome result (IsLookedUntil c.now begin first period) }
 {
     let later = checked_sum(looked.until, period)?;
     let here = stretch_at(c, looked.until);
@@ -93,28 +93,29 @@ fn step(c: &Curve, looked: Looked, first: Frac, period: Frac) -> Option<Looked>
     Some(Looked { until, most })
 }
 
-/// A number that a curve is nowhere before `first` more than above itself a period earlier: the least that is `least`
-/// or more. None where a period later it is infinite and it is not, where there are more than `pieces` pieces on the
-/// way, or where a number on the way does not fit.
-pub(crate) fn rise_before(
+/// A number that a curve is nowhere from `begin` on before `first` more than below itself a time `period` later, or
+/// earlier where that is negative: the least that is `least` or more. None where it is infinite then and a number there,
+/// where there are more than `pieces` pieces on the way, or where a number on the way does not fit.
+pub(crate) fn rise_between(
     c: &Curve,
+    begin: Frac,
     first: Frac,
     period: Frac,
     least: Frac,
     pieces: u32,
 ) -> Option<Frac>
-    requires { HasLater c.now first period }
-    ensures { IfSome result (RisesAtMost (value_at c.now) period first) }
+    requires { HasLater c.now begin first period }
+    ensures { IfSome result (RisesAtMost (value_at c.now) period begin first) }
 {
     let mut looked = Looked {
-        until: Frac::zero(),
+        until: begin,
         most: least,
     };
     for _piece in 0..pieces {
         if !is_less(looked.until, first) {
             return Some(looked.most);
         }
-        looked = step(c, looked, first, period)?;
+        looked = step(c, looked, begin, first, period)?;
     }
     None
 }

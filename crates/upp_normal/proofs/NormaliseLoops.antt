@@ -1,16 +1,20 @@
 -- The loops that lay the pieces out: what is done so far and what is left make the whole.
-use Rattle.std.specs.Prelude.{◌≡◌, ℕ, ◌+◌, List, [], ◌∷◌, ◌++◌, length}
-use Rattle.std.proofs.Common.{arith, sym, ap, ◌∙◌, refl, subst, append_assoc, append-nil, Ordering, Greater, Equal, Less}
+use Rattle.std.specs.Prelude.{◌≡◌, ℕ, ◌+◌, ◌<◌, ◌≤◌, List, [], ◌∷◌, ◌++◌, length, drop}
+use Rattle.std.proofs.Common.{arith, sym, ap, ◌∙◌, refl, subst, inl, inr, get_or, append_assoc, append-nil, Ordering, Greater, Equal, Less}
+use Rattle.std.proofs.lemmas.List.{get_or_append_left}
 use Rattle.rational.specs.Rational.{ℚ, ◌≤ℚ◌, ◌<ℚ◌}
 use Rattle.rational.specs.Ratio.{cmp_q}
 use Rattle.rational.proofs.Comparison.{cmp_greater, cmp_not_greater, cmp_less, cmp_ranks}
 use Rattle.rational.proofs.Over.{le_q_out}
-use Rattle.rational.proofs.Laws.{le_refl, le_of_lt}
+use Rattle.rational.proofs.Laws.{le_refl, le_of_lt, le_or_lt}
 use Rattle.std.specs.Ordering.{MatchOrdering}
 use Rattle.rational.proofs.MinMax.{le_q_not}
 use Rattle.upp_curve.specs.declared.affine_segment.line.Piece.{Piece}
+use Rattle.upp_curve.specs.affine_segment.Pieces.{StartsAtZero}
+use Rattle.upp_curve.specs.Fitting.{LaterFits}
 use Rattle.upp_curve.specs.Unrolled.{later, each_later, upto}
-use Rattle.upp_normal.specs.Normalising.{past, first_start}
+use Rattle.upp_normal.specs.Normalising.{past, first_start, cut_at, second_copy}
+use Rattle.upp_curve.proofs.affine_segment.NextPiece.{next_piece, none_left}
 use Rattle.upp_curve.proofs.Unique.{upto_none, upto_some, upto_end}
 
 pub cmp_not_less : (x y : ℚ) → (cmp_q x y ≡ Less → ⊥) → y ≤ℚ x
@@ -62,21 +66,7 @@ count_stops t p left more all i o e q n h =
 pub count_ends : (t : ℚ) (left all : List Piece) (i : ℕ) → left ≡ [] → i + length (upto t left) ≡ length all → i ≡ length all
 count_ends t left all i e h = let k = ap length (ap (upto t) e ∙ upto_end t) in omega (arith, h, k)
 
--- ---- a piece is kept
-pub upto_more : (t : ℚ) (p : Piece) (left more done done2 all : List Piece) (o : Ordering) → left ≡ p ∷ more → o ≡ cmp_q p.x t → o ≡ Less → done2 ≡ done ++ p ∷ []
-    → done ++ upto t left ≡ all → done2 ++ upto t more ≡ all
-upto_more t p left more done done2 all o e q g d h =
-    ap (λ zs. zs ++ upto t more) d ∙ append_assoc done (p ∷ []) (upto t more)
-    ∙ ap (λ zs. done ++ zs) (sym (ap (upto t) e ∙ upto_some t p more (cmp_less p.x t (sym q ∙ g)))) ∙ h
-
-pub upto_stops : (t : ℚ) (p : Piece) (left more done all : List Piece) (o : Ordering) → left ≡ p ∷ more → o ≡ cmp_q p.x t → (o ≡ Less → ⊥)
-    → done ++ upto t left ≡ all → done ≡ all
-upto_stops t p left more done all o e q n h =
-    sym (append-nil done) ∙ ap (λ zs. done ++ zs) (sym (ap (upto t) e ∙ upto_none t p more (cmp_not_less p.x t (λ l. n (q ∙ l))))) ∙ h
-
-pub upto_ends : (t : ℚ) (left done all : List Piece) → left ≡ [] → done ++ upto t left ≡ all → done ≡ all
-upto_ends t left done all e h = sym (append-nil done) ∙ ap (λ zs. done ++ zs) (sym (ap (upto t) e ∙ upto_end t)) ∙ h
-
+-- ---- a piece is copied
 pub later_none : (d c : ℚ) → each_later d c [] ≡ []
 unfolding each_later
 later_none d c = refl
@@ -100,9 +90,69 @@ copy_skips t d c p left more done done2 all o e k n w h =
 pub copy_ends : (t d c : ℚ) (left done all : List Piece) → left ≡ [] → done ++ each_later d c (past t left) ≡ all → done ≡ all
 copy_ends t d c left done all e h = sym (append-nil done) ∙ ap (λ zs. done ++ zs) (sym (ap (λ zs. each_later d c (past t zs)) e ∙ ap (each_later d c) (past_none t) ∙ later_none d c)) ∙ h
 
--- before the first piece is looked at
-pub copy_begins : (t d c : ℚ) (q s : Piece) (rest before start : List Piece) → q ≡ later d c s → before ≡ rest → start ≡ before ++ q ∷ []
-    → start ++ each_later d c (past t rest) ≡ rest ++ each_later d c (s ∷ past t rest)
-copy_begins t d c q s rest before start m b w =
-    ap (λ zs. zs ++ each_later d c (past t rest)) (w ∙ ap (λ zs. zs ++ q ∷ []) b) ∙ append_assoc rest (q ∷ []) (each_later d c (past t rest))
-    ∙ ap (λ zs. rest ++ zs) (ap (λ z. z ∷ each_later d c (past t rest)) m ∙ sym (later_some d c s (past t rest)))
+-- ---- a second copy after the pieces that are given, in one list
+-- the pieces that start before t may be passed over
+pub past_from : (t : ℚ) (ps : List Piece) → past t (drop (length (upto t ps)) ps) ≡ past t ps
+past_from t [] = ap (λ n. past t (drop n [])) (ap length (upto_end t))
+past_from t (p ∷ ps) = elim (le_or_lt t p.x) [
+  | inl l ↦ ap (λ n. past t (drop n (p ∷ ps))) (ap length (upto_none t p ps l))
+  | inr l ↦ ap (λ n. past t (drop n (p ∷ ps))) (ap length (upto_some t p ps l)) ∙ past_from t ps ∙ sym (past_go t p ps (le_of_lt l))
+]
+
+-- what is cut at t fits where it moves, if that of pieces from 0 on does
+pub cut_fits : (given seen : List Piece) (t d c : ℚ) (q : Piece) → StartsAtZero given → seen ≡ given → ((p : Piece) (ps : List Piece) → seen ≡ p ∷ ps → q ≡ cut_at p ps t)
+    → ((p : Piece) (ps : List Piece) → given ≡ p ∷ ps → LaterFits d c (cut_at p ps t)) → LaterFits d c q
+cut_fits [] seen t d c q zero e m f = absurd zero
+cut_fits (p ∷ ps) seen t d c q zero e m f = subst (LaterFits d c) (sym (m p ps e)) (f p ps refl)
+
+-- `pieces` are those given, with the copies of those past t among the first i; what is left makes the second copy
+pub record CopiesOn (given pieces : List Piece) (t d c : ℚ) (i : ℕ) : Type 0 where
+  pub copies : List Piece
+  pub are : pieces ≡ given ++ copies
+  pub left : (p : Piece) (ps : List Piece) → given ≡ p ∷ ps → copies ++ each_later d c (past t (drop i given)) ≡ each_later d c (cut_at p ps t ∷ past t given)
+
+pub copies_begin : (given pieces : List Piece) (t d c : ℚ) (i : ℕ) (q : Piece) → i ≡ length (upto t given) → pieces ≡ given ++ q ∷ []
+    → ((p : Piece) (ps : List Piece) → given ≡ p ∷ ps → q ≡ later d c (cut_at p ps t)) → CopiesOn given pieces t d c i
+copies_begin given pieces t d c i q n w m = record {
+  copies = q ∷ [];
+  are = w;
+  left = λ p ps e.
+      ap (λ z. z ∷ each_later d c (past t (drop i given))) (m p ps e)
+      ∙ ap (λ zs. later d c (cut_at p ps t) ∷ each_later d c zs) (ap (λ n. past t (drop n given)) n ∙ past_from t given)
+      ∙ sym (later_some d c (cut_at p ps t) (past t given));
+}
+
+-- the i-th piece is one that is given
+pub copies_at : (given pieces : List Piece) (t d c : ℚ) (i : ℕ) (p : Piece) → i < length given → p ≡ get_or pieces i p → CopiesOn given pieces t d c i → p ≡ get_or given i p
+copies_at given pieces t d c i p h e k = e ∙ ap (λ zs. get_or zs i p) k.are ∙ get_or_append_left given k.copies p i h
+
+pub copies_more : (given pieces pieces2 : List Piece) (t d c : ℚ) (i : ℕ) (p q : Piece) (o : Ordering) → i < length given → p ≡ get_or pieces i p → o ≡ cmp_q p.x t
+    → o ≡ Greater → q ≡ later d c p → pieces2 ≡ pieces ++ q ∷ [] → CopiesOn given pieces t d c i → CopiesOn given pieces2 t d c (i + 1)
+copies_more given pieces pieces2 t d c i p q o h e n g m w k =
+    let left = next_piece p given i h (copies_at given pieces t d c i p h e k) in
+    record {
+      copies = k.copies ++ q ∷ [];
+      are = w ∙ ap (λ zs. zs ++ q ∷ []) k.are ∙ append_assoc given k.copies (q ∷ []);
+      left = λ s ss f.
+          copy_more t d c p q _ (drop (i + 1) given) k.copies (k.copies ++ q ∷ []) (each_later d c (cut_at s ss t ∷ past t given)) o left n g m refl (k.left s ss f);
+    }
+
+pub copies_skip : (given pieces pieces2 : List Piece) (t d c : ℚ) (i : ℕ) (p : Piece) (o : Ordering) → i < length given → p ≡ get_or pieces i p → o ≡ cmp_q p.x t
+    → (o ≡ Greater → ⊥) → pieces2 ≡ pieces → CopiesOn given pieces t d c i → CopiesOn given pieces2 t d c (i + 1)
+copies_skip given pieces pieces2 t d c i p o h e n g w k =
+    let left = next_piece p given i h (copies_at given pieces t d c i p h e k) in
+    record {
+      copies = k.copies;
+      are = w ∙ k.are;
+      left = λ s ss f. copy_skips t d c p _ (drop (i + 1) given) k.copies k.copies (each_later d c (cut_at s ss t ∷ past t given)) o left n g refl (k.left s ss f);
+    }
+
+-- at the end they are those given and the second copy
+pub copies_end : (given pieces : List Piece) (t d c : ℚ) (i : ℕ) (p : Piece) (ps : List Piece) → length given ≤ i → p.x ≤ℚ t → given ≡ p ∷ ps → CopiesOn given pieces t d c i
+    → pieces ≡ p ∷ (ps ++ second_copy p ps t d c)
+copies_end given pieces t d c i p ps h l e k =
+    k.are
+    ∙ ap (λ zs. given ++ zs)
+    (copy_ends t d c _ k.copies (each_later d c (cut_at p ps t ∷ past t given)) (none_left given i h) (k.left p ps e)
+    ∙ ap (λ zs. each_later d c (cut_at p ps t ∷ zs)) (ap (past t) e ∙ past_go t p ps l))
+    ∙ ap (λ zs. zs ++ second_copy p ps t d c) e

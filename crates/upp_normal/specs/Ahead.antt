@@ -1,18 +1,15 @@
 -- How a curve goes on from a time: its value there, the line that follows, and until when. Own choice.
-use Rattle.std.specs.Prelude.{◌≡◌, ℕ, cond, pos, List, [], ◌∷◌, Option, Some, None}
-use Rattle.rational.specs.Rational.{ℚ, ◌+ℚ◌, ◌≤ℚ◌, ◌<ℚ◌, int, le_q}
+use Rattle.std.specs.Prelude.{◌≡◌, ℕ, pos, Option, Some, None}
+use Rattle.rational.specs.Rational.{ℚ, ◌+ℚ◌, ◌≤ℚ◌, ◌<ℚ◌, int}
 use Rattle.rational.specs.Grid.{Whole, Within}
 use Rattle.rational.specs.Extended.{Ext}
 use Rattle.rational.specs.declared.Extended.TheVariants.{Fin, Inf}
-use Rattle.upp_curve.specs.declared.affine_segment.line.Line.{Line}
-use Rattle.upp_curve.specs.declared.affine_segment.line.Piece.{Piece}
 use Rattle.upp_curve.specs.affine_segment.Values.{line_value}
 use Rattle.upp_normal.specs.declared.ahead.Stretch.{Stretch}
 use Rattle.upp_curve.specs.declared.curve.Tail.{Tail}
 use Rattle.upp_curve.specs.declared.curve.Tail.TheVariants.{Periodic, Affine, Infinite}
 use Rattle.upp_curve.specs.Curve.{SpecCurve}
 use Rattle.upp_curve.specs.Curves.{IsCurve}
-use Rattle.upp_curve.specs.affine_segment.Reading.{piece_in}
 use Rattle.upp_curve.specs.affine_segment.Pieces.{Each}
 use Rattle.upp_curve.specs.Steady.{rank_of}
 use Rattle.upp_limits.specs.Periods.{period_of}

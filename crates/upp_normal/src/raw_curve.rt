@@ -16,7 +16,7 @@ use crate::lowest_rank::lowest_rank;
 use crate::merging::merged;
 use crate::two_periods::{ended, two_periods};
 use fraction128::Frac;
-use std::alloc::{AllocError, Global};
+use std::alloc::AllocError;
 use upp_curve::affine_segment::Piece;
 use upp_curve::{Curve, Tail};
 use upp_limits::{OpFault, own_within};
@@ -47,13 +47,12 @@ fn unending(pieces: Vec<Piece>) -> Curve
 }
 
 // The curve of pieces that go on with their last line.
-fn of_pieces(alloc: Global, pieces: &[Piece]) -> Result<Curve, AllocError>
-    requires starts { StartsAtZero pieces.now }
-    requires room { (m : Room) × PiecesHaveRoom m 4 pieces.now }
-    ensures { IfOk result (λ r. HasValues r (read pieces.now)) }
+fn of_pieces(pieces: Vec<Piece>) -> Curve
+    requires starts { StartsAtZero pieces.items }
+    requires room { (m : Room) × PiecesHaveRoom m 4 pieces.items }
+    ensures { HasValues result (read pieces.items) }
 {
-    let kept = merged(alloc, pieces)?;
-    Ok(unending(kept))
+    unending(merged(pieces))
 }
 
 // A period between breaks, made the least, from the least rank on.
@@ -96,51 +95,47 @@ fn of_two_periods(
 
 // The periodic curve of pieces in any form.
 fn of_periodic(
-    alloc: Global,
-    given: &[Piece],
+    given: Vec<Piece>,
     rank: Frac,
     period: Frac,
     rise: Frac,
     times: u128,
     values: u128,
 ) -> Result<Curve, AllocError>
-    requires starts { StartsAtZero given.now }
-    requires tail { FitsPeriod given.now rank period }
+    requires starts { StartsAtZero given.items }
+    requires tail { FitsPeriod given.items rank period }
     requires numbers { AreGrids times values }
-    requires grids { OnGridsUnlessLine times values (repeated (read given.now) rank period rise) rank period rise }
-    requires room { (m : Room) × TurnHasRoom m times values given.now rank period rise }
-    ensures { IfOk result (λ r. HasValues r (repeated (read given.now) rank period rise)) }
+    requires grids { OnGridsUnlessLine times values (repeated (read given.items) rank period rise) rank period rise }
+    requires room { (m : Room) × TurnHasRoom m times values given.items rank period rise }
+    ensures { IfOk result (λ r. HasValues r (repeated (read given.items) rank period rise)) }
 {
-    let longer = two_periods(alloc, given, rank, period, rise)?;
-    let pieces = merged(alloc, &longer)?;
+    let longer = two_periods(given, rank, period, rise)?;
+    let pieces = merged(longer);
     Ok(of_two_periods(pieces, rank, period, rise, times, values))
 }
 
 /// The normal form of a curve each of whose periods, unless its tail is one line, is a whole multiple of 1 / times, and
 /// its rise of 1 / values.
-pub fn normalise_on(
-    alloc: Global,
-    raw: &RawCurve,
-    times: u128,
-    values: u128,
-) -> Result<Curve, AllocError>
-    requires raw { IsRaw (raw_curve raw.now) }
+pub fn normalise_on(raw: RawCurve, times: u128, values: u128) -> Result<Curve, AllocError>
+    requires raw { IsRaw (raw_curve raw) }
     requires some_times { 0 < times }
     requires some_values { 0 < values }
     requires times { times < 2 ^ 127 }
     requires values { values < 2 ^ 127 }
-    requires grids { TailOnGrids times values raw.now.tail (value_at (raw_curve raw.now)) }
-    requires room { TailHasRoom times values raw.now.pieces.items raw.now.tail }
-    ensures { IfOk result (λ r. HasSameValues r (raw_curve raw.now)) }
+    requires grids { TailOnGrids times values raw.tail (value_at (raw_curve raw)) }
+    requires room { TailHasRoom times values raw.pieces.items raw.tail }
+    ensures { IfOk result (λ r. HasSameValues r (raw_curve raw)) }
 {
-    match raw.tail {
-        Tail::Affine { rank: _ } => of_pieces(alloc, &raw.pieces),
+    let tail = raw.tail;
+    let pieces = raw.pieces;
+    match tail {
+        Tail::Affine { rank: _ } => Ok(of_pieces(pieces)),
         Tail::Infinite { rank } => {
-            let kept = ended(alloc, &raw.pieces, rank)?;
-            of_pieces(alloc, &kept)
+            let kept = ended(pieces, rank)?;
+            Ok(of_pieces(kept))
         }
         Tail::Periodic { rank, period, rise } => {
-            of_periodic(alloc, &raw.pieces, rank, period, rise, times, values)
+            of_periodic(pieces, rank, period, rise, times, values)
         }
     }
 }
@@ -158,6 +153,5 @@ pub fn normalise(raw: RawCurve) -> Result<Curve, OpFault>
         → IfErr result (λ e. e ≡ OpFault.NoMemory) }
 {
     let own = own_within(&raw.pieces, &raw.tail)?;
-    let alloc = *raw.pieces.allocator();
-    Ok(normalise_on(alloc, &raw, own.times, own.values)?)
+    Ok(normalise_on(raw, own.times, own.values)?)
 }

@@ -46,27 +46,29 @@ pub(crate) fn with_room(
 /// The pieces of a periodic curve below rank + 2 period: those given, and a second copy of what is read from the rank
 /// on.
 pub(crate) fn two_periods(
-    alloc: Global,
-    given: &[Piece],
+    given: Vec<Piece>,
     rank: Frac,
     period: Frac,
     rise: Frac,
 ) -> Result<Vec<Piece>, AllocError>
-    requires starts { StartsAtZero given.now }
+    requires starts { StartsAtZero given.items }
     requires rank { int (pos 0) ≤ℚ rank }
-    requires read { ReadFits given.now rank }
-    requires cut { (p : Piece) (ps : List Piece) → given.now ≡ p ∷ ps → LaterFits period rise (cut_at p ps rank) }
-    requires copies { Each (λ p. rank <ℚ p.x → LaterFits period rise p) given.now }
-    ensures { (p : Piece) (ps : List Piece) → given.now ≡ p ∷ ps
+    requires read { ReadFits given.items rank }
+    requires cut { (p : Piece) (ps : List Piece) → given.items ≡ p ∷ ps → LaterFits period rise (cut_at p ps rank) }
+    requires copies { Each (λ p. rank <ℚ p.x → LaterFits period rise p) given.items }
+    ensures { (p : Piece) (ps : List Piece) → given.items ≡ p ∷ ps
         → IfOk result (λ v. v.items ≡ p ∷ (ps ++ second_copy p ps rank period rise)) }
 {
-    let cut = cut_at(given, rank);
-    let first = later(period, rise, &cut);
-    let mut pieces = with_room(alloc, given, given.len().saturating_add(1))?;
-    pieces.push(first)?;
-    for p in given {
+    let mut pieces = given;
+    let end = pieces.len();
+    let before = count_before(&pieces, rank);
+    let cut = cut_at(&pieces, rank);
+    pieces.reserve_exact(end.saturating_sub(before).saturating_add(1))?;
+    pieces.push(later(period, rise, &cut))?;
+    for i in before..end {
+        let p = pieces[i];
         match p.x.cmp(&rank) {
-            Ordering::Greater => pieces.push(later(period, rise, p))?,
+            Ordering::Greater => pieces.push(later(period, rise, &p))?,
             _ => {}
         }
     }
@@ -74,20 +76,16 @@ pub(crate) fn two_periods(
 }
 
 /// The pieces of a curve that is infinite past its rank, with no line at the rank.
-pub(crate) fn ended(alloc: Global, pieces: &[Piece], rank: Frac) -> Result<Vec<Piece>, AllocError>
-    requires starts { StartsAtZero pieces.now }
+pub(crate) fn ended(pieces: Vec<Piece>, rank: Frac) -> Result<Vec<Piece>, AllocError>
+    requires starts { StartsAtZero pieces.items }
     requires rank { int (pos 0) ≤ℚ rank }
-    requires read { ReadFits pieces.now rank }
-    ensures { IfOk result (λ v. v.items ≡ ended pieces.now rank) }
+    requires read { ReadFits pieces.items rank }
+    ensures { IfOk result (λ v. v.items ≡ ended pieces.items rank) }
 {
-    let at = read(pieces, rank);
-    let mut kept = Vec::new(alloc);
-    for p in pieces {
-        match p.x.cmp(&rank) {
-            Ordering::Less => kept.push(*p)?,
-            _ => break,
-        }
-    }
+    let mut kept = pieces;
+    let at = read(&kept, rank);
+    let before = count_before(&kept, rank);
+    kept.truncate(before);
     kept.push(Piece {
         x: rank,
         at,

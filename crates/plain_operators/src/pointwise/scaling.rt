@@ -59,7 +59,7 @@ fn scale_within(alloc: Global, f: &Curve, factor: Frac, frame: &Frame) -> Result
     let pieces = fitting_pieces(alloc, f.pieces(), factor)?;
     let tail = fitting_tail(f.tail(), factor);
     let raw = RawCurve { pieces, tail };
-    normalise_on(alloc, &raw, frame.times, frame.values)
+    normalise_on(raw, frame.times, frame.values)
 }
 
 // A curve times a number, without counting.

@@ -1,46 +1,41 @@
-use Rattle.std.proofs.Common.{◌+◌, ◌++◌, ◌∷◌, ◌∙◌, ap, sym, subst, drop, drop_of_length-le}
+use Rattle.std.proofs.Common.{arith, ◌∷◌, ◌++◌, ◌∙◌, [], ◌<◌, ap, sym, subst, length}
 use Rattle.rational.specs.Rational.{◌≤ℚ◌}
 use Rattle.upp_curve.specs.affine_segment.Pieces.{StartsAtZero}
-use Rattle.upp_curve.specs.Unrolled.{later, each_later}
-use Rattle.upp_normal.specs.Normalising.{cut_at, past}
-use Rattle.upp_curve.proofs.affine_segment.NextPiece.{next_piece}
-use Rattle.upp_normal.proofs.NormaliseLoops.{copy_begins, copy_more, copy_skips, copy_ends, past_go}
+use Rattle.upp_curve.specs.Unrolled.{later, upto}
+use Rattle.upp_normal.proofs.NormaliseLoops.{cut_fits, copies_begin, copies_more, copies_skip, copies_end}
 use Rattle.upp_normal.proofs.two_periods.two_periods.Goals as goal
 use Rattle.upp_normal.proofs.two_periods.two_periods.Goals.{in-Greater+in_ok-push-in-Greater, in_default}
 
-pub loop-p-init : goal.loop-p-init
-loop-p-init c = λ p ps e.
-    let d = c.args.period in
-    let h = c.args.rise in
-    copy_begins c.args.rank d h c.later-first.result (cut_at p ps c.args.rank) c.args.given.now c.in_ok-pieces.pieces.items c.push.new.self.items
-    (c.later-first.ensures ∙ ap (later d h) (c.cut_at-cut.ensures p ps e)) c.in_ok-pieces.ensures.items c.in_ok-push.ensures.items
+pub later-requires : goal.later-requires
+later-requires c =
+    let a = c.args in
+    cut_fits a.given.items c.deref-2.result.now a.rank a.period a.rise c.cut_at-cut.result c.requires.starts c.deref-2.ensures.value c.cut_at-cut.ensures c.requires.cut
 
-pub loop-p-preserved : goal.loop-p-preserved
-loop-p-preserved c = λ first rest is.
-    let p = c.p-item.result in
-    let ps = c.args.given.now in
-    let i = c.loop-p.p-index in
-    let r = c.args.rank in
-    let d = c.args.period in
-    let e = c.args.rise in
-    let left = next_piece p ps i c.loop-p-test.true c.p-item.is in
-    let all = ps ++ each_later d e (cut_at first rest r ∷ past r ps) in
+pub loop-i-init : goal.loop-i-init
+loop-i-init c =
+    let a = c.args in
+    copies_begin a.given.items c.push.new.self.items a.rank a.period a.rise c.count_before-before.result c.later.result
+    (c.count_before-before.ensures ∙ ap (λ zs. length (upto a.rank zs)) c.deref.ensures.value)
+    (c.in_ok-push.ensures.items ∙ ap (λ zs. zs ++ c.later.result ∷ []) c.reserve_exact.ensures.items)
+    (λ p ps e. c.later.ensures ∙ ap (later a.period a.rise) (c.cut_at-cut.ensures p ps (c.deref-2.ensures.value ∙ e)))
+
+pub loop-i-preserved : goal.loop-i-preserved
+loop-i-preserved c =
+    let a = c.args in
+    let l = c.loop-i in
+    let within : l.i < length a.given.items = omega (arith, c.loop-i-test.true) in
     elim c.match-cmp.branch [
       | in-Greater+in_ok-push-in-Greater w ↦
-          copy_more r d e p w.later.result _ (drop (i + 1) ps) c.loop-p.pieces.items c.match-cmp.pieces.items all c.cmp.result
-          left c.cmp.ensures.is w.in-Greater.is w.later.ensures (ap (λ v. v.items) w.pieces-is ∙ w.in_ok-push-in-Greater.ensures.items) (c.loop-p.invariant first rest is)
+          copies_more a.given.items l.pieces.items c.match-cmp.pieces.items a.rank a.period a.rise l.i c.index.result.now w.later-in-Greater.result c.cmp.result within c.index.ensures
+          c.cmp.ensures.is w.in-Greater.is w.later-in-Greater.ensures (ap (λ v. v.items) w.pieces-is ∙ w.in_ok-push-in-Greater.ensures.items) l.invariant
       | in_default w ↦
-          copy_skips r d e p _ (drop (i + 1) ps) c.loop-p.pieces.items c.match-cmp.pieces.items all c.cmp.result
-          left c.cmp.ensures.is w.in_default.not-Greater (ap (λ v. v.items) w.pieces-is) (c.loop-p.invariant first rest is)
+          copies_skip a.given.items l.pieces.items c.match-cmp.pieces.items a.rank a.period a.rise l.i c.index.result.now c.cmp.result within c.index.ensures
+          c.cmp.ensures.is w.in_default.not-Greater (ap (λ v. v.items) w.pieces-is) l.invariant
     ]
 
 pub returns : goal.returns
 returns c = λ p ps e.
-    let r = c.args.rank in
-    let d = c.args.period in
-    let h = c.args.rise in
-    let given = c.args.given.now in
+    let a = c.args in
+    let l = c.loop-i in
     let zero : StartsAtZero (p ∷ ps) = subst StartsAtZero e c.requires.starts in
-    copy_ends r d h _ c.loop-p.pieces.items (given ++ each_later d h (cut_at p ps r ∷ past r given)) (drop_of_length-le given c.loop-p-test.false) (c.loop-p.invariant p ps e)
-    ∙ ap (λ zs. zs ++ each_later d h (cut_at p ps r ∷ past r zs)) e
-    ∙ ap (λ zs. p ∷ (ps ++ each_later d h (cut_at p ps r ∷ zs))) (past_go r p ps (subst (λ x. x ≤ℚ r) (sym zero.0) c.requires.rank))
+    copies_end a.given.items l.pieces.items a.rank a.period a.rise l.i p ps (omega (arith, c.loop-i-test.false)) (subst (λ x. x ≤ℚ a.rank) (sym zero.0) c.requires.rank) e l.invariant

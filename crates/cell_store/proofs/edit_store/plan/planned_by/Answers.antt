@@ -1,5 +1,9 @@
-use Rattle.std.proofs.Common.{◌∙◌}
+use Rattle.std.proofs.Common.{◌∙◌, sym, subst}
+use Rattle.net_model.specs.Orders.{IsOrder}
 use Rattle.cell_store.proofs.edit_store.plan.planned_by.Goals as goal
+
+pub touched_by-requires-clause-order : goal.touched_by-requires-clause-order
+touched_by-requires-clause-order c = subst (IsOrder c.args.net) (sym c.deref.ensures.value) c.requires.order
 
 pub returns-clause-planned : goal.returns-clause-planned
 returns-clause-planned c = record {
@@ -8,11 +12,11 @@ returns-clause-planned c = record {
   few = c.in_ok-touched.ensures.few;
 }
 
-pub returns-clause-lost : goal.returns-clause-lost
-returns-clause-lost c = c.in_ok-gone.ensures
-
-pub returns-clause-back : goal.returns-clause-back
-returns-clause-back c = c.in_ok-replaced.ensures c.args.net c.requires.gives
-
-pub returns-clause-spared : goal.returns-clause-spared
-returns-clause-spared c = c.in_ok-spared.ensures c.args.net ∙ c.in_ok-replaced.ensures c.args.net c.requires.gives
+pub returns-clause-made : goal.returns-clause-made
+returns-clause-made c = record {
+  order = c.requires.order;
+  change = c.requires.change;
+  lost = c.in_ok-gone.ensures;
+  back = c.in_ok-replaced.ensures c.args.net c.requires.gives;
+  spared = c.in_ok-spared.ensures c.args.net ∙ c.in_ok-replaced.ensures c.args.net c.requires.gives;
+}
