@@ -1,7 +1,7 @@
 -- Curves of one line each: that they are curves, their numbers, and that a sum of two is within the limits where its numbers are small.
 use Rattle.std.specs.Prelude.{◌≡◌, ℕ, suc, ◌+◌, ◌*◌, ◌<◌, ◌≤◌, ◌^◌, nat_abs, pos, Bool, true, false, cond, length, map, List, [], ◌∷◌, ◌++◌, Some, None}
 use Rattle.std.specs.List.{AllByRecursion, flat_map}
-use Rattle.std.proofs.Common.{arith, sym, ap, ap₂, ◌∙◌, refl, subst}
+use Rattle.std.proofs.Common.{arith, sym, ap, ap₂, ◌∙◌, refl, subst, inl, inr}
 use Rattle.std.proofs.Math.Nat.{max-le}
 use Rattle.std.proofs.lemmas.Nat.{mul-le}
 use native.Mathlib.Nat.{dvd-mul_left, le-mul_of_pos_right, le_of_dvd, zero-lt-suc}
@@ -13,6 +13,7 @@ use Rattle.rational.specs.Fractions.{frac_self}
 use Rattle.rational.specs.Gauge.{common_den, bound_of}
 use Rattle.rational.specs.Extended.{◌+ₑ◌}
 use Rattle.rational.specs.declared.Extended.TheVariants.{Fin}
+use Rattle.rational.proofs.Gauges.{den_pos}
 use Rattle.rational.proofs.Laws.{le_refl, le_trans, le_of_lt, mul_zero, add_zero, mul_le_mul}
 use Rattle.rational.proofs.Linear.{with1}
 use Rattle.rational.proofs.Integers.{int_add, int_mul, nat_le, nat_nonneg}
@@ -48,7 +49,7 @@ use Rattle.curve_call.proofs.Sums.{sum_line_value}
 use Rattle.curve_call.proofs.CallTimes.{first_stands, second_stands}
 use Rattle.curve_call.proofs.Limited.{sum_least, within_at_least}
 use Rattle.plain_operators.specs.declared.pointwise.straight.Straight.{Straight}
-use Rattle.plain_operators.specs.pointwise.Straight.{straight_piece, straight_curve, total, TotalFits, IsSumWithin, IsLittle, AreLittle}
+use Rattle.plain_operators.specs.pointwise.Straight.{straight_piece, straight_curve, total, TotalFits, IsSumWithin, IsLittle, AreLittle, HasParts, HasSmallParts, AreSmall}
 
 -- ---- it is a curve
 pub straight_is_curve : (s : Straight) → IsSmall s.line.icept → IsCurve (straight_curve s)
@@ -153,8 +154,21 @@ num_within n x h =
     let more : n ≤ n * suc x.pre = le-mul_of_pos_right n (zero-lt-suc x.pre) in
     subst (λ y. Within (int (pos n)) y) (sym (frac_self x)) (within_parts n x.num x.pre (omega (arith, h, more)))
 
-pub little_in : (x : ℚ) (d n : ℕ) → den x ≡ d → nat_abs x.num ≤ n → IsLittle d n x
+little_in : (x : ℚ) (d n : ℕ) → den x ≡ d → nat_abs x.num ≤ n → IsLittle d n x
 little_in x d n e h = record { whole = subst (λ y. Whole y x) e (whole_den x); within = num_within n x h }
+
+little_parts : (x : ℚ) (d n : ℕ) → HasParts d n x → IsLittle d n x
+little_parts x d n h = little_in x d n h.bottom h.top
+
+are_little : (fine steep : ℕ) (s : Straight) → HasSmallParts fine steep s → AreLittle fine steep s
+are_little fine steep s h = record {
+  grid = den s.at;
+  some = den_pos s.at;
+  most = h.most;
+  at = little_parts s.at (den s.at) (2 ^ 48) h.at;
+  icept = little_parts s.line.icept (den s.at) (2 ^ 48) h.icept;
+  slope = little_parts s.line.slope 1 steep h.slope;
+}
 
 twice_within : (n : ℕ) (x : ℚ) → Within (int (pos n)) x → Within (int (pos (n + n))) (int (pos 2) *ℚ x)
 twice_within n x h =
@@ -289,11 +303,11 @@ pub within_too : (f g : SpecCurve) (s t : Straight) → f ≡ straight_curve s �
 within_too f g s t a b w = subst (λ x. IsSumWithin x g) (sym a) (subst (λ x. IsSumWithin (straight_curve s) x) (sym b) w)
 
 -- whole numbers, and such with denominators where the slopes are less steep
-pub whole_within : (s t : Straight) → AreLittle 1 (2 ^ 48) s × AreLittle 1 (2 ^ 48) t → IsSumWithin (straight_curve s) (straight_curve t)
+whole_within : (s t : Straight) → AreLittle 1 (2 ^ 48) s × AreLittle 1 (2 ^ 48) t → IsSumWithin (straight_curve s) (straight_curve t)
 whole_within s t L =
     little_within s t 1 (2 ^ 48) (2 ^ 50) L.0 L.1 record { some = omega arith; values = omega arith; far = omega arith; gauge = omega arith }
 
-pub fractions_within : (s t : Straight) → AreLittle (2 ^ 16) (2 ^ 32) s × AreLittle (2 ^ 16) (2 ^ 32) t → IsSumWithin (straight_curve s) (straight_curve t)
+fractions_within : (s t : Straight) → AreLittle (2 ^ 16) (2 ^ 32) s × AreLittle (2 ^ 16) (2 ^ 32) t → IsSumWithin (straight_curve s) (straight_curve t)
 fractions_within s t L =
     little_within s t (2 ^ 16) (2 ^ 32) (2 ^ 48) L.0 L.1 record { some = omega arith; values = omega arith; far = omega arith; gauge = omega arith }
 
@@ -304,3 +318,7 @@ total_applied s t C w = record {
   within = call_within (straight_curve s) (straight_curve t) w;
   made = record { curve = C; answers = λ x h. total_value s t x };
 }
+
+pub small_within : (s t : Straight) → AreSmall s t → IsSumWithin (straight_curve s) (straight_curve t)
+small_within s t (inl (h, k)) = whole_within s t (are_little 1 (2 ^ 48) s h, are_little 1 (2 ^ 48) t k)
+small_within s t (inr (h, k)) = fractions_within s t (are_little (2 ^ 16) (2 ^ 32) s h, are_little (2 ^ 16) (2 ^ 32) t k)

@@ -1,7 +1,7 @@
 -- A curve of one piece: a value at 0, and after it one line for ever; and numbers so small that a sum of two such
 -- curves is within both limits. (Le Boudec and Thiran: a token bucket, whose value at 0 is any one here.) Own choice.
-use Rattle.std.specs.Prelude.{ℕ, ◌<◌, ◌≤◌, ◌^◌, pos, [], ◌∷◌, Some}
-use Rattle.rational.specs.Rational.{ℚ, ◌+ℚ◌, int}
+use Rattle.std.specs.Prelude.{◌≡◌, ◌≢◌, ◌⊎◌, ℕ, ◌<◌, ◌≤◌, ◌^◌, nat_abs, pos, List, [], ◌∷◌, Some}
+use Rattle.rational.specs.Rational.{ℚ, ◌+ℚ◌, den, int}
 use Rattle.rational.specs.Grid.{Whole, Within}
 use Rattle.rational.specs.Ratio.{SumFits}
 use Rattle.rational.specs.declared.Extended.TheVariants.{Fin}
@@ -18,6 +18,10 @@ straight_piece s = record { x = int (pos 0); at = Fin s.at; line = Some s.line }
 
 abbrev pub straight_curve : Straight → SpecCurve
 straight_curve s = record { pieces = straight_piece s ∷ []; tail = Affine (int (pos 0)) }
+
+-- the pieces are not one line
+abbrev pub IsNoLine : List Piece → Type 0
+IsNoLine ps = (s : Straight) → ps ≢ straight_piece s ∷ []
 
 -- ---- the sum of two
 abbrev pub lines_total : Line → Line → Line
@@ -52,3 +56,20 @@ pub record AreLittle (fine steep : ℕ) (s : Straight) : Type 0 where
   pub at : IsLittle grid (2 ^ 48) s.at
   pub icept : IsLittle grid (2 ^ 48) s.line.icept
   pub slope : IsLittle 1 steep s.line.slope
+
+-- the same as the numbers are written: the denominator, and a numerator of at most this size
+pub record HasParts (d n : ℕ) (x : ℚ) : Type 0 where
+  pub bottom : den x ≡ d
+  pub top : nat_abs x.num ≤ n
+
+-- both values have one denominator
+pub record HasSmallParts (fine steep : ℕ) (s : Straight) : Type 0 where
+  pub most : den s.at ≤ fine
+  pub at : HasParts (den s.at) (2 ^ 48) s.at
+  pub icept : HasParts (den s.at) (2 ^ 48) s.line.icept
+  pub slope : HasParts 1 steep s.line.slope
+
+-- all are whole, or such with denominators, as the rates of other flows leave them
+abbrev pub AreSmall : Straight → Straight → Type 0
+AreSmall s t = (HasSmallParts 1 (2 ^ 48) s × HasSmallParts 1 (2 ^ 48) t)
+    ⊎ (HasSmallParts (2 ^ 16) (2 ^ 32) s × HasSmallParts (2 ^ 16) (2 ^ 32) t)

@@ -1,6 +1,6 @@
 //! Curves of one line each, and their sum without a window.
 
-ghost use Rattle.std.specs.Prelude.{◌≡◌, ◌∷◌, [], pos, IfOk, IfErr, IfSome, IsTrue};
+ghost use Rattle.std.specs.Prelude.{◌≡◌, ◌≢◌, ◌↔◌, ◌∷◌, [], pos, IfOk, IfErr, IfSome, IsTrue, MatchOption, None};
 ghost use Rattle.rational.specs.Rational.{ℚ, int, ◌≤ℚ◌};
 ghost use Rattle.upp_curve.specs.affine_segment.Pieces.{StartsAtZero};
 ghost use Rattle.upp_curve.specs.Curve.{value_at};
@@ -9,7 +9,9 @@ ghost use Rattle.min_plus.specs.Pointwise.{IsSum};
 ghost use Rattle.upp_limits.specs.Outcome.{KeepsLimits};
 ghost use Rattle.curve_call.specs.Frames.{IsRefusedAt};
 ghost use Rattle.curve_call.specs.Calls.{IsApplied};
-ghost use Rattle.plain_operators.specs.pointwise.Straight.{straight_piece, straight_curve, total, TotalFits, IsSumWithin, IsLittle, AreLittle};
+ghost use Rattle.plain_operators.specs.pointwise.Straight.{straight_piece, straight_curve, total, TotalFits, IsNoLine};
+ghost use Rattle.plain_operators.specs.pointwise.Straight.{IsSumWithin, HasParts, HasSmallParts, AreSmall};
+ghost use Rattle.plain_operators.specs.declared.pointwise.straight.Straight.{Straight};
 
 use curve_call::within;
 use fraction128::Frac;
@@ -31,7 +33,7 @@ pub struct Straight {
 // The one piece, where there is one alone and it is finite.
 fn one_line(pieces: &[Piece]) -> Option<Straight>
     requires { StartsAtZero pieces.now }
-    ensures { IfSome result (λ s. pieces.now ≡ straight_piece s ∷ []) }
+    ensures { MatchOption result (IsNoLine pieces.now) (λ s. pieces.now ≡ straight_piece s ∷ []) }
 {
     if pieces.len() != 1 {
         return None;
@@ -46,9 +48,10 @@ fn one_line(pieces: &[Piece]) -> Option<Straight>
     }
 }
 
-/// The curve as one line, if it is one.
+/// The curve as one line; none exactly where it is none.
 pub fn straight_of(c: &Curve) -> Option<Straight>
-    ensures { IfSome result (λ s. c.now ≡ straight_curve s) }
+    ensures line { IfSome result (λ s. c.now ≡ straight_curve s) }
+    ensures none { result ≡ None → (s : Straight) → c.now ≢ straight_curve s }
 {
     match c.tail() {
         Tail::Affine { rank: _ } => one_line(c.pieces()),
@@ -97,7 +100,7 @@ fn total_of(f: &Straight, g: &Straight) -> Straight
 
 // Whether a number has this denominator, and a numerator of at most this size.
 fn is_little(x: Frac, denominator: u128, size: u128) -> bool
-    ensures { IsTrue result → IsLittle denominator size x }
+    ensures { IsTrue result ↔ HasParts denominator size x }
 {
     if x.denominator() != denominator {
         return false;
@@ -111,7 +114,7 @@ fn is_little(x: Frac, denominator: u128, size: u128) -> bool
 // Whether both values have one denominator, `fine` at most, and numerators of at most 2^48, and the slope is whole and at
 // most `steep` in size.
 fn are_little(s: &Straight, fine: u128, steep: u128) -> bool
-    ensures { IsTrue result → AreLittle fine steep s.now }
+    ensures { IsTrue result ↔ HasSmallParts fine steep s.now }
 {
     let most = 1 << 48;
     let grid = s.at.denominator();
@@ -128,7 +131,7 @@ fn are_little(s: &Straight, fine: u128, steep: u128) -> bool
 }
 
 fn both_little(left: &Straight, right: &Straight, fine: u128, steep: u128) -> bool
-    ensures { IsTrue result → AreLittle fine steep left.now × AreLittle fine steep right.now }
+    ensures { IsTrue result ↔ (HasSmallParts fine steep left.now × HasSmallParts fine steep right.now) }
 {
     if !are_little(left, fine, steep) {
         return false;
@@ -139,7 +142,7 @@ fn both_little(left: &Straight, right: &Straight, fine: u128, steep: u128) -> bo
 // Whether all numbers are so small that no gauge has to be looked at: whole ones, and such with denominators, as the rates
 // of other flows leave them.
 fn are_small(left: &Straight, right: &Straight) -> bool
-    ensures { IsTrue result → IsSumWithin (straight_curve left.now) (straight_curve right.now) }
+    ensures { IsTrue result ↔ AreSmall left.now right.now }
 {
     if both_little(left, right, 1, 1 << 48) {
         return true;
@@ -148,9 +151,11 @@ fn are_small(left: &Straight, right: &Straight) -> bool
 }
 
 /// The sum of two curves of one line each by their numbers alone, where these are small: the call is over no limit, and no
-/// memory is taken. None where one is not small.
+/// memory is taken. None exactly where one is not small.
 pub fn small_total(f: &Straight, g: &Straight) -> Option<Straight>
-    ensures { IfSome result (λ s. IsApplied OpKind.Sum (straight_curve f.now) (straight_curve g.now) (straight_curve s)) }
+    ensures sum { IfSome result
+        (λ s. IsApplied OpKind.Sum (straight_curve f.now) (straight_curve g.now) (straight_curve s)) }
+    ensures none { (result ≡ None) ↔ ¬ AreSmall f.now g.now }
 {
     if !are_small(f, g) {
         return None;

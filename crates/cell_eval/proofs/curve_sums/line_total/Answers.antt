@@ -7,4 +7,4 @@ use Rattle.cell_eval.proofs.curve_sums.line_total.Goals as goal
 
 pub returns-in-Some : goal.returns-in-Some
 returns-in-Some c =
-    subst (λ f. IfSome c.line_more.result (λ s. IsApplied Sum f c.args.next.now (straight_curve s))) (sym c.in-Some.ensures) c.line_more.ensures
+    subst (λ f. IfSome c.line_more.result (λ s. IsApplied Sum f c.args.next.now (straight_curve s))) (sym c.in-Some.ensures.line) c.line_more.ensures
