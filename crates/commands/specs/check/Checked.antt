@@ -6,12 +6,15 @@ use Rattle.run_laws.specs.declared.steps.Step.{Step}
 use Rattle.run_laws.specs.declared.steps.Step.TheVariants.{Enter, Reach, Work, Leave, Visit}
 use Rattle.run_laws.specs.Lawful.{IsLawful}
 use Rattle.run_laws.specs.Runs.{SpecRun}
+use Rattle.net_model.specs.Accepted.{IsAccepted}
 use Rattle.net_model.specs.Networks.{Net}
 use Rattle.net_model.specs.NetRoutes.{routes_of}
 use Rattle.net_cells.specs.Meanings.{CellTable}
 use Rattle.run_check.specs.declared.broken_laws.law.Law.{Law}
 use Rattle.run_check.specs.broken_laws.FirstBroken.{IsFirstBroken}
 use Rattle.run_check.specs.check_gauge.Gauge.{check_gauge}
+use Rattle.run_check.specs.run_table.ReadRuns.{IsRecordedRun}
+use Rattle.run_watch.specs.simulated_sizes.Laws.{AreCurves}
 use Rattle.command_replies.specs.Replies.{Reply, refusal, over}
 use Rattle.run_check.specs.declared.run_table.fault.RunFault.{RunFault}
 use Rattle.run_check.specs.declared.run_table.fault.RunKind.{RunKind}
@@ -52,6 +55,12 @@ abbrev pub too_wide_check : Reply
 too_wide_check = over TooWide (codes "check")
 
 -- ---- reports
+-- what is known of a network and of a run that was read before the run is checked
+pub record IsCheckable (net : Net) (run : SpecRun) : Type 0 where
+  pub accepted : IsAccepted net
+  pub curves : AreCurves net
+  pub recorded : IsRecordedRun net run
+
 abbrev pub unlawful_report : Net → SpecRun → ℕ → Law → Reply
 unlawful_report net run row law = record {
   status = 9;

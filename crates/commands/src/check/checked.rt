@@ -2,15 +2,12 @@
 
 ghost use Rattle.std.specs.Prelude.{◌≡◌, ◌<◌, ◌^◌, IfOk, length};
 ghost use Rattle.run_laws.specs.Lawful.{IsLawful};
-ghost use Rattle.net_model.specs.Accepted.{IsAccepted};
 ghost use Rattle.net_model.specs.NetRoutes.{routes_of};
 ghost use Rattle.run_check.specs.broken_laws.FirstBroken.{IsFirstBroken};
 ghost use Rattle.run_check.specs.check_gauge.Gauge.{check_gauge};
-ghost use Rattle.run_watch.specs.simulated_sizes.Laws.{AreCurves};
-ghost use Rattle.run_check.specs.run_table.ReadRuns.{IsRecordedRun};
 ghost use Rattle.command_replies.specs.View.{reply_of};
 ghost use Rattle.commands.specs.check.Checked as spec;
-ghost use Rattle.commands.specs.check.Checked.{IsUnlawfulOn, IsLawfulOn, IsVerdictReply};
+ghost use Rattle.commands.specs.check.Checked.{IsCheckable, IsUnlawfulOn, IsLawfulOn, IsVerdictReply};
 
 use crate::check::refusals::check_too_wide;
 use command_replies::run_findings::{findings, status_by};
@@ -67,9 +64,7 @@ fn reported_lawful(
     run: &Run,
     table: &Analysis<Value>,
 ) -> Result<Answer, AllocError>
-    requires accepted { IsAccepted net.now }
-    requires curves { AreCurves net.now }
-    requires recorded { IsRecordedRun net.now run.now }
+    requires checkable { IsCheckable net.now run.now }
     requires narrow { check_gauge net.now run.now < 2 ^ 120 }
     requires lawful { IsLawful (routes_of net.now) run.now }
     ensures { IfOk result
@@ -90,9 +85,7 @@ pub(crate) fn checked(
     run: &Run,
     table: &Analysis<Value>,
 ) -> Result<Answer, AllocError>
-    requires accepted { IsAccepted net.now }
-    requires curves { AreCurves net.now }
-    requires recorded { IsRecordedRun net.now run.now }
+    requires { IsCheckable net.now run.now }
     ensures { IfOk result
         (λ r. IsVerdictReply net.now run.now (⟦<Analysis<Value> as Table<Value>>⟧.at table.now) (reply_of r)) }
 {

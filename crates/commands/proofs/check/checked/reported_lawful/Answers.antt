@@ -12,15 +12,15 @@ use Rattle.commands.proofs.check.checked.reported_lawful.Goals as goal
 
 pub findings-requires-clause-fits : goal.findings-requires-clause-fits
 findings-requires-clause-fits c =
-    recorded_delays c.args.net.now c.args.run.now c.requires.accepted
-    (from_zero c.args.net.now c.args.run.now c.requires.recorded) c.requires.narrow
+    recorded_delays c.args.net.now c.args.run.now c.requires.checkable.accepted
+    (from_zero c.args.net.now c.args.run.now c.requires.checkable.recorded) c.requires.narrow
 
 pub findings-requires-clause-sizes : goal.findings-requires-clause-sizes
 findings-requires-clause-sizes c = (
   check_sizes c.args.net.now c.args.run.now,
-  lawful_stand c.args.net.now c.args.run.now c.requires.accepted c.requires.curves
-      (from_zero c.args.net.now c.args.run.now c.requires.recorded)
-      (steps_at_most c.args.net.now c.args.run.now c.requires.recorded) c.requires.lawful c.requires.narrow,
+  lawful_stand c.args.net.now c.args.run.now c.requires.checkable.accepted c.requires.checkable.curves
+      (from_zero c.args.net.now c.args.run.now c.requires.checkable.recorded)
+      (steps_at_most c.args.net.now c.args.run.now c.requires.checkable.recorded) c.requires.lawful c.requires.narrow,
 )
 
 pub returns : goal.returns

@@ -3,6 +3,9 @@ use Rattle.commands.specs.check.Checked.{IsVerdictReply}
 use Rattle.commands.proofs.Stopped.{told_beside, stopped_told, at_status, stopped_counts}
 use Rattle.commands.proofs.check.on_net.on_network.Goals as goal
 
+pub checked-requires : goal.checked-requires
+checked-requires g c = record { accepted = c.requires.accepted; curves = c.keeps_curves.ensures; recorded = c.requires.recorded }
+
 pub returns-in-Ok-clause-reply : goal.returns-in-Ok-clause-reply
 returns-in-Ok-clause-reply g c =
     told_beside c.args.net.now _ (IsVerdictReply c.args.net.now c.args.run.now) c.checked.result c.in-Ok.ensures.table
