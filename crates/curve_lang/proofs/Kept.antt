@@ -45,7 +45,7 @@ close_refused : (f : SpecCurve) (fault : OpFault) (old new : ℕ) → CloseAnswe
     → CloseFinds f (Err (told_call fault)) old new
 close_refused f calls.TooMany old new h n = (h, (n.counts (fold_work f) refl).most)
 close_refused f calls.TooWide old new h n = (h, (n.counts (fold_work f) refl).most)
-close_refused f calls.NoMemory old new h n = inl (n.memory refl)
+close_refused f calls.NoMemory old new h n = inl (n.rises, n.memory refl)
 
 pub close_found : (f : SpecCurve) (made : Result SpecCurve OpFault) (r : Found) (old new : ℕ) → CloseAnswer f made → IfOk made IsCurve
     → IfOk made (λ h. (t : ℚ) → zero_q ≤ℚ t → IsSubadditiveClosure (value_at f) t (value_at h t)) → CloseSpends f old new made → CallKept made r

@@ -132,7 +132,7 @@ CloseFinds f (Ok h) old new = CloseAnswer f (Ok h) × IsCurve h
 CloseFinds f (Err TooMany) old new = CloseAnswer f (Err call_faults.TooMany) × (new ≤ old + fold_work f)
 CloseFinds f (Err TooWide) old new = CloseAnswer f (Err call_faults.TooWide) × (new ≤ old + fold_work f)
 CloseFinds f (Err NoMemory) old new =
-    CloseWants f (new - old) ⊎ ((h : SpecCurve) × CloseAnswer f (Ok h) × (new ≡ old + fold_work f))
+    ((old ≤ new) × CloseWants f (new - old)) ⊎ ((h : SpecCurve) × CloseAnswer f (Ok h) × (new ≡ old + fold_work f))
 CloseFinds f (Err k) old new = ⊥
 
 abbrev pub OneFinds : CurveOperator → SpecCurve → Found → (old new : ℕ) → Type 0
