@@ -13,12 +13,15 @@ use Rattle.rational.proofs.MinMax.{min_q_one}
 use Rattle.min_plus.specs.Functions.{zero_q}
 use Rattle.upp_curve.specs.Curve.{SpecCurve, value_at}
 use Rattle.upp_limits.specs.Limits.{Sizes}
-use Rattle.upp_normal.specs.Ahead.{AtNext, HasWindow, IsBeforeNext, IsTimeIn, TimesStand}
+use Rattle.upp_normal.specs.declared.ahead.Stretch.{Stretch}
+use Rattle.upp_normal.specs.Operand.{OperandLineAt}
+use Rattle.upp_normal.specs.Ahead.{AtNext, GoesOn, GridValue, HasWindow, IsTimeIn, TimesStand}
 use Rattle.curve_call.specs.declared.gaps.Gap.{Gap}
 use Rattle.curve_call.specs.declared.gaps.Gap.TheVariants.{NoTime, Never, Is}
-use Rattle.curve_call.specs.GapSteps.{GapStands, larger}
+use Rattle.curve_call.specs.GapSteps.{GapStands, StretchSizes, earlier_of, gap_along, larger}
 use Rattle.curve_call.specs.Gaps.{InWindow, IsGap}
-use Rattle.curve_call.proofs.GapWalk.{GapWalk, next_time, walk_start, walk_step}
+use Rattle.curve_call.proofs.GapSizes.{stretch_stands}
+use Rattle.curve_call.proofs.GapWalk.{GapWalk, NextTime, before_first, next_found, next_past, next_time, stretch_sizes, walk_start, walk_step}
 use Rattle.subadd_closure.specs.Ordered.{IsBelowIn, IsNoneAbove}
 
 -- what holds on the way
@@ -58,17 +61,6 @@ below_end f g from end soon last t W e h late = below_joined (value_at f) (value
       | inr k ↦ le_trans (subst (λ x. x ≤ℚ t) (e ∙ k) (le_of_not_lt h)) i.start
     ]
 
--- ---- one step
-pub below_step : (f g : SpecCurve) (from end t next : ℚ) (a b : Option ℚ) (more : Gap) → BelowWalk f g from end t → t <ℚ end → IsBeforeNext t a → IsBeforeNext t b
-    → ((d : ℕ) → TimesStand d f → AtNext (Whole d) a) → ((d : ℕ) → TimesStand d g → AtNext (Whole d) b) → next ≡ next_time end a b
-    → IsGap (InWindow t next) (value_at f) (value_at g) more → ((z : Sizes) → HasWindow z end f → HasWindow z end g → IsTimeIn z end from → GapStands z more)
-    → IsBelowIn (value_at f) (value_at g) t next → BelowWalk f g from end next
-below_step f g from end t next a b more W h k l A B e is stands low = record {
-  gap = larger W.gap more;
-  walk = walk_step f g from end t next a b W.gap more W.walk h k l A B e is stands;
-  below = below_joined (value_at f) (value_at g) from t next W.below low;
-}
-
 -- ---- no more than 0 above
 pub none_above : (f g : ℚ → Ext) (from end : ℚ) (gap : Gap) → IsNoneAbove gap → IsGap (InWindow from end) f g gap → IsBelowIn f g from end
 none_above f g from end NoTime h is = λ t i. subst (λ v. f t ≤ₑ v) (sym (is t i)) (le_inf (f t))
@@ -77,3 +69,39 @@ none_above f g from end (Is q) h is = λ t i.
     le_ext_trans (f t) (g t +ₑ Fin q) (g t) (is.above t i)
     (le_ext_trans (g t +ₑ Fin q) (g t +ₑ Fin zero_q) (g t) (add_le_ext (g t) (g t) (Fin q) (Fin zero_q) (le_ext_refl (g t)) h)
     (same_le_ext (add_zero_ext (g t))))
+
+-- ---- one step
+-- the stretches of both curves at t, up to where the first of them ends
+pub record Turn (f g : SpecCurve) (from end t next : ℚ) (a b : Stretch) : Type 0 where
+  pub before : t <ℚ end
+  pub found : next ≡ next_time end a.next b.next
+  pub until : NextTime t end next a.next b.next
+  pub sizes : (z : Sizes) → HasWindow z end f → HasWindow z end g → IsTimeIn z end from → StretchSizes z end a b t next
+
+-- what is known of the numbers of a curve's stretch at t
+abbrev StandsAt : SpecCurve → ℚ → Stretch → Type 0
+StandsAt f t a = (z : Sizes) (end : ℚ) → HasWindow z end f → IsTimeIn z end t → OperandLineAt z a.line × GridValue z a.at
+
+pub below_turn : {f g : SpecCurve} {from end t : ℚ} {a b : Stretch} (soon last first next : ℚ) → BelowWalk f g from end t → last ≡ min_q end soon → t <ℚ last
+    → GoesOn (value_at f) t a → ((d : ℕ) → TimesStand d f → AtNext (Whole d) a.next) → StandsAt f t a
+    → GoesOn (value_at g) t b → ((d : ℕ) → TimesStand d g → AtNext (Whole d) b.next) → StandsAt g t b
+    → first ≡ earlier_of end a.next → next ≡ earlier_of first b.next → Turn f g from end t next a b
+below_turn {f = f} {g = g} {from = from} {end = end} {t = t} {a = a} {b = b} soon last first next B e h low A F high C G d k =
+    let before = before_first t last end soon e h in
+    let found = next_found end a.next b.next first next d k in
+    record {
+      before = before;
+      found = found;
+      until = next_past end t next a.next b.next before low.next high.next found;
+      sizes = λ z V W T. stretch_sizes z f g from end t next B.gap a b V W T B.walk before low.next high.next A C (F z end V) (G z end W) found;
+    }
+
+pub below_step : (f g : SpecCurve) (from end t next : ℚ) (a b : Stretch) (more : Gap) → BelowWalk f g from end t → Turn f g from end t next a b
+    → GoesOn (value_at f) t a → ((d : ℕ) → TimesStand d f → AtNext (Whole d) a.next) → GoesOn (value_at g) t b → ((d : ℕ) → TimesStand d g → AtNext (Whole d) b.next)
+    → more ≡ gap_along a b t next → IsGap (InWindow t next) (value_at f) (value_at g) more → IsNoneAbove more → BelowWalk f g from end next
+below_step f g from end t next a b more W N low A high B e is none = record {
+  gap = larger W.gap more;
+  walk = walk_step f g from end t next a.next b.next W.gap more W.walk N.before low.next high.next A B N.found is
+      (λ z V U T. subst (GapStands z) (sym e) (stretch_stands z end t next a b (N.sizes z V U T) N.until.past));
+  below = below_joined (value_at f) (value_at g) from t next W.below (none_above (value_at f) (value_at g) t next more none is);
+}

@@ -1,6 +1,6 @@
 -- The convolution of two curves of a fold from its pieces up to the end of a period with which it repeats.
 use Rattle.std.specs.Prelude.{◌≡◌, ◌+◌, IfSome, List, None, Option, Some}
-use Rattle.std.proofs.Common.{arith, ap, ◌∙◌, sym, subst}
+use Rattle.std.proofs.Common.{arith, ap, ◌∙◌, refl, sym, subst}
 use Rattle.rational.specs.Rational.{ℚ, ◌+ℚ◌, ◌-ℚ◌, ◌≤ℚ◌, ◌<ℚ◌}
 use Rattle.rational.specs.Grid.{Whole}
 use Rattle.rational.proofs.Grid.{whole_add}
@@ -36,9 +36,11 @@ use Rattle.element_envelope.proofs.ArchBends.{sums_on_grids}
 use Rattle.element_envelope.proofs.SumRoom.{pieces_room}
 use Rattle.element_envelope.proofs.Windows.{agreeing}
 use Rattle.curve_conv.specs.ConvolveCall.{IsConvolveFrame}
+use Rattle.curve_conv.proofs.ConvolveAnswers.{windows}
 use Rattle.curve_conv.proofs.Repeating.{other_way}
 use Rattle.subadd_closure.specs.declared.ordered.Repetition.{Repetition}
 use Rattle.subadd_closure.specs.Ordered.{IsRepetition}
+use Rattle.subadd_closure.specs.Thinned.{HaveWindows}
 
 -- ---- the call, one way round and the other
 pub frame_compared : (f g : SpecCurve) (r : Frame) (from : ℚ) (F : IsConvolveFrame f g r) → from ≡ r.end -ℚ r.period → AreCompared F.sizes from r.period f g
@@ -65,6 +67,22 @@ frame_compared f g r from F e =
         periods = L.right_periods;
       };
     }
+
+-- the operands up to the end of its window
+pub frame_operands : (f g : SpecCurve) (r : Frame) → IsConvolveFrame f g r → HaveWindows f g r.end
+frame_operands f g r F = record {
+  curves = (F.call.first, F.call.second);
+  first = record { sizes = F.sizes; limited = F.call.limited; stands = F.call.left };
+  second = record { sizes = F.sizes; limited = F.call.limited; stands = F.call.right };
+  windows = windows f g r (unroll f r.end) (unroll g r.end) F refl refl;
+}
+
+-- what is made of the operands' windows is made of the curves
+pub made_of_curves : (f g : SpecCurve) (end stop : ℚ) (ls rs ps : List Piece) → ls ≡ unroll f end → rs ≡ unroll g end → stop ≡ end
+    → IsConvolutionWindow ls rs stop ps → IsConvolutionWindow (unroll f end) (unroll g end) end ps
+made_of_curves f g end stop ls rs ps a b e h =
+    subst (λ x. IsConvolutionWindow x (unroll g end) end ps) a
+    (subst (λ x. IsConvolutionWindow ls x end ps) b (subst (λ x. IsConvolutionWindow ls rs x ps) e h))
 
 turned_repetition : (f g : SpecCurve) (z : Sizes) (end : ℚ) (n : Repetition) → IsRepetition f g z end n → IsRepetition g f z end n
 turned_repetition f g z end n N = record {
@@ -116,46 +134,48 @@ module _ (f g : SpecCurve) (r : Frame) (F : IsConvolveFrame f g r) (n : Repetiti
   right : Stands F.sizes (curve_numbers n.end g)
   right = curve_earlier F.sizes n.end r.end g (curve_period g F.call.second) N.early F.call.right
 
-  pub first_to : IsOperandTo n.end f
+  first_to : IsOperandTo n.end f
   first_to = record { sizes = F.sizes; limited = limited; stands = left }
 
-  pub second_to : IsOperandTo n.end g
+  second_to : IsOperandTo n.end g
   second_to = record { sizes = F.sizes; limited = limited; stands = right }
 
-  module _ (ls rs : List Piece) (el : ls ≡ unroll f n.end) (er : rs ≡ unroll g n.end) where
-    pub early_windows : OperandWindows n.end ls rs
-    early_windows = record {
-      sizes = F.sizes;
-      limited = limited;
-      some = end_some;
-      left = unrolled_pieces F.sizes n.end f ls F.call.first limited end_some left el;
-      right = unrolled_pieces F.sizes n.end g rs F.call.second limited end_some right er;
-    }
+  early_windows : OperandWindows n.end (unroll f n.end) (unroll g n.end)
+  early_windows = record {
+    sizes = F.sizes;
+    limited = limited;
+    some = end_some;
+    left = unrolled_pieces F.sizes n.end f (unroll f n.end) F.call.first limited end_some left refl;
+    right = unrolled_pieces F.sizes n.end g (unroll g n.end) F.call.second limited end_some right refl;
+  }
 
-    pub early_answer : (ps : List Piece) → IsConvolutionWindow ls rs n.end ps → IsAnswerWindow ps n.from n.period n.rise r.times r.values
-    unfolding early_windows
-    early_answer ps M =
-        let z = F.sizes in
-        let W = M.stands early_windows in
-        let tail : TailOf z n.end n.from n.period n.rise = record {
-          nonneg = N.nonneg;
-          some = N.some;
-          ends = sym N.ends;
-          time = N.time;
-          whole = N.whole;
-          value = N.value;
-        } in
-        answer_with_tail z n.end n.from n.period n.rise r.times r.values ps limited F.times F.values M.starts
-        (each_map (SumPiece z n.end) (λ p. p.x <ℚ n.end) (λ p P. P.start.before) ps W.each) (pieces_room z n.end ps limited W) tail N.within
-        (sums_on_grids z n.end n.from n.period n.rise ps limited W (M.arches early_windows) tail)
+  pub early_operands : HaveWindows f g n.end
+  early_operands = record { curves = (F.call.first, F.call.second); first = first_to; second = second_to; windows = early_windows }
 
-    pub early_values : (ps : List Piece) (c : SpecCurve) → IsConvolutionWindow ls rs n.end ps → HasValues c (repeated (read ps) n.from n.period n.rise)
-        → (t : ℚ) → zero_q ≤ℚ t → IsConvolution (value_at f) (value_at g) t (value_at c t)
-    early_values ps c M same t nonneg =
-        answer_relation (IsConvolution (value_at f) (value_at g)) c (read ps) n.from n.period n.rise same N.nonneg N.some
-        (λ s some early.
-        let before : s <ℚ n.end = subst (λ y. s <ℚ y) (sym N.ends) early in
-        agreeing (read ls) (read rs) (value_at f) (value_at g) n.end s (read ps s)
-        (λ i a l. ap (λ us. read us i) el ∙ unroll_reads f n.end i F.call.first.normal a l)
-        (λ i a l. ap (λ us. read us i) er ∙ unroll_reads g n.end i F.call.second.normal a l) before (M.reads s some before))
-        N.moves t nonneg
+  pub early_answer : (ps : List Piece) → IsConvolutionWindow (unroll f n.end) (unroll g n.end) n.end ps → IsAnswerWindow ps n.from n.period n.rise r.times r.values
+  unfolding early_windows
+  early_answer ps M =
+      let z = F.sizes in
+      let W = M.stands early_windows in
+      let tail : TailOf z n.end n.from n.period n.rise = record {
+        nonneg = N.nonneg;
+        some = N.some;
+        ends = sym N.ends;
+        time = N.time;
+        whole = N.whole;
+        value = N.value;
+      } in
+      answer_with_tail z n.end n.from n.period n.rise r.times r.values ps limited F.times F.values M.starts
+      (each_map (SumPiece z n.end) (λ p. p.x <ℚ n.end) (λ p P. P.start.before) ps W.each) (pieces_room z n.end ps limited W) tail N.within
+      (sums_on_grids z n.end n.from n.period n.rise ps limited W (M.arches early_windows) tail)
+
+  pub early_values : (ps : List Piece) (c : SpecCurve) → IsConvolutionWindow (unroll f n.end) (unroll g n.end) n.end ps → HasValues c (repeated (read ps) n.from n.period n.rise)
+      → (t : ℚ) → zero_q ≤ℚ t → IsConvolution (value_at f) (value_at g) t (value_at c t)
+  early_values ps c M same t nonneg =
+      answer_relation (IsConvolution (value_at f) (value_at g)) c (read ps) n.from n.period n.rise same N.nonneg N.some
+      (λ s some early.
+      let before : s <ℚ n.end = subst (λ y. s <ℚ y) (sym N.ends) early in
+      agreeing (read (unroll f n.end)) (read (unroll g n.end)) (value_at f) (value_at g) n.end s (read ps s)
+      (λ i a l. unroll_reads f n.end i F.call.first.normal a l)
+      (λ i a l. unroll_reads g n.end i F.call.second.normal a l) before (M.reads s some before))
+      N.moves t nonneg

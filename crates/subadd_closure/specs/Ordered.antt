@@ -9,13 +9,19 @@ use Rattle.rational.specs.declared.Extended.TheVariants.{Fin}
 use Rattle.min_plus.specs.Convolution.{IsConvolution, IsSubadditive}
 use Rattle.min_plus.specs.Functions.{zero_q}
 use Rattle.upp_curve.specs.Curve.{SpecCurve, value_at}
+use Rattle.upp_curve.specs.Unrolled.{unroll}
 use Rattle.upp_limits.specs.Limits.{Sizes}
 use Rattle.upp_limits.specs.Sized.{grid_of, times_largest}
 use Rattle.curve_call.specs.Ever.{IsBelowFrom}
+use Rattle.curve_call.specs.declared.frame.Frame.{Frame}
 use Rattle.curve_call.specs.declared.gaps.Gap.{Gap}
 use Rattle.curve_call.specs.declared.gaps.Gap.TheVariants.{NoTime, Never, Is}
 use Rattle.curve_call.specs.Gaps.{InWindow}
+use Rattle.element_envelope.specs.ConvolutionWindows.{IsConvolutionWindow}
+use Rattle.curve_conv.specs.ConvolveCall.{IsConvolveFrame}
 use Rattle.subadd_closure.specs.declared.ordered.Repetition.{Repetition}
+use Rattle.subadd_closure.specs.declared.star_convolution.Reach.{Reach}
+use Rattle.subadd_closure.specs.declared.star_convolution.Reach.TheVariants.{Pieces, Early}
 
 -- ---- the time
 -- f is nowhere above g from one time up to another
@@ -63,3 +69,9 @@ pub record IsRepetition (f g : SpecCurve) (z : Sizes) (end : ℚ) (n : Repetitio
   pub within : Within (times_largest 8 z) n.rise
   pub moves : (t : ℚ) (v : Ext) → n.from ≤ℚ t → IsConvolution (value_at f) (value_at g) t v
       → IsConvolution (value_at f) (value_at g) (t +ℚ n.period) (v +ₑ Fin n.rise)
+
+-- how far the pieces of a convolution are made: to the end of the call's window, or to the end of a period with which it
+-- repeats
+abbrev pub Reaches : (f g : SpecCurve) → Frame → Reach → Type 0
+Reaches f g frame (Pieces pieces) = IsConvolutionWindow (unroll f frame.end) (unroll g frame.end) frame.end pieces.items
+Reaches f g frame (Early n) = (r : IsConvolveFrame f g frame) → IsRepetition f g r.sizes frame.end n

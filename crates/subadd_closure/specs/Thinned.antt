@@ -18,8 +18,10 @@ use Rattle.min_plus.specs.Functions.{zero_q}
 use Rattle.upp_curve.specs.Curve.{SpecCurve, value_at}
 use Rattle.upp_curve.specs.Curves.{IsCurve}
 use Rattle.upp_curve.specs.Unrolled.{unroll}
+use Rattle.upp_normal.specs.Unrolling.{IsOperandTo}
 use Rattle.element_envelope.specs.ConvolutionWindows.{OperandWindows}
 use Rattle.element_envelope.specs.PieceElements.{Among, elements_of}
+use Rattle.subadd_closure.specs.declared.again.OperandLists.{OperandLists}
 use Rattle.subadd_closure.specs.declared.again.Operands.{Operands}
 use Rattle.element_envelope.specs.EnvelopeWindows.{IsEnvelopeWindow}
 
@@ -88,3 +90,20 @@ pub record IsReady (w : Operands) : Type 0 where
   pub thin : AreThinnable w.f.now w.g.now
   pub elements : (w.xs.now ≡ elements_of w.left.now Inf) × (w.ys.now ≡ elements_of w.right.now Inf)
   pub late : IsThinned (read w.left.now) w.end w.ys.now w.late.now
+
+-- two curves can be written out up to a time, as the operands of one call
+pub record HaveWindows (f g : SpecCurve) (end : ℚ) : Type 0 where
+  pub curves : IsCurve f × IsCurve g
+  pub first : IsOperandTo end f
+  pub second : IsOperandTo end g
+  pub windows : OperandWindows end (unroll f end) (unroll g end)
+
+-- the lists of such operands
+pub record AreListsOf (f g : SpecCurve) (end : ℚ) (w : OperandLists) : Type 0 where
+  pub curves : IsCurve f × IsCurve g
+  pub windows : OperandWindows end w.left.items w.right.items
+  pub first : w.left.items ≡ unroll f end
+  pub second : w.right.items ≡ unroll g end
+  pub thin : AreThinnable f g
+  pub elements : (w.xs.items ≡ elements_of w.left.items Inf) × (w.ys.items ≡ elements_of w.right.items Inf)
+  pub late : IsThinned (read w.left.items) end w.ys.items w.late.items

@@ -1,20 +1,15 @@
 //! The call of a convolution once more: its pieces below the end of its window, and by how much it rises over a period.
 
-ghost use Rattle.std.specs.Prelude.{◌≡◌, IfOk, IfSome};
+ghost use Rattle.std.specs.Prelude.{◌≡◌, IfOk};
 ghost use Rattle.rational.specs.Extended.{◌<ₑ◌};
-ghost use Rattle.upp_curve.specs.affine_segment.Reading.{read};
-ghost use Rattle.upp_curve.specs.Curve.{value_at};
-ghost use Rattle.upp_curve.specs.Curves.{IsCurve};
 ghost use Rattle.upp_curve.specs.Steady.{rate, rise_over};
 ghost use Rattle.upp_curve.specs.Unrolled.{unroll};
-ghost use Rattle.element_envelope.specs.ConvolutionWindows.{OperandWindows, IsConvolutionWindow};
-ghost use Rattle.element_envelope.specs.PieceElements.{elements_of};
+ghost use Rattle.element_envelope.specs.ConvolutionWindows.{IsConvolutionWindow};
 ghost use Rattle.curve_conv.specs.ConvolveCall.{IsConvolveFrame};
 ghost use Rattle.plain_operators.specs.pointwise.Lattice.{RisesBy};
-ghost use Rattle.subadd_closure.specs.Thinned.{AreThinnable, IsReady, MayThin};
+ghost use Rattle.subadd_closure.specs.Thinned.{AreListsOf, AreThinnable, HaveWindows, IsReady, MayThin};
 
 use crate::covered::covered;
-use crate::ordered::is_worth_walks;
 use crate::thinned::thinned;
 use crate::useful::useful;
 use curve_call::{Frame, rise_over};
@@ -48,9 +43,9 @@ pub(crate) struct Operands<'a> {
     pub(crate) end: Frac,
 }
 
-// The pieces of the convolution: where at most half of the second operand's elements are left, as the lesser of the first
-// operand and of what they make with those of the first that may make something below it.
-fn late_window(alloc: Global, w: &Operands) -> Result<Vec<Piece>, AllocError>
+/// The pieces of the convolution: where at most half of the second operand's elements are left, as the lesser of the first
+/// operand and of what they make with those of the first that may make something below it.
+pub(crate) fn late_window(alloc: Global, w: &Operands) -> Result<Vec<Piece>, AllocError>
     requires { IsReady w.now }
     ensures { IfOk result (λ ps. IsConvolutionWindow w.now.left.now w.now.right.now w.now.end ps.items) }
 {
@@ -74,124 +69,111 @@ fn covered_window(alloc: Global, w: &Operands) -> Result<Vec<Piece>, AllocError>
     late_window(alloc, w)
 }
 
-/// The pieces of the convolution, of which `left` and `right` are the operands' pieces. Where `thin` is set, the elements of
-/// the second are left out that are nowhere below the first, or those of the first that are nowhere below what it makes with
-/// few of the second, where that leaves fewer pairs. Refused only for want of memory.
-pub(crate) fn window_between(
+/// The lists of two operands.
+#[derive(Drop)]
+pub(crate) struct OperandLists {
+    /// The pieces of the first that start below the end.
+    pub(crate) left: Vec<Piece>,
+    /// Those of the second.
+    pub(crate) right: Vec<Piece>,
+    /// The elements of the first.
+    pub(crate) xs: Vec<Element>,
+    /// Those of the second.
+    pub(crate) ys: Vec<Element>,
+    /// Those of the second that are not nowhere below the first.
+    pub(crate) late: Vec<Element>,
+}
+
+/// The operands up to the end of a window. Refused only for want of memory.
+pub(crate) fn lists_of(
     alloc: Global,
     f: &Curve,
     g: &Curve,
-    left: &[Piece],
-    right: &[Piece],
     end: Frac,
-    thin: bool,
-) -> Result<Vec<Piece>, AllocError>
-    requires curves { IsCurve f.now × IsCurve g.now }
-    requires windows { OperandWindows end left.now right.now }
-    requires first { left.now ≡ unroll f.now end }
-    requires second { right.now ≡ unroll g.now end }
-    requires thin { MayThin thin f.now g.now }
-    ensures { IfOk result (λ ps. IsConvolutionWindow left.now right.now end ps.items) }
+) -> Result<OperandLists, AllocError>
+    requires windows { HaveWindows f.now g.now end }
+    requires thin { AreThinnable f.now g.now }
+    ensures { IfOk result (AreListsOf f.now g.now end) }
 {
-    if !thin {
-        return window_convolution(alloc, left, right, end);
-    }
-    let ys = cut(alloc, right, Extended::Inf)?;
-    let late = thinned(alloc, left, &ys, end)?;
-    let xs = cut(alloc, left, Extended::Inf)?;
-    let w = Operands {
-        f,
-        g,
+    let left = unrolled(f, end)?;
+    let right = unrolled(g, end)?;
+    let ys = cut(alloc, &right, Extended::Inf)?;
+    let late = thinned(alloc, &left, &ys, end)?;
+    let xs = cut(alloc, &left, Extended::Inf)?;
+    Ok(OperandLists {
         left,
         right,
-        xs: xs.as_slice(),
-        ys: ys.as_slice(),
-        late: late.as_slice(),
-        end,
-    };
-    // What is made with few elements costs as much as few pairs of each.
-    if late.len() > 8 {
-        return covered_window(alloc, &w);
-    }
-    late_window(alloc, &w)
+        xs,
+        ys,
+        late,
+    })
 }
 
-/// The pieces of the convolution that start below the end of the window. Where `thin` is set, what of the second operand
-/// is nowhere below the first is left out on the way. Refused only for want of memory.
+/// The operands that have these lists.
+pub(crate) fn operands_in<'a>(
+    lists: &'a OperandLists,
+    f: &'a Curve,
+    g: &'a Curve,
+    end: Frac,
+) -> Operands<'a>
+    requires { AreListsOf f.now g.now end lists.now }
+    ensures ready { IsReady result }
+    ensures first { result.left.now ≡ unroll f.now end }
+    ensures second { result.right.now ≡ unroll g.now end }
+    ensures end { result.end ≡ end }
+{
+    Operands {
+        f,
+        g,
+        left: lists.left.as_slice(),
+        right: lists.right.as_slice(),
+        xs: lists.xs.as_slice(),
+        ys: lists.ys.as_slice(),
+        late: lists.late.as_slice(),
+        end,
+    }
+}
+
+/// Whether no more pairs are left to be looked at than there are pieces.
+pub(crate) fn has_few_pairs(w: &Operands) -> bool {
+    let pieces = w.left.len().saturating_add(w.right.len());
+    w.late.len().saturating_mul(w.left.len()) <= pieces
+}
+
+/// The pieces of the convolution, by whichever of the two leaves fewer pairs. Refused only for want of memory.
+pub(crate) fn thinned_window(alloc: Global, w: &Operands) -> Result<Vec<Piece>, AllocError>
+    requires { IsReady w.now }
+    ensures { IfOk result (λ ps. IsConvolutionWindow w.now.left.now w.now.right.now w.now.end ps.items) }
+{
+    // What is made with few elements costs as much as few pairs of each.
+    if w.late.len() > 8 {
+        return covered_window(alloc, w);
+    }
+    late_window(alloc, w)
+}
+
+/// The pieces of the convolution that start below the end of a window. Where `thin` is set, the elements of the second
+/// operand are left out that are nowhere below the first, or those of the first that are nowhere below what it makes with
+/// few of the second, where that leaves fewer pairs. Refused only for want of memory.
 pub(crate) fn window_of(
     alloc: Global,
     f: &Curve,
     g: &Curve,
-    frame: &Frame,
+    end: Frac,
     thin: bool,
 ) -> Result<Vec<Piece>, AllocError>
-    requires frame { IsConvolveFrame f.now g.now frame.now }
+    requires windows { HaveWindows f.now g.now end }
     requires thin { MayThin thin f.now g.now }
-    ensures { IfOk result (λ ps. IsConvolutionWindow (unroll f.now frame.now.end) (unroll g.now frame.now.end)
-        frame.now.end ps.items) }
+    ensures { IfOk result (λ ps. IsConvolutionWindow (unroll f.now end) (unroll g.now end) end ps.items) }
 {
-    let left = unrolled(f, frame.end)?;
-    let right = unrolled(g, frame.end)?;
-    window_between(alloc, f, g, &left, &right, frame.end, thin)
-}
-
-// As `few_window`, of which `left` and `right` are the operands' pieces.
-fn few_between(
-    alloc: Global,
-    f: &Curve,
-    g: &Curve,
-    left: &[Piece],
-    right: &[Piece],
-    end: Frac,
-) -> Result<Option<Vec<Piece>>, AllocError>
-    requires curves { IsCurve f.now × IsCurve g.now }
-    requires windows { OperandWindows end left.now right.now }
-    requires first { left.now ≡ unroll f.now end }
-    requires second { right.now ≡ unroll g.now end }
-    requires thin { AreThinnable f.now g.now }
-    ensures { IfOk result (λ o. IfSome o (λ ps. IsConvolutionWindow left.now right.now end ps.items)) }
-{
-    let ys = cut(alloc, right, Extended::Inf)?;
-    let late = thinned(alloc, left, &ys, end)?;
-    if late.len().saturating_mul(left.len()) > left.len().saturating_add(right.len()) {
-        return Ok(None);
+    if thin {
+        let lists = lists_of(alloc, f, g, end)?;
+        let w = operands_in(&lists, f, g, end);
+        return thinned_window(alloc, &w);
     }
-    let xs = cut(alloc, left, Extended::Inf)?;
-    let w = Operands {
-        f,
-        g,
-        left,
-        right,
-        xs: xs.as_slice(),
-        ys: ys.as_slice(),
-        late: late.as_slice(),
-        end,
-    };
-    let pieces = late_window(alloc, &w)?;
-    Ok(Some(pieces))
-}
-
-/// The pieces of the convolution that start below the end of the window, where `thin` is set, walks are worth their cost, and
-/// no more pairs are left to be looked at than there are pieces, so that they cost less than the walks; none elsewhere. Refused
-/// only for want of memory.
-pub(crate) fn few_window(
-    alloc: Global,
-    f: &Curve,
-    g: &Curve,
-    frame: &Frame,
-    thin: bool,
-) -> Result<Option<Vec<Piece>>, AllocError>
-    requires frame { IsConvolveFrame f.now g.now frame.now }
-    requires thin { MayThin thin f.now g.now }
-    ensures { IfOk result (λ o. IfSome o (λ ps. IsConvolutionWindow (unroll f.now frame.now.end) (unroll g.now frame.now.end)
-        frame.now.end ps.items)) }
-{
-    if !thin || !is_worth_walks(f, g, frame.end) {
-        return Ok(None);
-    }
-    let left = unrolled(f, frame.end)?;
-    let right = unrolled(g, frame.end)?;
-    few_between(alloc, f, g, &left, &right, frame.end)
+    let left = unrolled(f, end)?;
+    let right = unrolled(g, end)?;
+    window_convolution(alloc, &left, &right, end)
 }
 
 /// By how much the slower of the two curves, and so the convolution, rises over a period.

@@ -53,7 +53,7 @@ fn started_within(
     requires finite { ConvolvesFinitely (value_at f.now) (value_at g.now) }
     ensures { IfOk result (ConvolvesPastZero f.now g.now start) }
 {
-    let pieces = window_of(alloc, f, g, frame, thin)?;
+    let pieces = window_of(alloc, f, g, frame.end, thin)?;
     let rise = slower_rise(f, g, frame);
     let from = difference(frame.end, frame.period);
     if repeats_start(&pieces, frame.period, rise, start) {

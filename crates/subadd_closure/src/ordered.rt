@@ -18,7 +18,7 @@ ghost use Rattle.curve_conv.specs.ConvolveCall.{IsConvolveFrame};
 ghost use Rattle.curve_conv.specs.Late.{IsLateCall};
 ghost use Rattle.curve_conv.specs.LateBounds.{IsLateBounds};
 ghost use Rattle.subadd_closure.specs.Ordered.{IsBelowIn, IsOrderTime, IsOrdered, IsRepetition, IsTimeBy};
-ghost use Rattle.subadd_closure.specs.Thinned.{AreThinnable, MayThin};
+ghost use Rattle.subadd_closure.specs.Thinned.{AreThinnable};
 
 use crate::below::is_below;
 use crate::multiples::{less, whole_times};
@@ -238,8 +238,9 @@ fn repetition_of(
     })
 }
 
-// The same, whichever of the two is the slower.
-fn thinned_repetition(f: &Curve, g: &Curve, frame: &Frame) -> Option<Repetition>
+/// From when on the convolution of two curves of a fold repeats, and with which period, where that is known to be over
+/// before the end of the call's window.
+pub(crate) fn early_repetition(f: &Curve, g: &Curve, frame: &Frame) -> Option<Repetition>
     requires frame { IsConvolveFrame f.now g.now frame.now }
     requires thin { AreThinnable f.now g.now }
     ensures { IfSome result (λ n. (r : IsConvolveFrame f.now g.now frame.now)
@@ -251,25 +252,6 @@ fn thinned_repetition(f: &Curve, g: &Curve, frame: &Frame) -> Option<Repetition>
     }
     if is_slower_curve(g, f) {
         return repetition_of(g, f, from, frame.period, frame.end);
-    }
-    None
-}
-
-/// From when on the convolution of two curves of a fold repeats, and with which period, where that is known to be over
-/// before the end of the call's window; none where `thin` is not set, as of `window_of`.
-pub(crate) fn early_repetition(
-    f: &Curve,
-    g: &Curve,
-    frame: &Frame,
-    thin: bool,
-) -> Option<Repetition>
-    requires frame { IsConvolveFrame f.now g.now frame.now }
-    requires thin { MayThin thin f.now g.now }
-    ensures { IfSome result (λ n. (r : IsConvolveFrame f.now g.now frame.now)
-        → IsRepetition f.now g.now r.sizes frame.now.end n) }
-{
-    if thin {
-        return thinned_repetition(f, g, frame);
     }
     None
 }

@@ -17,11 +17,13 @@ ghost use Rattle.element_envelope.specs.ConvolutionWindows.{IsConvolutionWindow}
 ghost use Rattle.curve_call.specs.Frames.{IsFrame};
 ghost use Rattle.curve_conv.specs.ConvolveCall.{IsConvolveFrame};
 ghost use Rattle.curve_conv.specs.LateBounds.{IsSlowerBounds};
-ghost use Rattle.subadd_closure.specs.Ordered.{IsRepetition};
-ghost use Rattle.subadd_closure.specs.Thinned.{MayThin};
+ghost use Rattle.subadd_closure.specs.Ordered.{IsRepetition, Reaches};
+ghost use Rattle.subadd_closure.specs.Thinned.{AreThinnable, MayThin};
 
-use crate::again::{few_window, slower_rise, window_between, window_of};
-use crate::ordered::{Repetition, early_repetition};
+use crate::again::{
+    has_few_pairs, late_window, lists_of, operands_in, slower_rise, thinned_window, window_of,
+};
+use crate::ordered::{Repetition, early_repetition, is_worth_walks};
 use crate::quick_bounds::quick_bounds;
 use curve_call::{
     Bounds, CallWindow, Frame, answer, first_window, framed_answer, refuse_between, within,
@@ -34,7 +36,6 @@ use std::sync::ledger::Ledger;
 use upp_curve::Curve;
 use upp_curve::affine_segment::Piece;
 use upp_limits::{OpFault, OpKind, tally_over};
-use upp_normal::unrolled;
 
 // The frame of a call with so many periods, where it is within both limits and not much larger than with none, whose window
 // ends at `first`.
@@ -150,26 +151,22 @@ fn curve_of(
     framed_answer(alloc, pieces, from, rise, frame)
 }
 
-// The convolution in a call within both limits, from the pieces up to the end of a period with which it repeats; `thin` as of
-// `window_of`.
+// The convolution in a call within both limits, from the pieces up to the end of a period with which it repeats.
 fn early_convolved(
     alloc: Global,
     f: &Curve,
     g: &Curve,
     frame: &Frame,
     n: &Repetition,
-    thin: bool,
 ) -> Result<Curve, AllocError>
     requires frame { IsConvolveFrame f.now g.now frame.now }
-    requires thin { MayThin thin f.now g.now }
+    requires thin { AreThinnable f.now g.now }
     requires repeats { (r : IsConvolveFrame f.now g.now frame.now)
         → IsRepetition f.now g.now r.sizes frame.now.end n.now }
     ensures { IfOk result (λ c. (t : ℚ) → zero_q ≤ℚ t
         → IsConvolution (value_at f.now) (value_at g.now) t (value_at c t)) }
 {
-    let left = unrolled(f, n.end)?;
-    let right = unrolled(g, n.end)?;
-    let pieces = window_between(alloc, f, g, &left, &right, n.end, thin)?;
+    let pieces = window_of(alloc, f, g, n.end, true)?;
     answer(
         alloc,
         pieces,
@@ -179,6 +176,54 @@ fn early_convolved(
         frame.times,
         frame.values,
     )
+}
+
+// How far the pieces of a convolution are made.
+#[derive(Drop)]
+enum Reach {
+    // To the end of the call's window: these.
+    Pieces(Vec<Piece>),
+    // To the end of a period with which it repeats: they are not made yet.
+    Early(Repetition),
+}
+
+// The pieces where walks are worth their cost, or how early it repeats. The operands are made once, and let go here.
+fn walked_reach(alloc: Global, f: &Curve, g: &Curve, frame: &Frame) -> Result<Reach, AllocError>
+    requires frame { IsConvolveFrame f.now g.now frame.now }
+    requires thin { AreThinnable f.now g.now }
+    ensures { IfOk result (Reaches f.now g.now frame.now) }
+{
+    let lists = lists_of(alloc, f, g, frame.end)?;
+    let w = operands_in(&lists, f, g, frame.end);
+    // The walks that tell an early repetition cost more than few pairs.
+    if has_few_pairs(&w) {
+        let pieces = late_window(alloc, &w)?;
+        return Ok(Reach::Pieces(pieces));
+    }
+    if let Some(n) = early_repetition(f, g, frame) {
+        return Ok(Reach::Early(n));
+    }
+    let pieces = thinned_window(alloc, &w)?;
+    Ok(Reach::Pieces(pieces))
+}
+
+// The same; `thin` as of `window_of`.
+fn reach_of(
+    alloc: Global,
+    f: &Curve,
+    g: &Curve,
+    frame: &Frame,
+    thin: bool,
+) -> Result<Reach, AllocError>
+    requires frame { IsConvolveFrame f.now g.now frame.now }
+    requires thin { MayThin thin f.now g.now }
+    ensures { IfOk result (Reaches f.now g.now frame.now) }
+{
+    if thin && is_worth_walks(f, g, frame.end) {
+        return walked_reach(alloc, f, g, frame);
+    }
+    let pieces = window_of(alloc, f, g, frame.end, thin)?;
+    Ok(Reach::Pieces(pieces))
 }
 
 // The convolution in such a call.
@@ -194,15 +239,10 @@ fn convolved_within(
     ensures { IfOk result (λ c. (t : ℚ) → zero_q ≤ℚ t
         → IsConvolution (value_at f.now) (value_at g.now) t (value_at c t)) }
 {
-    // The walks that tell an early repetition cost more than few pairs.
-    if let Some(pieces) = few_window(alloc, f, g, frame, thin)? {
-        return curve_of(alloc, f, g, frame, pieces);
+    match reach_of(alloc, f, g, frame, thin)? {
+        Reach::Pieces(pieces) => curve_of(alloc, f, g, frame, pieces),
+        Reach::Early(n) => early_convolved(alloc, f, g, frame, &n),
     }
-    if let Some(n) = early_repetition(f, g, frame, thin) {
-        return early_convolved(alloc, f, g, frame, &n, thin);
-    }
-    let pieces = window_of(alloc, f, g, frame, thin)?;
-    curve_of(alloc, f, g, frame, pieces)
 }
 
 // The convolution of two curves; `thin` as of `window_of`. Nothing is counted.

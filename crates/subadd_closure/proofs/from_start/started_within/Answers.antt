@@ -13,8 +13,12 @@ use Rattle.curve_call.specs.Answering.{IsAnswerWindow}
 use Rattle.plain_operators.proofs.pointwise.LatticeCalls.{from_fits}
 use Rattle.subadd_closure.proofs.Started.{started_answer}
 use Rattle.subadd_closure.proofs.Windowed.{convolved}
+use Rattle.subadd_closure.proofs.OrderedWindows.{frame_operands}
 use Rattle.subadd_closure.proofs.Made.{period_reads, rise_less, start_room, started_convolves, open_keeps, open_convolves}
 use Rattle.subadd_closure.proofs.from_start.started_within.Goals as goal
+
+pub window_of-requires-clause-windows : goal.window_of-requires-clause-windows
+window_of-requires-clause-windows c = frame_operands c.args.f.now c.args.g.now c.args.frame.now c.requires.frame
 
 pub difference-from-requires : goal.difference-from-requires
 difference-from-requires c =

@@ -5,7 +5,7 @@ use Rattle.rational.proofs.Laws.{sub_add}
 use Rattle.plain_operators.proofs.pointwise.LatticeCalls.{from_fits}
 use Rattle.curve_call.proofs.EitherOrder.{other_way as turned_compared}
 use Rattle.subadd_closure.proofs.OrderedWindows.{frame_compared, repeats_first, repeats_second}
-use Rattle.subadd_closure.proofs.ordered.thinned_repetition.Goals as goal
+use Rattle.subadd_closure.proofs.ordered.early_repetition.Goals as goal
 
 pub difference-from-requires : goal.difference-from-requires
 difference-from-requires c =
