@@ -13,11 +13,11 @@ use Rattle.net_cells.proofs.Growing.{filter_mapped}
 use Rattle.net_cells.proofs.Lists.{Has, at_has, map_has, filter_has, flat_has, range_has}
 use Rattle.cell_numbers.specs.declared.found.Pick.{Pick}
 use Rattle.cell_numbers.specs.declared.found.Pick.TheVariants.{InQueue, AfterQueue, InPart}
-use Rattle.cell_numbers.specs.Chosen.{flow_visits, picks, picked, all_picked}
+use Rattle.cell_numbers.specs.Chosen.{flow_visits, is_other, picks, picked, all_picked, chosen, all_chosen}
 use Rattle.cell_numbers.proofs.Choosing.{picked_are, part_picked}
 use Rattle.cell_rules.specs.Sites.{passes}
 use Rattle.cell_rules.proofs.Found.{any_none}
-use Rattle.cell_rules.proofs.SameHops.{IsBlankFrom, same_flat}
+use Rattle.cell_rules.proofs.SameHops.{IsBlankFrom, same_flat, chosen_blank}
 
 -- ---- filters
 filter_on : {X : Type 0} (p q : X → Bool) (xs : List X) → ((x : X) → Has xs x → p x ≡ q x) → filter p xs ≡ filter q xs
@@ -98,6 +98,14 @@ module _ (old new : Net) (s : ℕ) (same : (j : ℕ) → IsSameAt old new s j) w
       let most = length old.flows + length new.flows in
       same_flat (picked old s pick) (picked new s pick) (length old.flows) (length new.flows) most
       (omega arith) (omega arith) (picked_blank old s pick) (picked_blank new s pick) (λ i h. same_picked pick i)
+
+  pub same_chosen : (pick : Pick) (except : Option ℕ)
+      → all_chosen old s pick except (length old.flows) ≡ all_chosen new s pick except (length new.flows)
+  same_chosen pick except =
+      let most = length old.flows + length new.flows in
+      same_flat (chosen old s pick except) (chosen new s pick except) (length old.flows) (length new.flows) most
+      (omega arith) (omega arith) (chosen_blank old s pick except) (chosen_blank new s pick except)
+      (λ i h. ap (filter (is_other except)) (same_picked pick i))
 
   pub same_visits : (pick : Pick) → filter (picks old pick) (visits old s) ≡ filter (picks new pick) (visits new s)
   same_visits pick = picked_are old s pick ∙ all_same pick ∙ sym (picked_are new s pick)

@@ -50,6 +50,19 @@ fn same_hops(
     true
 }
 
+// Whether the same hops are meant at one place of two networks. Nothing is compared where it is told that they have the
+// same flows.
+fn same_meant(told: bool, old: &Network, new: &Network, place: (u32, Pick)) -> bool
+    requires { HaveSameFlows told old.now new.now }
+    ensures { TellsSame (all_chosen old.now place.0 place.1 None (length old.now.flows))
+        (all_chosen new.now place.0 place.1 None (length new.now.flows)) result }
+{
+    if told {
+        return true;
+    }
+    same_hops(old, place, new, place, None)
+}
+
 /// Whether two networks make the sum of the other flows at a hop of the same.
 pub(crate) fn same_cross(old: &Network, new: &Network, flow: u32, hop: u32) -> bool
     ensures { TellsFormula old.now new.now Cross flow hop result }
@@ -92,12 +105,13 @@ fn same_cut(old: &Network, new: &Network, server: u32, pick: Pick, before: u32) 
 }
 
 // Whether two networks make a part of a queue's sum of the same.
-fn same_part(old: &Network, new: &Network, place: (u32, u32), part: u64) -> bool
-    requires { part ≤ 64 }
+fn same_part(told: bool, old: &Network, new: &Network, place: (u32, u32), part: u64) -> bool
+    requires flows { HaveSameFlows told old.now new.now }
+    requires part { part ≤ 64 }
     ensures { TellsSame (one_part old.now place.0 place.1 part) (one_part new.now place.0 place.1 part) result }
 {
     let pick = Pick::InPart(place.1, part);
-    if !same_hops(old, (place.0, pick), new, (place.0, pick), None) {
+    if !same_meant(told, old, new, (place.0, pick)) {
         return false;
     }
     if part == 0 {
@@ -110,14 +124,15 @@ fn same_part(old: &Network, new: &Network, place: (u32, u32), part: u64) -> bool
 }
 
 // Whether they make all parts of the same.
-fn same_parts(old: &Network, new: &Network, place: (u32, u32)) -> bool
+fn same_parts(told: bool, old: &Network, new: &Network, place: (u32, u32)) -> bool
+    requires { HaveSameFlows told old.now new.now }
     ensures { TellsSame (parts_sum old.now place.0 place.1 (part_numbers old.now))
         (parts_sum new.now place.0 place.1 (part_numbers new.now)) result }
 {
     old.keeps();
     new.keeps();
     for part in 0..MOST_PARTS {
-        if !same_part(old, new, place, part) {
+        if !same_part(told, old, new, place, part) {
             return false;
         }
     }
@@ -131,8 +146,16 @@ pub(crate) fn is_by_links(net: &Network) -> bool
     net.version() == 2
 }
 
-/// Whether two networks make the sum of a queue's flows of the same.
-pub(crate) fn same_total(old: &Network, new: &Network, server: u32, queue: u32) -> bool
+/// Whether two networks make the sum of a queue's flows of the same. Which flows these are is not compared where it is
+/// told that they have the same flows.
+pub(crate) fn same_total(
+    told: bool,
+    old: &Network,
+    new: &Network,
+    server: u32,
+    queue: u32,
+) -> bool
+    requires { HaveSameFlows told old.now new.now }
     ensures { TellsFormula old.now new.now Total server queue result }
 {
     let by_links = is_by_links(old);
@@ -140,10 +163,9 @@ pub(crate) fn same_total(old: &Network, new: &Network, server: u32, queue: u32) 
         return false;
     }
     if by_links {
-        return same_parts(old, new, (server, queue));
+        return same_parts(told, old, new, (server, queue));
     }
-    let place = (server, Pick::InQueue(queue));
-    same_hops(old, place, new, place, None)
+    same_meant(told, old, new, (server, Pick::InQueue(queue)))
 }
 
 /// Whether the longest packet of the hops that are meant has as many bits in both networks. Nothing is compared where it

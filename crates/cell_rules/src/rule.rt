@@ -77,7 +77,7 @@ fn same_formula(told: bool, cell: Cell, old: &Network, new: &Network) -> bool
     match cell.kind {
         Kind::In => same_in(old, new, cell.a, cell.b),
         Kind::Cross => same_cross(old, new, cell.a, cell.b),
-        Kind::Total => same_total(old, new, cell.a, cell.b),
+        Kind::Total => same_total(told, old, new, cell.a, cell.b),
         Kind::QueueService => same_queue_service(told, old, new, cell.a, cell.b),
         Kind::Theta => same_place(old, new, cell.a, cell.b),
         Kind::Residual => same_place(old, new, cell.a, cell.b),

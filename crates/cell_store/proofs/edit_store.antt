@@ -3,3 +3,4 @@ pub mod Begun
 pub mod Outcomes
 pub mod PutBack
 pub mod Lost
+pub mod Ordered

@@ -1,8 +1,10 @@
 -- What a store keeps beside the present network: of the networks before it what each edit replaced, and the present one once
--- more, with what was replaced of that. Own choice.
-use Rattle.std.specs.Prelude.{◌≡◌, List, [], ◌∷◌, ◌++◌, All, Option, Some, None}
+-- more, with what was replaced of that; and the order of its servers. Own choice.
+use Rattle.std.specs.declared.vec.Vec.{Vec}
+use Rattle.std.specs.Prelude.{◌≡◌, ℕ, List, [], ◌∷◌, ◌++◌, All, Option, Some, None}
 use Rattle.net_model.specs.Networks.{Net}
 use Rattle.net_model.specs.Accepted.{IsAccepted}
+use Rattle.net_model.specs.Orders.{IsOrder}
 use Rattle.net_cells.specs.Meanings.{Meaning}
 use Rattle.version_table.specs.Histories.{History}
 use Rattle.cell_rules.specs.declared.edit_sites.replaced.Replaced.{Replaced}
@@ -35,8 +37,15 @@ pub record IsBeside (spare : Option Net) (spared replaced : List Replaced) (pres
   pub same : IsSameAs spare present
   pub before : networks_before spared present ≡ networks_before replaced present
 
+-- ---- the order of a network's servers
+-- if it is known
+abbrev pub IsOrderOf : {Z : Type 0} → Option (Vec ℕ Z) → Net → Type 0
+IsOrderOf None net = Unit {0}
+IsOrderOf (Some order) net = IsOrder net order.items
+
 -- all that a store keeps
-pub record IsHeld {V : Type 0} (meaning : V → Meaning) (spare : Option Net) (spared replaced : List Replaced) (present : Net)
-    (values : History V) : Type 0 where
+pub record IsHeld {V Z : Type 0} (meaning : V → Meaning) (spare : Option Net) (spared replaced : List Replaced)
+    (order : Option (Vec ℕ Z)) (present : Net) (values : History V) : Type 0 where
+  pub order : IsOrderOf order present
   pub kept : IsKept meaning replaced present values
   pub beside : IsBeside spare spared replaced present

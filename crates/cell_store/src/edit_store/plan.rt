@@ -4,14 +4,15 @@ ghost use Rattle.std.specs.Prelude.{◌≡◌, ◌≢◌, ◌≤◌, length, IfO
 ghost use Rattle.net_model.specs.declared.edit.Edit.TheVariants.{Undo};
 ghost use Rattle.net_model.specs.Accepted.{IsAccepted};
 ghost use Rattle.net_model.specs.Orders.{IsOrder};
+ghost use Rattle.net_model.specs.net_graph.Faults.{IsGraphFault};
 ghost use Rattle.net_edits.specs.Changed.{changed};
 ghost use Rattle.net_edits.specs.Edited.{edited};
 ghost use Rattle.net_edits.specs.Replies.{IsOverNone};
 ghost use Rattle.cell_rules.specs.Finding.{HaveSameCellsBut};
 ghost use Rattle.cell_store.specs.edit_store.Stored.{AreTouched, AreLost};
 ghost use Rattle.cell_store.specs.edit_store.Applied.{Gives, IsPlanned, IsUnplanned};
-ghost use Rattle.cell_store.specs.edit_store.Kept.{IsSameAs};
-ghost use Rattle.cell_rules.specs.edit_sites.Replaced.{put_back};
+ghost use Rattle.cell_store.specs.edit_store.Kept.{IsSameAs, IsOrderOf};
+ghost use Rattle.cell_store.specs.edit_store.Planned.{IsMadeOf};
 
 use crate::edit_store::faults::graph_fault;
 use crate::edit_store::spare::Spare;
@@ -21,15 +22,16 @@ use cell_rules::edit_sites::{
 use cell_rules::{Site, cells_of, gone_cells, touched_cells};
 use net_cells::Cell;
 use net_edits::{Change, EditFault, change_of, changed};
-use net_model::net_graph::order;
+use net_model::net_graph::{GraphFault, order};
 use net_model::{Edit, Network};
 use std::alloc::{AllocError, Global};
 
-/// An edited network, what makes it of the present one, the cells that the edit touches, those that it takes away, and
-/// what it replaced, twice: of the present network, and of the one that is changed.
+/// An edited network, the order of its servers, what makes it of the present one, the cells that the edit touches, those
+/// that it takes away, and what it replaced, twice: of the present network, and of the one that is changed.
 #[derive(Drop)]
 pub(crate) struct Planned {
     pub net: Network,
+    pub order: Vec<u32>,
     pub change: Change,
     pub touched: Vec<Cell>,
     pub gone: Vec<Cell>,
@@ -99,23 +101,21 @@ fn planned_by(
     edit: &Edit,
     net: Network,
     change: Change,
-    order: &[u32],
+    order: Vec<u32>,
 ) -> Result<Planned, AllocError>
-    requires order { IsOrder net order.now }
+    requires order { IsOrder net order.items }
     requires gives { Gives present.now edit.now net }
     requires change { changed change present.now ≡ net }
     ensures planned { IfOk result (λ p. IsPlanned present.now edit.now p.net p.touched.items) }
-    ensures change { IfOk result (λ p. changed p.change present.now ≡ p.net) }
-    ensures lost { IfOk result (λ p. AreLost present.now p.net p.gone.items) }
-    ensures back { IfOk result (λ p. put_back p.replaced p.net ≡ present.now) }
-    ensures spared { IfOk result (λ p. put_back p.spared p.net ≡ present.now) }
+    ensures made { IfOk result (IsMadeOf present.now) }
 {
-    let touched = touched_by(alloc, present, edit, &net, order)?;
+    let touched = touched_by(alloc, present, edit, &net, &order)?;
     let gone = lost_cells(alloc, present, edit, &net)?;
     let replaced = replaced_by(present, edit)?;
     let spared = replaced.copy()?;
     Ok(Planned {
         net,
+        order,
         change,
         touched,
         gone,
@@ -124,26 +124,62 @@ fn planned_by(
     })
 }
 
+// The order of a network's servers, made anew only where it is not known.
+fn known_order(
+    alloc: Global,
+    known: &Option<Vec<u32>>,
+    net: &Network,
+) -> Result<Vec<u32>, GraphFault>
+    requires { IsOrderOf known.now net.now }
+    ensures order { IfOk result (λ v. IsOrder net.now v.items) }
+    ensures fault { IfErr result (IsGraphFault net.now) }
+{
+    match known {
+        Some(servers) => Ok(Vec::from_slice(alloc, servers)?),
+        None => order(alloc, net),
+    }
+}
+
+// The order of the servers of an edited network. An edit of a server changes no path, so there it is that of the present
+// one.
+fn edited_order(
+    alloc: Global,
+    present: &Network,
+    known: &Option<Vec<u32>>,
+    edit: &Edit,
+    net: &Network,
+) -> Result<Vec<u32>, GraphFault>
+    requires known { IsOrderOf known.now present.now }
+    requires gives { Gives present.now edit.now net.now }
+    ensures order { IfOk result (λ v. IsOrder net.now v.items) }
+    ensures fault { IfErr result (IsGraphFault net.now) }
+{
+    edits_have_one_site();
+    match site_of(present, edit) {
+        Site::Server(_) => known_order(alloc, known, net),
+        Site::Flow(_) | Site::Anywhere => order(alloc, net),
+    }
+}
+
 // What an edit does by the network that it gives; refused where it has a cycle.
 fn ordered_plan(
     alloc: Global,
     present: &Network,
+    known: &Option<Vec<u32>>,
     edit: &Edit,
     net: Network,
     change: Change,
 ) -> Result<Planned, EditFault>
+    requires known { IsOrderOf known.now present.now }
     requires gives { Gives present.now edit.now net }
     requires change { changed change present.now ≡ net }
     ensures planned { IfOk result (λ p. IsPlanned present.now edit.now p.net p.touched.items) }
-    ensures change { IfOk result (λ p. changed p.change present.now ≡ p.net) }
-    ensures lost { IfOk result (λ p. AreLost present.now p.net p.gone.items) }
-    ensures back { IfOk result (λ p. put_back p.replaced p.net ≡ present.now) }
-    ensures spared { IfOk result (λ p. put_back p.spared p.net ≡ present.now) }
+    ensures made { IfOk result (IsMadeOf present.now) }
     ensures refused { IfErr result (IsUnplanned present.now edit.now) }
 {
-    match order(alloc, &net) {
+    match edited_order(alloc, present, known, edit, &net) {
         Ok(servers) => {
-            let planned = planned_by(alloc, present, edit, net, change, &servers)?;
+            let planned = planned_by(alloc, present, edit, net, change, servers)?;
             Ok(planned)
         }
         Err(fault) => Err(graph_fault(fault)),
@@ -175,16 +211,15 @@ fn made(
 pub(crate) fn plan(
     alloc: Global,
     present: &Network,
+    known: &Option<Vec<u32>>,
     spare: &mut Spare,
     edit: &Edit,
 ) -> Result<Planned, EditFault>
     requires edit { edit.now ≢ Undo }
+    requires known { IsOrderOf known.now present.now }
     requires spare { IsSameAs spare.old.net present.now }
     ensures planned { IfOk result (λ p. IsPlanned present.now edit.now p.net p.touched.items) }
-    ensures change { IfOk result (λ p. changed p.change present.now ≡ p.net) }
-    ensures lost { IfOk result (λ p. AreLost present.now p.net p.gone.items) }
-    ensures back { IfOk result (λ p. put_back p.replaced p.net ≡ present.now) }
-    ensures spared { IfOk result (λ p. put_back p.spared p.net ≡ present.now) }
+    ensures made { IfOk result (IsMadeOf present.now) }
     ensures refused { IfErr result (IsUnplanned present.now edit.now) }
     ensures memory { result ≡ Err EditFault.NoMemory → IsOverNone (edited present.now edit.now) }
     ensures same { IsSameAs spare.new.net present.now }
@@ -193,7 +228,7 @@ pub(crate) fn plan(
     match change_of(alloc, present, edit) {
         Ok(change) => {
             let (net, again) = made(present, spare, change)?;
-            ordered_plan(alloc, present, edit, net, again)
+            ordered_plan(alloc, present, known, edit, net, again)
         }
         Err(fault) => Err(fault),
     }

@@ -1,6 +1,9 @@
 //! The store.
 
 ghost use Rattle.std.specs.Prelude.{◌≡◌, ◌<◌, ◌++◌, ◌∷◌, [], vec_len, vec_capacity};
+ghost use Rattle.net_model.specs.Networks.{Net};
+ghost use Rattle.cell_rules.specs.edit_sites.Replaced as spec;
+ghost use Rattle.cell_store.specs.edit_store.Kept.{IsOrderOf};
 
 use crate::edit_store::faults::analysis_fault;
 use crate::edit_store::plan::{Planned, plan};
@@ -17,12 +20,14 @@ use std::mem::replace;
 use version_table::Versions;
 
 /// Networks, each edited from the one before, and the values of their cells: the present one can be edited, and given
-/// up for the one before. Of those before the present one it keeps what each edit replaced; and the present one twice.
+/// up for the one before. Of those before the present one it keeps what each edit replaced; and the present one twice,
+/// with the order of its servers, unless an edit of a flow was given up.
 #[derive(Drop)]
 pub struct Store<V: CellValue + Drop> {
     alloc: Global,
     replaced: Vec<Replaced>,
     present: Network,
+    order: Option<Vec<u32>>,
     spare: Spare,
     values: Values<V>,
 }
@@ -35,6 +40,16 @@ fn push_within_room(list: &mut Vec<Replaced>, last: Replaced)
     let Ok(()) = list.push(last) else {
         unreachable!()
     };
+}
+
+// The order of a network's servers, if it is known, once what an edit replaced is put back: the same, but for a flow.
+fn order_back(order: Option<Vec<u32>>, replaced: &Replaced) -> Option<Vec<u32>>
+    ensures { (net : Net) → IsOrderOf order net → IsOrderOf result (spec.put_back replaced.now net) }
+{
+    match replaced {
+        Replaced::Nothing | Replaced::Server(..) => order,
+        Replaced::Flow(..) | Replaced::Added => None,
+    }
 }
 
 impl<V: CellValue + Drop> Model for Store<V> {
@@ -50,7 +65,7 @@ impl<V: CellValue + Drop> Model for Store<V> {
       values = s.values.versions;
     } };
 
-    ghost invariant = { λ s. IsHeld V.meaning s.spare.net s.spare.replaced.items s.replaced.items s.present s.values.versions };
+    ghost invariant = { λ s. IsHeld V.meaning s.spare.net s.spare.replaced.items s.replaced.items s.order s.present s.values.versions };
 }
 
 impl<V: CellValue + Drop> Table<V> for Store<V> {
@@ -70,15 +85,14 @@ impl<V: CellValue + Drop> Store<V> {
     ghost use Rattle.outcomes.specs.Spending.{Spends};
     ghost use Rattle.net_model.specs.declared.edit.Edit.TheVariants.{Undo};
     ghost use Rattle.net_model.specs.Orders.{IsOrder};
-    ghost use Rattle.net_edits.specs.Changed.{changed};
     ghost use Rattle.net_cells.specs.Equations.{MeetsEquations};
     ghost use Rattle.net_cells.specs.Order.{evaluation_order};
     ghost use Rattle.net_cells.specs.Work.{work};
     ghost use Rattle.net_cells.specs.MemoryEnds.{MemoryEnds};
     ghost use Rattle.cell_rules.specs.cell_changes.Slots.{slots};
     ghost use Rattle.cell_rules.specs.cell_values.Edits.{IsFirst, IsFirstTouched, RefusesFor, EditEnds};
-    ghost use Rattle.cell_store.specs.edit_store.Stored.{AreTouched, AreLost, IsStored, IsAdvanced, IsBack};
-    ghost use Rattle.cell_rules.specs.edit_sites.Replaced.{put_back};
+    ghost use Rattle.cell_store.specs.edit_store.Stored.{AreTouched, IsStored, IsAdvanced, IsBack};
+    ghost use Rattle.cell_store.specs.edit_store.Planned.{IsMadeOf};
     ghost use Rattle.cell_store.specs.edit_store.Applied.{IsApplied, IsTaken, IsRefused, IsWorkOf, IsShown, IsHidden, EndsInEdit};
 
     /// A store of one network, by the order of its servers: each cell's value is made once. Refused for the first cell
@@ -108,6 +122,7 @@ impl<V: CellValue + Drop> Store<V> {
         Ok(Store {
             alloc,
             replaced: Vec::new(alloc),
+            order: Vec::from_slice(alloc, order).ok(),
             spare: Spare::of(alloc, &net),
             present: net,
             values,
@@ -148,11 +163,8 @@ impl<V: CellValue + Drop> Store<V> {
         eval: &mut E,
     ) -> Result<(), AnalysisFault>
         requires room { length self.old.before < 2 ^ 32 - 1 }
-        requires change { changed planned.change self.old.present ≡ planned.net }
-        requires back { put_back planned.replaced planned.net ≡ self.old.present }
-        requires spared { put_back planned.spared planned.net ≡ self.old.present }
+        requires made { IsMadeOf self.old.present planned }
         requires touched { AreTouched self.old.present planned.net planned.touched.items }
-        requires gone { AreLost self.old.present planned.net planned.gone.items }
         ensures advanced { OnOk result (IsAdvanced self.old planned.net self.new) }
         ensures kept { OnErr result (self.new ≡ self.old) }
         ensures refused { IfErr result (RefusesFor (IsFirstTouched planned.net planned.touched.items)) }
@@ -173,6 +185,7 @@ impl<V: CellValue + Drop> Store<V> {
         edited_values(self.alloc, &mut self.values, &net, gone, touched, eval)?;
         push_within_room(&mut self.replaced, planned.replaced);
         push_within_room(&mut self.spare.replaced, planned.spared);
+        self.order = Some(planned.order);
         let before = replace(&mut self.present, net);
         self.spare.follow(before, planned.change);
         Ok(())
@@ -183,6 +196,7 @@ impl<V: CellValue + Drop> Store<V> {
         ensures { MatchOption result ((self.old.before ≡ []) × (self.new ≡ self.old)) (λ _. IsBack self.old self.new) }
     {
         let replaced = self.replaced.pop()?;
+        self.order = order_back(self.order.take(), &replaced);
         let present = replace(&mut self.present, no_network(self.alloc));
         self.present = put_back(present, replaced);
         self.spare.go_back(&self.present);
@@ -199,7 +213,8 @@ impl<V: CellValue + Drop> Store<V> {
         ensures spends { Spends E.count E.counter (IsWorkOf self.old.present edit.now) EditFault.NoMemory
             (EndsInEdit self.old.present edit.now (⟦<Store<V> as Table<V>>⟧.at self.old)) eval.old eval.new result }
     {
-        let planned = plan(self.alloc, &self.present, &mut self.spare, edit)?;
+        let (present, known) = (&self.present, &self.order);
+        let planned = plan(self.alloc, present, known, &mut self.spare, edit)?;
         let cells = planned.touched.len() as u32;
         match self.advance(planned, eval) {
             Ok(()) => Ok(cells),

@@ -21,7 +21,7 @@ returns-then-by_links c =
 pub returns : goal.returns
 returns c =
     let one = c.if-by_links.false in
-    total_same c.args.old.now c.args.new.now c.args.server c.args.queue false false c.same_hops.result
+    total_same c.args.old.now c.args.new.now c.args.server c.args.queue false false c.same_meant.result
     (sym c.is_by_links-by_links.ensures ∙ one)
     (sym c.is_by_links.ensures ∙ sym (same_bits c.is_by_links-by_links.result c.is_by_links.result c.if-by_links-is_by_links.false) ∙ one)
-    (total_tells c.args.old.now c.args.new.now c.args.server c.args.queue c.same_hops.result c.same_hops.ensures)
+    (total_tells c.args.old.now c.args.new.now c.args.server c.args.queue c.same_meant.result c.same_meant.ensures)

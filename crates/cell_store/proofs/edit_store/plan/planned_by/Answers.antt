@@ -8,11 +8,11 @@ returns-clause-planned c = record {
   few = c.in_ok-touched.ensures.few;
 }
 
-pub returns-clause-lost : goal.returns-clause-lost
-returns-clause-lost c = c.in_ok-gone.ensures
-
-pub returns-clause-back : goal.returns-clause-back
-returns-clause-back c = c.in_ok-replaced.ensures c.args.net c.requires.gives
-
-pub returns-clause-spared : goal.returns-clause-spared
-returns-clause-spared c = c.in_ok-spared.ensures c.args.net ∙ c.in_ok-replaced.ensures c.args.net c.requires.gives
+pub returns-clause-made : goal.returns-clause-made
+returns-clause-made c = record {
+  order = c.requires.order;
+  change = c.requires.change;
+  lost = c.in_ok-gone.ensures;
+  back = c.in_ok-replaced.ensures c.args.net c.requires.gives;
+  spared = c.in_ok-spared.ensures c.args.net ∙ c.in_ok-replaced.ensures c.args.net c.requires.gives;
+}

@@ -1,5 +1,5 @@
 use Rattle.std.proofs.Common.{◌≡◌, ℕ, ◌<◌, ◌^◌, length, ◌++◌, ◌-◌, ◌∷◌, [], List, false, refl, ap, ◌∙◌, subst, sym, sum_by}
-use Rattle.std.specs.Prelude.{Contains}
+use Rattle.std.specs.Prelude.{Contains, Some}
 use Rattle.std.proofs.lemmas.Result.{IfOk-from_err, err_from_is_err_and}
 use Rattle.outcomes.proofs.Spending.{spends_answer, spends_refusal, spends_stopped}
 use Rattle.net_model.specs.Networks.{Net}
@@ -51,7 +51,7 @@ edited_values-requires-clause-edit g c =
 pub edited_values-requires-clause-gone : goal.edited_values-requires-clause-gone
 edited_values-requires-clause-gone g c =
     subst (λ (cells : List Cell). (d : Cell) → Contains cells d → (has_cell c.args.planned.net d ≡ false) × HasSlot d) (sym c.deref.ensures.value)
-    c.requires.gone.only
+    c.requires.made.lost.only
 
 -- ---- refused: all is as it was
 abbrev seen : {V : Type 0} → List Replaced → Net → History V → Stored V
@@ -91,7 +91,7 @@ returns-in_err-edited_values-clause-advanced g c = IfOk-from_err c.from_residual
 pub follow-requires : goal.follow-requires
 follow-requires g c =
     subst (λ (n : Net). IsAccepted (change.changed c.args.planned.change n)) (sym c.replace-before.ensures.value)
-    (subst IsAccepted (sym c.requires.change ∙ ap (λ s. change.changed c.args.planned.change s.present) (sym c.self.view_is)) c.keeps-2.ensures)
+    (subst IsAccepted (sym c.requires.made.change ∙ ap (λ s. change.changed c.args.planned.change s.present) (sym c.self.view_is)) c.keeps-2.ensures)
 
 -- ---- one network more
 pub invariant_of-self-2 : goal.invariant_of-self-2
@@ -108,7 +108,7 @@ invariant_of-self-2 g c =
     (subst (λ (n : Net). AreTouched n c.args.planned.net c.args.planned.touched.items) present c.requires.touched) in
     let lost : AreLost fields.present c.args.planned.net gone =
     subst (λ (cells : List Cell). AreLost fields.present c.args.planned.net cells) (sym c.deref.ensures.value)
-    (subst (λ (n : Net). AreLost n c.args.planned.net c.args.planned.gone.items) present c.requires.gone) in
+    (subst (λ (n : Net). AreLost n c.args.planned.net c.args.planned.gone.items) present c.requires.made.lost) in
     let more : c.push_within_room.new.list.items ≡ fields.replaced.items ++ c.args.planned.replaced ∷ [] =
     c.push_within_room.ensures ∙ ap (λ (rs : List Replaced). rs ++ c.args.planned.replaced ∷ []) c.reserve.ensures.items in
     let longer : c.follow.new.self.replaced.items ≡ fields.spare.replaced.items ++ c.args.planned.spared ∷ [] =
@@ -117,22 +117,23 @@ invariant_of-self-2 g c =
     let held = holds_edited meaning fields.present c.args.planned.net gone touched was.newest now.newest edit lost
     c.self.invariant.kept.stored.now c.in_ok-edited_values.ensures.table in
     let follows : change.changed c.args.planned.change c.replace-before.result ≡ c.args.planned.net =
-    ap (change.changed c.args.planned.change) (c.replace-before.ensures.value ∙ sym present) ∙ c.requires.change in
-    subst (λ (n : Net). IsHeld meaning c.follow.new.self.net c.follow.new.self.replaced.items c.push_within_room.new.list.items n now)
+    ap (change.changed c.args.planned.change) (c.replace-before.ensures.value ∙ sym present) ∙ c.requires.made.change in
+    subst (λ (n : Net). IsHeld meaning c.follow.new.self.net c.follow.new.self.replaced.items c.push_within_room.new.list.items (Some c.args.planned.order) n now)
     (sym c.replace-before.ensures.after)
     (record {
+      order = c.requires.made.order;
       kept = kept_more meaning fields.replaced.items c.push_within_room.new.list.items c.args.planned.replaced fields.present c.args.planned.net was now
-          c.self.invariant.kept c.keeps.ensures more (c.requires.back ∙ present) c.in_ok-edited_values.ensures.before held;
+          c.self.invariant.kept c.keeps.ensures more (c.requires.made.back ∙ present) c.in_ok-edited_values.ensures.before held;
       beside = beside_more fields.spare.net c.follow.new.self.net fields.spare.replaced.items c.follow.new.self.replaced.items
           fields.replaced.items c.push_within_room.new.list.items c.args.planned.spared c.args.planned.replaced fields.present c.args.planned.net c.self.invariant.beside longer
-          more (c.requires.spared ∙ present) (c.requires.back ∙ present)
+          more (c.requires.made.spared ∙ present) (c.requires.made.back ∙ present)
           (subst (IsSameAs c.follow.new.self.net) follows c.follow.ensures.same);
     })
 
 pub returns-clause-advanced : goal.returns-clause-advanced
 returns-clause-advanced g c =
     let fields = c.self.inside in
-    let back : put_back c.args.planned.replaced c.args.planned.net ≡ fields.present = c.requires.back ∙ ap (λ s. s.present) (sym c.self.view_is) in
+    let back : put_back c.args.planned.replaced c.args.planned.net ≡ fields.present = c.requires.made.back ∙ ap (λ s. s.present) (sym c.self.view_is) in
     let more : c.push_within_room.new.list.items ≡ fields.replaced.items ++ c.args.planned.replaced ∷ [] =
     c.push_within_room.ensures ∙ ap (λ (rs : List Replaced). rs ++ c.args.planned.replaced ∷ []) c.reserve.ensures.items in
     subst (λ (n : Net). IsAdvanced c.args.self.now c.args.planned.net (seen c.push_within_room.new.list.items n c.edited_values.new.values.versions))

@@ -7,8 +7,9 @@ use Rattle.net_cells.specs.Work.{work}
 use Rattle.net_cells.specs.MemoryEnds.{EndsAtCell, at_none, at_cell}
 use Rattle.cell_rules.specs.cell_values.Placed.{placed}
 use Rattle.cell_rules.specs.declared.edit_sites.replaced.Replaced.{Replaced}
-use Rattle.cell_store.specs.edit_store.Kept.{IsKept}
+use Rattle.cell_store.specs.edit_store.Kept.{IsKept, IsOrderOf}
 use Rattle.cell_store.proofs.edit_store.Begun.{first_edit, first_stored}
+use Rattle.cell_store.proofs.edit_store.Ordered.{order_if_made}
 use Rattle.cell_store.proofs.edit_store.PutBack.{first_kept, first_beside}
 use Rattle.cell_store.proofs.edit_store.store.Store.new.Goals as goal
 
@@ -23,6 +24,8 @@ invariant_of-result g c =
     let meaning = g.V.CellValue.meaning in
     let values = c.made_anew.new.values.versions in
     record {
+      order = subst (λ o. IsOrderOf o c.args.net) (sym c.ok.ensures.value)
+          (order_if_made c.from_slice.result c.args.net c.args.order.now c.from_slice.ensures c.requires);
       kept = subst (λ (rs : List Replaced). IsKept meaning rs c.args.net values) (sym c.new-2.ensures.items)
           (first_kept meaning c.args.net values
           (first_stored meaning c.args.net c.args.order.now c.deref.result.now

@@ -65,17 +65,8 @@ returns-in_err-planned-clause-refused g c =
 pub returns-in_err-planned-clause-kept : goal.returns-in_err-planned-clause-kept
 returns-in_err-planned-clause-kept g c = in_any c.from_residual.result _ c.self.view_is
 
-pub advance-requires-clause-back : goal.advance-requires-clause-back
-advance-requires-clause-back g c = c.in_ok-planned.ensures.back
-
-pub advance-requires-clause-change : goal.advance-requires-clause-change
-advance-requires-clause-change g c = c.in_ok-planned.ensures.change
-
-pub advance-requires-clause-spared : goal.advance-requires-clause-spared
-advance-requires-clause-spared g c = c.in_ok-planned.ensures.spared
-
-pub advance-requires-clause-gone : goal.advance-requires-clause-gone
-advance-requires-clause-gone g c = c.in_ok-planned.ensures.lost
+pub advance-requires-clause-made : goal.advance-requires-clause-made
+advance-requires-clause-made g c = c.in_ok-planned.ensures.made
 
 -- ---- refused by a cell
 pub returns-in-Err-clause-refused : goal.returns-in-Err-clause-refused

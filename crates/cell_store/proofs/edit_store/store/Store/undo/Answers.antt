@@ -4,7 +4,7 @@ use Rattle.net_model.specs.Networks.{Net}
 use Rattle.net_model.specs.Accepted.{IsAccepted}
 use Rattle.version_table.specs.Histories.{IsUndone}
 use Rattle.cell_rules.specs.edit_sites.Replaced.{put_back}
-use Rattle.cell_store.specs.edit_store.Kept.{IsKept}
+use Rattle.cell_store.specs.edit_store.Kept.{IsKept, IsOrderOf}
 use Rattle.cell_store.proofs.edit_store.Steps.{was_undone}
 use Rattle.cell_store.proofs.edit_store.PutBack.{last_accepted, kept_less, count_before, then_back, gone_back, is_present, one_back, beside_less, some_beside}
 use Rattle.cell_store.proofs.edit_store.store.Store.undo.Given.{Over}
@@ -59,6 +59,8 @@ invariant_of-self-2 g c =
     let less = c.go_back.ensures.fewer in
     let back : IsUndone fields.values.versions now = was_undone _ _ _ _ c.undo.result c.undo.ensures (is_kept g at.After-undo) in
     record {
+      order = subst (λ (n : Net). IsOrderOf c.order_back.result n) (sym (present g at.After-put_back))
+          (c.order_back.ensures fields.present (subst (λ o. IsOrderOf o fields.present) (sym c.take.ensures.value) c.self.invariant.order));
       kept = subst (λ (n : Net). IsKept g.V.CellValue.meaning c.pop.new.self.items n now) (sym (present g at.After-put_back))
           (kept_less g.V.CellValue.meaning fields.replaced.items c.pop.new.self.items last fields.present
           fields.values.versions now c.self.invariant.kept c.in_ok-replaced.ensures.items back.kept);
