@@ -51,6 +51,7 @@ pub mod TailGrids
 pub mod Worked
 pub mod LowerWindows
 pub mod JoinedPieces
+pub mod Passing
 pub mod LowerLoop
 pub mod Existing
 pub mod StepsFit

@@ -1,5 +1,5 @@
 -- The walk over two windows that makes the pieces of the lower, those left out that go on with the one before them.
-use Rattle.std.specs.Prelude.{◌≡◌, ◌≤◌, List, [], ◌∷◌, length}
+use Rattle.std.specs.Prelude.{◌≡◌, ◌≤◌, List, [], ◌∷◌, ◌++◌, length}
 use Rattle.std.proofs.Common.{refl}
 use Rattle.rational.specs.Rational.{ℚ}
 use Rattle.upp_curve.specs.declared.affine_segment.line.Piece.{Piece}
@@ -9,6 +9,8 @@ use Rattle.curve_call.specs.Walk.{IsStep}
 use Rattle.curve_call.specs.Made.{HasParts}
 use Rattle.curve_call.specs.Lower.{LowerFits, IsLowerOf}
 use Rattle.curve_call.specs.Joining.{JoinsTo}
+use Rattle.curve_call.specs.Alone.{PassesLeft, PassesRight}
+use Rattle.curve_call.proofs.Passing.{past_left, past_right}
 use Rattle.curve_call.proofs.JoinedPieces.{joined_lower}
 use Rattle.curve_call.proofs.LowerWindows.{lower_is}
 use Rattle.curve_call.proofs.MadeLoop.{MadeLoop, made_start, made_step, made_end}
@@ -27,6 +29,18 @@ pub lower_step : (f g : List Piece) (to : ℚ) (w v : Walk) (kept more : List Pi
 lower_step f g to w v kept more L ends H S =
     let (after, P, J) = H L.all L.joins in
     record { all = after; made = made_step Lower f g to w v L.all after L.made ends P S; joins = J }
+
+pub lower_left : (f g : List Piece) (w v : Walk) (kept more : List Piece) (L : LowerLoop f g w kept)
+    → ((all : List Piece) → JoinsTo all kept → (passed : List Piece) × PassesLeft f g passed w v × JoinsTo (all ++ passed) more) → LowerLoop f g v more
+lower_left f g w v kept more L H =
+    let (passed, P, J) = H L.all L.joins in
+    record { all = L.all ++ passed; made = past_left f g passed w v L.all P L.made; joins = J }
+
+pub lower_right : (f g : List Piece) (w v : Walk) (kept more : List Piece) (L : LowerLoop f g w kept)
+    → ((all : List Piece) → JoinsTo all kept → (passed : List Piece) × PassesRight f g passed w v × JoinsTo (all ++ passed) more) → LowerLoop f g v more
+lower_right f g w v kept more L H =
+    let (passed, P, J) = H L.all L.joins in
+    record { all = L.all ++ passed; made = past_right f g passed w v L.all P L.made; joins = J }
 
 pub lower_end : (f g : List Piece) (end : ℚ) (w : Walk) (kept found : List Piece) → LowerFits end f g → LowerLoop f g w kept → length f ≤ w.i → length g ≤ w.j
     → ((all : List Piece) → JoinsTo all kept → (after : List Piece) × HasParts Lower w.here end all after × JoinsTo after found) → IsLowerOf f g end found

@@ -105,15 +105,16 @@ pub next_fewer : (k : Made) (f g : List Piece) (w v : Walk) (out : List Piece) �
     → (length f - v.i) + (length g - v.j) < (length f - w.i) + (length g - w.j)
 next_fewer k f g w v out L S = step_fewer f g (L.before ++ w.here ∷ []) w v L.walk S
 
-pub made_step : (k : Made) (f g : List Piece) (to : ℚ) (w v : Walk) (out more : List Piece) → MadeLoop k f g w out → ((u : Walk) → IsStep f g w u → u.here.left.x ≡ to) → HasParts k w.here to out more
-    → IsStep f g w v → MadeLoop k f g v more
-made_step k f g to w v out more L ends (parts, P, e) S = record {
+pub made_next : (k : Made) (f g : List Piece) (w v : Walk) (out more : List Piece) → MadeLoop k f g w out → HasParts k w.here v.here.left.x out more → IsStep f g w v → MadeLoop k f g v more
+made_next k f g w v out more L (parts, P, e) S = record {
   before = L.before ++ w.here ∷ [];
   walk = overlay_step f g (L.before ++ w.here ∷ []) w v L.walk S;
-  made =
-      subst (AreMade k (L.before ++ w.here ∷ []) v.here.left.x) (sym e)
-      (made_more k L.before w.here v.here.left.x out parts L.made (subst (λ x. IsParts k w.here x parts) (sym (ends v S)) P));
+  made = subst (AreMade k (L.before ++ w.here ∷ []) v.here.left.x) (sym e) (made_more k L.before w.here v.here.left.x out parts L.made P);
 }
+
+pub made_step : (k : Made) (f g : List Piece) (to : ℚ) (w v : Walk) (out more : List Piece) → MadeLoop k f g w out → ((u : Walk) → IsStep f g w u → u.here.left.x ≡ to) → HasParts k w.here to out more
+    → IsStep f g w v → MadeLoop k f g v more
+made_step k f g to w v out more L ends P S = made_next k f g w v out more L (subst (λ x. HasParts k w.here x out more) (sym (ends v S)) P) S
 
 pub made_end : (k : Made) (f g : List Piece) (end : ℚ) (w : Walk) (out all : List Piece) → MadeLoop k f g w out → length f ≤ w.i → length g ≤ w.j → HasParts k w.here end out all
     → IsMadeWindow k f g end all

@@ -17,7 +17,7 @@ IsLeft f g w = (w.i < length f) ⊎ (w.j < length g)
 none_before : (x : ℚ) (ps : List Piece) (i : ℕ) → slice_get ps i ≡ None → IsBeforeAt x ps i
 none_before x ps i e = subst (λ o. IfSome o (λ p. x <ℚ p.x)) (sym e) tt
 
-some_before : (x : ℚ) (ps : List Piece) (i : ℕ) (p : Piece) → slice_get ps i ≡ Some p → x <ℚ p.x → IsBeforeAt x ps i
+pub some_before : (x : ℚ) (ps : List Piece) (i : ℕ) (p : Piece) → slice_get ps i ≡ Some p → x <ℚ p.x → IsBeforeAt x ps i
 some_before x ps i p e h = subst (λ o. IfSome o (λ p. x <ℚ p.x)) (sym e) h
 
 left_on : (f g : List Piece) (w : Walk) (p : Piece) → slice_get f w.i ≡ Some p → IsBeforeAt p.x g w.j → (v : Walk) × IsStep f g w v

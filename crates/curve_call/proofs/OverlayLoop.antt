@@ -16,7 +16,7 @@ use Rattle.curve_call.proofs.Walks.{WalkOf, walk_start, walk_take, walk_cut, wal
 use Rattle.upp_curve.proofs.affine_segment.NextPiece.{none_left}
 
 -- ---- the pieces that are left
-drop_got : (ps : List Piece) (i : ℕ) (p : Piece) → slice_get ps i ≡ Some p → drop i ps ≡ p ∷ drop (i + 1) ps
+pub drop_got : (ps : List Piece) (i : ℕ) (p : Piece) → slice_get ps i ≡ Some p → drop i ps ≡ p ∷ drop (i + 1) ps
 drop_got [] i p e = let none : None ≡ Some p = e in cc
 drop_got (q ∷ qs) zero p e = let found : Some q ≡ Some p = e in let same : q ≡ p = cc in ap (λ z. z ∷ qs) same
 drop_got (q ∷ qs) (suc i) p e =

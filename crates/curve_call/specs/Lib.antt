@@ -27,5 +27,6 @@ pub mod Made
 pub mod Operands
 pub mod Worked
 pub mod Joining
+pub mod Alone
 pub mod Lower
 pub mod Existing

@@ -70,7 +70,7 @@ fn goes_on_last(kept: &[Piece], q: &Piece) -> bool
 
 // Adds a piece, unless it goes on with the last one.
 #[inline(always)]
-fn join(kept: &mut Vec<Piece>, q: Piece) -> Result<(), AllocError>
+pub(crate) fn join(kept: &mut Vec<Piece>, q: Piece) -> Result<(), AllocError>
     ensures { OnOk result ((all : List SpecPiece) → JoinsTo all kept.old.items → JoinsTo (all ++ q ∷ []) kept.new.items) }
 {
     if goes_on_last(kept, &q) {

@@ -3,6 +3,7 @@
 //! determined.
 #![tactic(auto)]
 
+mod alone;
 mod answers;
 mod between;
 mod bounds;

@@ -88,7 +88,7 @@ pub(crate) fn stretch_end(f: &[Piece], g: &[Piece], w: &Walk, end: Frac) -> Frac
 
 // Takes a piece part by part: as a whole it is so long that copying it would be a call.
 #[inline(always)]
-fn take(into: &mut Piece, p: &Piece)
+pub(crate) fn take(into: &mut Piece, p: &Piece)
     ensures { into.new ≡ p.now }
 {
     into.x = p.x;

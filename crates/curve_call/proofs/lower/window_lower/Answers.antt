@@ -2,7 +2,7 @@ use Rattle.curve_call.specs.declared.made.Made.TheVariants.{Lower}
 use Rattle.curve_call.proofs.OverlayLoop.{started}
 use Rattle.curve_call.proofs.MadeLoop.{walk_fits, last_fits, steps_fit, next_fewer}
 use Rattle.curve_call.proofs.LowerWindows.{lower_steps}
-use Rattle.curve_call.proofs.LowerLoop.{lower_start, lower_step, lower_end}
+use Rattle.curve_call.proofs.LowerLoop.{lower_start, lower_step, lower_left, lower_right, lower_end}
 use Rattle.curve_call.proofs.lower.window_lower.Goals as goal
 
 pub loop-walk-init : goal.loop-walk-init
@@ -23,6 +23,16 @@ join_parts-requires-2 c =
 
 pub loop-walk-smaller : goal.loop-walk-smaller
 loop-walk-smaller c = next_fewer Lower c.args.f.now c.args.g.now c.loop-walk.walk c.step.new.w _ c.loop-walk.invariant.made c.step.ensures
+
+pub loop-walk-preserved-then-i-walk : goal.loop-walk-preserved-then-i-walk
+loop-walk-preserved-then-i-walk c =
+    lower_left c.args.f.now c.args.g.now c.loop-walk.walk c.pass_left.new.w c.loop-walk.kept.items _ c.loop-walk.invariant
+    (λ all J. c.in_ok-pass_left.ensures.passed c.args.g.now all c.alone_until-i.ensures.early J)
+
+pub loop-walk-preserved-then-j-walk : goal.loop-walk-preserved-then-j-walk
+loop-walk-preserved-then-j-walk c =
+    lower_right c.args.f.now c.args.g.now c.loop-walk.walk c.pass_right.new.w c.loop-walk.kept.items _ c.loop-walk.invariant
+    (λ all J. c.in_ok-pass_right.ensures.passed c.args.f.now all c.alone_until-j.ensures.early J)
 
 pub loop-walk-preserved : goal.loop-walk-preserved
 loop-walk-preserved c =
