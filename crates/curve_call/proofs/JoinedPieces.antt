@@ -1,8 +1,11 @@
 -- Pieces of which those are left out that go on with the one before them: how more are added, and what they read as.
-use Rattle.std.specs.Prelude.{◌≡◌, ◌-◌, ◌≤◌, ◌⊎◌, List, [], ◌∷◌, ◌++◌, length, Some, None, slice_get}
-use Rattle.std.proofs.Common.{arith, sym, ap, ◌∙◌, refl, subst, inl, inr}
+use Rattle.std.specs.Prelude.{◌≡◌, Bool, true, false, not, ◌-◌, ◌≤◌, ◌⊎◌, List, [], ◌∷◌, ◌++◌, length, Some, None, slice_get}
+use Rattle.std.proofs.Common.{arith, sym, ap, ap₂, ◌∙◌, refl, subst, inl, inr}
 use Rattle.rational.specs.Rational.{ℚ, ◌≤ℚ◌, ◌<ℚ◌}
+use Rattle.rational.specs.Extended.{Ext, ◌≤ₑ◌, min_ext}
+use Rattle.rational.specs.declared.Extended.TheVariants.{Fin}
 use Rattle.rational.proofs.Laws.{le_or_lt, le_of_lt}
+use Rattle.rational.proofs.ExtendedOrder.{min_ext_of_le, min_ext_comm}
 use Rattle.upp_curve.specs.declared.affine_segment.line.Piece.{Piece}
 use Rattle.upp_curve.specs.Normal.{Continues}
 use Rattle.upp_curve.specs.Steady.{last_of}
@@ -15,6 +18,9 @@ use Rattle.upp_curve.proofs.PieceLoops.{last_is}
 use Rattle.upp_normal.specs.Normalising.{IsPart}
 use Rattle.upp_normal.proofs.NormaliseForm.{each_part}
 use Rattle.upp_normal.proofs.NormaliseMerge.{skip}
+use Rattle.curve_call.specs.declared.stretch.Both.{Both}
+use Rattle.curve_call.specs.declared.made.Made.TheVariants.{Lower}
+use Rattle.curve_call.specs.Made.{first_piece}
 use Rattle.curve_call.specs.Lower.{IsLowerPiece, IsLowerOf}
 use Rattle.curve_call.specs.Joining.{GoesOnLast, JoinsAfter, JoinsTo}
 
@@ -45,6 +51,21 @@ left_of (p ∷ ps) kept last q (more, e, J) h C =
 
 pub joined_left : (all kept there : List Piece) (q : Piece) → there ≡ kept → GoesOnLast there q → JoinsTo all kept → JoinsTo (all ++ q ∷ []) kept
 joined_left all kept there q same (last, e, C) J = left_of all kept last q J (subst (λ z. slice_get z (length z - 1) ≡ Some last) same e) C
+
+-- ---- the beginning of a stretch
+pub lesser_left : (v w : Ext) (x y : ℚ) → v ≡ Fin x → w ≡ Fin y → x ≤ℚ y → min_ext v w ≡ v
+lesser_left v w x y e k h = min_ext_of_le v w (subst (λ z. z ≤ₑ w) (sym e) (subst (λ z. Fin x ≤ₑ z) (sym k) h))
+
+pub lesser_right : (v w : Ext) (x y : ℚ) → v ≡ Fin x → w ≡ Fin y → y ≤ℚ x → min_ext v w ≡ w
+lesser_right v w x y e k h = min_ext_comm v w ∙ lesser_left w v y x k e h
+
+-- the piece of the lower line, and the lesser value
+pub first_of : (below : Bool) (b : Both) (own other : Piece) → b.left.x ≡ b.right.x → (below ≡ true → own ≡ b.left) → (below ≡ false → own ≡ b.right) → (not below ≡ true → other ≡ b.left)
+    → (not below ≡ false → other ≡ b.right) → record { x = own.x; at = min_ext own.at other.at; line = own.line } ≡ first_piece Lower below b
+first_of true b own other same l r m s = ap₂ (λ (p q : Piece). record { x = p.x; at = min_ext p.at q.at; line = p.line }) (l refl) (s refl)
+first_of false b own other same l r m s =
+    ap₂ (λ (p q : Piece). record { x = p.x; at = min_ext p.at q.at; line = p.line }) (r refl) (m refl)
+    ∙ ap₂ (λ x v. record { x = x; at = v; line = b.right.line }) (sym same) (min_ext_comm b.right.at b.left.at)
 
 -- ---- what they read as
 -- those that are kept after p

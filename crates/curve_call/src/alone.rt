@@ -84,7 +84,7 @@ fn pass(kept: &mut Vec<Piece>, here: &mut Piece, run: &[Piece]) -> Result<(), Al
     ensures { OnOk result ((front : List SpecPiece) × (run.now ≡ front ++ here.new ∷ [])
         × ((all : List SpecPiece) → JoinsTo all kept.old.items → JoinsTo (all ++ here.old ∷ front) kept.new.items)) }
 {
-    join(kept, *here)?;
+    join(kept, here)?;
     let last = run.len() - 1;
     let (front, _) = run.split_at(last);
     kept.extend_from_slice(front)?;

@@ -1,7 +1,8 @@
 //! How two lines lie on an open stretch.
 
-ghost use Rattle.std.specs.Prelude.{◌≡◌, ◌≢◌, Some, None, IfSome};
+ghost use Rattle.std.specs.Prelude.{◌≡◌, ◌≢◌, true, Some, None, IfSome};
 ghost use Rattle.upp_curve.specs.declared.affine_segment.line.Line.{Line};
+ghost use Rattle.rational.specs.Rational.{ℚ, den};
 ghost use Rattle.curve_call.specs.Lies.{IsLie, LiesBy, MeetsAt, CrossFits};
 
 use crate::short::short_product;
@@ -26,15 +27,15 @@ fn throughout(below: bool) -> Lie
     Lie { below, turn: None }
 }
 
-// Of two lines with one slope.
+// Which of two lines with one slope is nowhere above the other.
 #[inline(always)]
-fn parallel_lie(a: &Line, b: &Line, from: Frac, to: Frac) -> Lie
+fn parallel_order(a: &Line, b: &Line) -> bool
     requires { a.now.slope ≡ b.now.slope }
-    ensures { IsLie (Some a.now) (Some b.now) from to result }
+    ensures { (from to : ℚ) → LiesBy result (Some a.now) (Some b.now) from to None }
 {
     match a.icept.cmp(&b.icept) {
-        Ordering::Greater => throughout(false),
-        _ => throughout(true),
+        Ordering::Greater => false,
+        _ => true,
     }
 }
 
@@ -54,13 +55,24 @@ fn meeting_lie(rises: bool, x: Frac, from: Frac, to: Frac) -> Lie
     }
 }
 
+// Whether the numbers of a line are whole.
+#[inline(always)]
+fn are_whole(line: &Line) -> bool
+    ensures { result ≡ true → (den line.now.icept ≡ 1) × (den line.now.slope ≡ 1) }
+{
+    line.icept.denominator() == 1 && line.slope.denominator() == 1
+}
+
 // Which of two lines is nowhere above the other from one time to another, where products of short numbers tell that: their
-// slopes' difference times both times is then on one side of what they are apart at 0.
+// slopes' difference times both times is then on one side of what they are apart at 0. Of fractions no difference is made.
 #[inline(always)]
 fn order_between(a: &Line, b: &Line, from: Frac, to: Frac) -> Option<bool>
     requires { CrossFits (Some a.now) (Some b.now) }
     ensures { IfSome result (λ below. LiesBy below (Some a.now) (Some b.now) from to None) }
 {
+    if !are_whole(a) || !are_whole(b) {
+        return None;
+    }
     let apart = difference(b.icept, a.icept);
     let closing = difference(a.slope, b.slope);
     let first = short_product(closing, from)?;
@@ -88,16 +100,53 @@ fn lie_by_meeting(a: &Line, b: &Line, from: Frac, to: Frac) -> Lie
 }
 
 #[inline(always)]
-fn lie_of_lines(a: &Line, b: &Line, from: Frac, to: Frac) -> Lie
+fn order_of_lines(a: &Line, b: &Line, from: Frac, to: Frac) -> Option<bool>
+    requires { CrossFits (Some a.now) (Some b.now) }
+    ensures { IfSome result (λ below. LiesBy below (Some a.now) (Some b.now) from to None) }
+{
+    if a.slope == b.slope {
+        return Some(parallel_order(a, b));
+    }
+    order_between(a, b, from, to)
+}
+
+/// Which of the lines of a stretch is nowhere above the other up to its end, where that is told without the time at which
+/// they meet.
+#[inline(always)]
+pub(crate) fn order_of(b: &Both, to: Frac) -> Option<bool>
+    requires { CrossFits b.now.left.line b.now.right.line }
+    ensures { IfSome result (λ below. LiesBy below b.now.left.line b.now.right.line b.now.left.x to None) }
+{
+    match &b.right.line {
+        None => Some(true),
+        Some(m) => match &b.left.line {
+            None => Some(false),
+            Some(l) => order_of_lines(l, m, b.left.x, to),
+        },
+    }
+}
+
+fn meeting_of_lines(a: &Line, b: &Line, from: Frac, to: Frac) -> Lie
     requires { CrossFits (Some a.now) (Some b.now) }
     ensures { IsLie (Some a.now) (Some b.now) from to result }
 {
     if a.slope == b.slope {
-        return parallel_lie(a, b, from, to);
+        return throughout(parallel_order(a, b));
     }
-    match order_between(a, b, from, to) {
-        Some(below) => throughout(below),
-        None => lie_by_meeting(a, b, from, to),
+    lie_by_meeting(a, b, from, to)
+}
+
+/// How the lines of a stretch lie, up to its end, by the time at which they meet.
+pub(crate) fn meeting_of(b: &Both, to: Frac) -> Lie
+    requires { CrossFits b.now.left.line b.now.right.line }
+    ensures { IsLie b.now.left.line b.now.right.line b.now.left.x to result }
+{
+    match &b.right.line {
+        None => throughout(true),
+        Some(m) => match &b.left.line {
+            None => throughout(false),
+            Some(l) => meeting_of_lines(l, m, b.left.x, to),
+        },
     }
 }
 
@@ -107,11 +156,8 @@ pub(crate) fn lie_of(b: &Both, to: Frac) -> Lie
     requires { CrossFits b.now.left.line b.now.right.line }
     ensures { IsLie b.now.left.line b.now.right.line b.now.left.x to result }
 {
-    match &b.right.line {
-        None => throughout(true),
-        Some(m) => match &b.left.line {
-            None => throughout(false),
-            Some(l) => lie_of_lines(l, m, b.left.x, to),
-        },
+    match order_of(b, to) {
+        Some(below) => throughout(below),
+        None => meeting_of(b, to),
     }
 }

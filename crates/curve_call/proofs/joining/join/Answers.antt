@@ -4,7 +4,7 @@ use Rattle.curve_call.proofs.JoinedPieces.{joined_kept, joined_left}
 use Rattle.curve_call.proofs.joining.join.Goals as goal
 
 pub returns-then-goes_on_last : goal.returns-then-goes_on_last
-returns-then-goes_on_last c = λ all J. joined_left all _ c.deref.result.now c.args.q c.deref.ensures.value (c.goes_on_last.ensures c.if-goes_on_last.true) J
+returns-then-goes_on_last c = λ all J. joined_left all _ c.deref.result.now c.args.q.now c.deref.ensures.value (c.goes_on_last.ensures c.if-goes_on_last.true) J
 
 pub returns : goal.returns
-returns c = λ all J. subst (JoinsTo (all ++ c.args.q ∷ [])) (sym c.in_ok-push.ensures.items) (joined_kept all _ c.args.q J)
+returns c = λ all J. subst (JoinsTo (all ++ c.args.q.now ∷ [])) (sym c.in_ok-push.ensures.items) (joined_kept all _ c.args.q.now J)

@@ -1,23 +1,12 @@
 use Rattle.std.proofs.Common.{refl}
+use Rattle.std.specs.Prelude.{None}
 use Rattle.curve_call.specs.declared.made.Made.TheVariants.{Lower}
-use Rattle.curve_call.proofs.MadeLoop.{turn_fits, one_pushed, two_pushed}
+use Rattle.curve_call.proofs.MadeLoop.{one_pushed}
 use Rattle.curve_call.proofs.joining.join_parts.Goals as goal
 
-pub readable_line-at-requires : goal.readable_line-at-requires
-readable_line-at-requires c =
-    turn_fits Lower c.args.b.now c.args.to c.in-Some.x c.lie_of-lie.result c.lower_line-line.result.now c.requires c.lie_of-lie.ensures c.in-Some.is c.lower_line-line.ensures
-
-pub returns-in-None : goal.returns-in-None
-returns-in-None c = λ all J. (
+pub returns-in_ok-join_first-in-Some : goal.returns-in_ok-join_first-in-Some
+returns-in_ok-join_first-in-Some c = λ all J. (
   _,
-  one_pushed Lower c.args.b.now c.args.to all _ c.lie_of-lie.result c.made_values.result c.lower_line.result.now c.lie_of-lie.ensures c.in-None.is c.made_values.ensures c.lower_line.ensures refl,
-  c.in_ok-join.ensures all J,
-)
-
-pub returns-in_ok-join-in-Some : goal.returns-in_ok-join-in-Some
-returns-in_ok-join-in-Some c = λ all J. (
-  _,
-  two_pushed Lower c.args.b.now c.args.to c.in-Some.x all _ _ c.lie_of-lie.result c.made_values.result c.readable_line-at.result c.lower_line.result.now c.lower_line-line.result.now c.lie_of-lie.ensures c.in-Some.is
-      c.made_values.ensures c.lower_line.ensures refl c.lower_line-line.ensures c.readable_line-at.ensures refl,
-  c.in_ok-join-in-Some.ensures _ (c.in_ok-join.ensures all J),
+  one_pushed Lower c.args.b.now c.args.to all _ record { below = c.in-Some.below; turn = None } _ _ c.in-Some.ensures refl refl refl refl,
+  c.in_ok-join_first-in-Some.ensures all J,
 )

@@ -12,13 +12,13 @@ loop-walk-init c =
 pub step-requires-clause-fits : goal.step-requires-clause-fits
 step-requires-clause-fits c = walk_fits Lower c.args.f.now c.args.g.now c.loop-walk.walk _ c.requires.cuts c.loop-walk.invariant.made
 
-pub join_parts-requires : goal.join_parts-requires
-join_parts-requires c =
+pub join_parts-requires-clause-fits : goal.join_parts-requires-clause-fits
+join_parts-requires-clause-fits c =
     steps_fit Lower c.args.f.now c.args.g.now c.args.end c.stretch_end-to.result c.loop-walk.walk _ (lower_steps c.args.f.now c.args.g.now c.args.end c.requires.fits) c.loop-walk.invariant.made
     c.stretch_end-to.ensures.some c.stretch_end-to.ensures.next
 
-pub join_parts-requires-2 : goal.join_parts-requires-2
-join_parts-requires-2 c =
+pub join_parts-requires-2-clause-fits : goal.join_parts-requires-2-clause-fits
+join_parts-requires-2-clause-fits c =
     last_fits Lower c.args.f.now c.args.g.now c.args.end c.loop-walk.walk _ (lower_steps c.args.f.now c.args.g.now c.args.end c.requires.fits) c.loop-walk.invariant.made
 
 pub loop-walk-smaller : goal.loop-walk-smaller
