@@ -11,3 +11,4 @@ pub mod LeftWindow
 pub mod ShiftCall
 pub mod Nowhere
 pub mod StraightSums
+pub mod Noughts

@@ -10,6 +10,7 @@ ghost use Rattle.upp_curve.specs.Unrolled.{unroll};
 ghost use Rattle.curve_call.specs.Pointwise.{IsWindowSum};
 ghost use Rattle.curve_call.specs.Frames.{IsFrame};
 
+use crate::pointwise::nought::is_nought;
 use crate::pointwise::straight::{straight_of, sum_straight};
 use curve_call::{Answered, Frame, framed_answer, rise_over, window_sum, within};
 use outcomes::Steps;
@@ -36,11 +37,18 @@ fn pieces_of_sum(
     window_sum(alloc, &left, &right)
 }
 
-// The sum of two curves whose call is within both limits.
+// The sum of two curves whose call is within both limits. Of a curve and the one that is 0 at each time it is that curve
+// once more, with no window.
 fn sum_within(alloc: Global, f: &Curve, g: &Curve, frame: &Frame) -> Result<Curve, AllocError>
     requires { IsFrame OpKind.Sum f.now g.now 0 0 frame.now }
     ensures { IfOk result (λ c. (t : ℚ) → int (pos 0) ≤ℚ t → IsSum (value_at f.now) (value_at g.now) t (value_at c t)) }
 {
+    if is_nought(f) {
+        return g.copy();
+    }
+    if is_nought(g) {
+        return f.copy();
+    }
     let pieces = pieces_of_sum(alloc, f, g, frame)?;
     let first = rise_over(f, frame.period);
     let second = rise_over(g, frame.period);

@@ -1,4 +1,4 @@
-use Rattle.std.proofs.Common.{◌∙◌, refl, sym, ap₂, subst}
+use Rattle.std.proofs.Common.{◌≡◌, ◌∙◌, refl, sym, ap₂, subst}
 use Rattle.rational.specs.Rational.{ℚ, ◌+ℚ◌}
 use Rattle.rational.specs.Ratio.{SumFits}
 use Rattle.upp_curve.specs.Steady.{rise_over}
@@ -6,8 +6,19 @@ use Rattle.upp_curve.specs.Unrolled.{unroll}
 use Rattle.upp_limits.specs.declared.op_kind.OpKind.TheVariants.{Sum}
 use Rattle.upp_normal.proofs.NormaliseForm.{ok_map}
 use Rattle.curve_call.specs.Frames.{sizes_at}
+use Rattle.plain_operators.proofs.pointwise.Noughts.{nought_left, nought_right}
 use Rattle.plain_operators.proofs.pointwise.SumCall.{sum_call, rises_fit, sum_answer, sum_values}
 use Rattle.plain_operators.proofs.pointwise.sums.sum_within.Goals as goal
+
+pub returns-then-is_nought : goal.returns-then-is_nought
+returns-then-is_nought c =
+    let f = c.args.f.now in let g = c.args.g.now in
+    ok_map c.copy.result (λ d. d ≡ g) _ (λ d same t low. nought_left f g d t (c.is_nought.ensures c.if-is_nought.true) same low) c.copy.ensures
+
+pub returns-then-is_nought-2 : goal.returns-then-is_nought-2
+returns-then-is_nought-2 c =
+    let f = c.args.f.now in let g = c.args.g.now in
+    ok_map c.copy-then-is_nought-2.result (λ d. d ≡ f) _ (λ d same t low. nought_right f g d t (c.is_nought-2.ensures c.if-is_nought-2.true) same low) c.copy-then-is_nought-2.ensures
 
 pub rise_over-first-requires : goal.rise_over-first-requires
 rise_over-first-requires c = (sum_call c.args.f.now c.args.g.now c.args.frame.now c.requires).left_rise.fits
