@@ -1,7 +1,7 @@
 -- A star of a segment that the zero curve makes nothing of: where few numbers tell that the calls on it are within their
 -- limits, its convolution with the zero curve is the zero curve.
 use Rattle.std.specs.Prelude.{◌≡◌, ◌≢◌, ℕ, zero, suc, ◌+◌, ◌*◌, ◌<◌, ◌≤◌, ◌^◌, pos, Bool, true, false, List, [], ◌∷◌, length, Option, Some, None, Ok}
-use Rattle.std.proofs.Common.{arith, get_or, refl, ap, ◌∙◌, sym, subst, inl, inr}
+use Rattle.std.proofs.Common.{arith, refl, ap, ◌∙◌, sym, subst, inl, inr}
 use native.Mathlib.Nat.{mul-le-mul}
 use Rattle.rational.specs.Rational.{ℚ, ◌+ℚ◌, ◌*ℚ◌, ◌≤ℚ◌, ◌<ℚ◌, int}
 use Rattle.rational.specs.Extended.{Ext, ◌≤ₑ◌, ◌<ₑ◌, ◌+ₑ◌}
@@ -29,7 +29,6 @@ use Rattle.upp_curve.specs.declared.curve.Tail.{Tail}
 use Rattle.upp_curve.specs.declared.curve.Tail.TheVariants.{Periodic, Affine, Infinite}
 use Rattle.upp_curve.specs.Curve.{SpecCurve, value_at}
 use Rattle.upp_curve.specs.Curves.{IsCurve}
-use Rattle.upp_curve.specs.Kinds.{piece}
 use Rattle.upp_curve.specs.Normal.{IsNormal}
 use Rattle.upp_curve.specs.affine_segment.Pieces.{Each, StartsAtZero}
 use Rattle.upp_curve.specs.Steady.{Repeats, last_line, later_unless, rate, slope_of, steady}
@@ -52,7 +51,7 @@ use Rattle.subadd_closure.specs.ElementClosures.{IsSegmentClosure, Turn}
 use Rattle.subadd_closure.specs.ElementCurves.{all_stretches, falling_closure, level_closure, line_times, rising_closure, turn}
 use Rattle.subadd_closure.specs.Folds.{CopiedAnswer, ElementAnswer, LeavesAsIs, LoweredAnswer, SegmentWithin, segment_number}
 use Rattle.subadd_closure.specs.FoldWork.{copies_work, part_work}
-use Rattle.subadd_closure.specs.IdleParts.{ClosureLeaves, IsZeroPiece, LeavesZero}
+use Rattle.subadd_closure.specs.IdleParts.{ClosureLeaves, LeavesZero}
 use Rattle.subadd_closure.specs.Lattices.{origin_curve}
 use Rattle.subadd_closure.specs.PartStars.{turn_of}
 use Rattle.subadd_closure.specs.SegmentLimits.{IsElementOf}
@@ -578,23 +577,3 @@ work_alone (Some k) is = absurd cc
 
 pub part_alone : (f : SpecCurve) (e : Element) → turn_of (part_of f.tail e).copies ≡ None → part_work (part_of f.tail e) ≡ 1
 part_alone f e is = work_alone (copies_of f.tail e) is
-
--- ---- the zero curve, by its one piece and its tail
-one_piece : (ps : List Piece) (p : Piece) → length ps ≡ 1 → p ≡ get_or ps 0 p → ps ≡ p ∷ []
-one_piece [] p one is = absurd (omega (arith, one))
-one_piece (q ∷ []) p one is = ap (λ x. x ∷ []) (sym is)
-one_piece (q ∷ r ∷ rs) p one is = absurd (omega (arith, one))
-
-piece_is : (p : Piece) → IsZeroPiece p → p ≡ piece zero_q zero_q zero_q zero_q
-piece_is p h =
-    let first = λ (x : ℚ). let q : Piece = record { x = x; at = p.at; line = p.line } in q in
-    let second = λ (v : Ext). let q : Piece = record { x = zero_q; at = v; line = p.line } in q in
-    let third = λ (o : Option Line). let q : Piece = record { x = zero_q; at = Fin zero_q; line = o } in q in
-    ap first h.start ∙ ap second h.at ∙ ap third h.line
-
-pub zero_is : (c : SpecCurve) (ps : List Piece) (p : Piece) (rank : ℚ) → ps ≡ c.pieces → c.tail ≡ Affine rank → length ps ≡ 1
-    → p ≡ get_or ps 0 p → rank ≡ zero_q → IsZeroPiece p → c ≡ zero_curve
-zero_is c ps p rank same tail one is none h =
-    let first = λ (qs : List Piece). let d : SpecCurve = record { pieces = qs; tail = c.tail } in d in
-    let second = λ (t : Tail). let d : SpecCurve = record { pieces = piece zero_q zero_q zero_q zero_q ∷ []; tail = t } in d in
-    ap first (sym same ∙ one_piece ps p one is ∙ ap (λ q. q ∷ []) (piece_is p h)) ∙ ap second (tail ∙ ap Affine none)

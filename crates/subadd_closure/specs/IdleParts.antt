@@ -1,10 +1,8 @@
 -- Elements whose stars leave the zero curve as it is, in the calls of the fold. Own choice.
-use Rattle.std.specs.Prelude.{◌≡◌, Some, Ok}
+use Rattle.std.specs.Prelude.{Ok}
 use Rattle.rational.specs.Rational.{ℚ}
 use Rattle.rational.specs.Extended.{Ext}
-use Rattle.rational.specs.declared.Extended.TheVariants.{Fin}
 use Rattle.upp_curve.specs.declared.affine_segment.line.Line.{Line}
-use Rattle.upp_curve.specs.declared.affine_segment.line.Piece.{Piece}
 use Rattle.upp_curve.specs.declared.affine_segment.element.Element.{Element}
 use Rattle.upp_curve.specs.declared.affine_segment.element.Element.TheVariants.{Open}
 use Rattle.upp_curve.specs.Curve.{SpecCurve}
@@ -15,12 +13,6 @@ use Rattle.curve_call.specs.Levels.{level_curve}
 use Rattle.subadd_closure.specs.ElementAnswers.{IsElementClosure}
 use Rattle.subadd_closure.specs.Folds.{SegmentWithin, segment_number}
 use Rattle.subadd_closure.specs.Lattices.{origin_curve}
-
--- 0 from 0 on
-pub record IsZeroPiece (p : Piece) : Type 0 where
-  pub start : p.x ≡ zero_q
-  pub at : p.at ≡ Fin zero_q
-  pub line : (let l : Line = record { icept = zero_q; slope = zero_q } in p.line ≡ Some l)
 
 -- c, lowered by the point 0 at 0, leaves the zero curve as it is
 pub record LeavesZero (c : SpecCurve) : Type 0 where

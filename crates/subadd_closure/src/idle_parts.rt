@@ -14,7 +14,7 @@ ghost use Rattle.curve_call.specs.Levels.{level_curve};
 ghost use Rattle.subadd_closure.specs.CurveParts.{part_of};
 ghost use Rattle.subadd_closure.specs.Folds.{LeavesAsIs};
 ghost use Rattle.subadd_closure.specs.FoldWork.{part_work};
-ghost use Rattle.subadd_closure.specs.IdleParts.{IsIdleSegment, IsZeroPiece};
+ghost use Rattle.subadd_closure.specs.IdleParts.{IsIdleSegment};
 ghost use Rattle.subadd_closure.specs.PartStars.{turn_of};
 ghost use Rattle.subadd_closure.specs.SegmentLimits.{IsElementOf, IsOwnGauge};
 
@@ -22,64 +22,10 @@ use crate::multiples::{value_on, whole_times};
 use crate::overlaps::overlap;
 use crate::part_stars::turn_of;
 use fraction128::{Ext, Frac, is_less};
+use plain_operators::pointwise::is_nought;
 use rational::Extended;
-use upp_curve::affine_segment::{Element, Line, Piece};
-use upp_curve::{Curve, Tail};
-
-// Whether a number is 0.
-fn is_nought(x: Frac) -> bool
-    ensures { IsTrue result → x ≡ zero_q }
-{
-    x == Frac::zero()
-}
-
-// Whether a line is 0 throughout.
-fn is_zero_line(line: &Line) -> bool
-    ensures { IsTrue result → (line.now.icept ≡ zero_q) × (line.now.slope ≡ zero_q) }
-{
-    if is_nought(line.icept) {
-        return is_nought(line.slope);
-    }
-    false
-}
-
-// Whether a piece is 0 from 0 on.
-fn is_zero_piece(p: &Piece) -> bool
-    ensures { IsTrue result → IsZeroPiece p.now }
-{
-    let Some(line) = p.line else {
-        return false;
-    };
-    let Extended::Fin(v) = p.at else {
-        return false;
-    };
-    if !is_nought(p.x) {
-        return false;
-    }
-    if !is_nought(v) {
-        return false;
-    }
-    is_zero_line(&line)
-}
-
-// Whether a curve is the zero curve.
-fn is_zero(c: &Curve) -> bool
-    ensures { IsTrue result → c.now ≡ level_curve zero_q }
-{
-    let pieces = c.pieces();
-    if pieces.len() != 1 {
-        return false;
-    }
-    match c.tail() {
-        Tail::Affine { rank } => {
-            if is_nought(*rank) {
-                return is_zero_piece(&pieces[0]);
-            }
-            false
-        }
-        _ => false,
-    }
-}
+use upp_curve::Curve;
+use upp_curve::affine_segment::{Element, Line};
 
 // Whether the numbers of the calls on the star of a segment are known to be small, by the gauge of its curve and by how many
 // stretches of its sums end before the next begins.
@@ -174,7 +120,7 @@ pub(crate) fn leaves_as_is(f: &Curve, gauge: Option<u128>, sofar: &Curve, e: &El
     ensures leaves { IsTrue result → LeavesAsIs f.now sofar.now (part_of f.now.tail e.now) }
     ensures work { IsTrue result → part_work (part_of f.now.tail e.now) ≡ 1 }
 {
-    if !is_zero(sofar) {
+    if !is_nought(sofar) {
         return false;
     }
     let Some(own) = gauge else {

@@ -18,4 +18,4 @@ returns-in-None-clause-work c told =
     (sym (c.turn_of.ensures ∙ ap (λ t. turn_of (copies_of t c.args.e.now)) c.tail.ensures.tail) ∙ c.in-None.is)
 
 pub is_idle-requires-clause-zero : goal.is_idle-requires-clause-zero
-is_idle-requires-clause-zero c = c.is_zero.ensures c.if-not-is_zero.false
+is_idle-requires-clause-zero c = c.is_nought.ensures c.if-not-is_nought.false
