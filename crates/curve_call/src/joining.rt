@@ -69,7 +69,7 @@ fn goes_on_last(kept: &[Piece], q: &Piece) -> bool
     }
 }
 
-// Adds a piece, unless it goes on with the last one.
+// Adds a piece, unless it goes on with the last one; part by part, since copying it as a whole would be a call.
 #[inline(always)]
 pub(crate) fn join(kept: &mut Vec<Piece>, q: &Piece) -> Result<(), AllocError>
     ensures { OnOk result ((all : List SpecPiece) → JoinsTo all kept.old.items → JoinsTo (all ++ q.now ∷ []) kept.new.items) }
@@ -77,7 +77,11 @@ pub(crate) fn join(kept: &mut Vec<Piece>, q: &Piece) -> Result<(), AllocError>
     if goes_on_last(kept, q) {
         return Ok(());
     }
-    kept.push(*q)?;
+    kept.push(Piece {
+        x: q.x,
+        at: q.at,
+        line: q.line,
+    })?;
     Ok(())
 }
 
