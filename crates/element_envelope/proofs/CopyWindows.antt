@@ -1,14 +1,14 @@
 -- The window of the least of copies: of one start, and from those of two halves of the starts; and the convolution of it.
 use Rattle.std.specs.Prelude.{◌≡◌, ◌⊎◌, ◌≤◌, ℕ, drop, pos, List, [], ◌∷◌, ◌++◌, Option, Some, None, Result, Ok, Err, IfOk, IfSome, Vec}
-use Rattle.std.proofs.Common.{arith, sym, ap, ◌∙◌, refl, subst, inl, inr, length, get_or, Global}
+use Rattle.std.proofs.Common.{arith, sym, ap, ap₂, ◌∙◌, refl, subst, inl, inr, length, get_or, Global}
 use Rattle.rational.specs.Rational.{ℚ, ◌+ℚ◌, ◌-ℚ◌, ◌≤ℚ◌, ◌<ℚ◌, int, neg_ℚ}
 use Rattle.rational.specs.Ratio.{SumFits}
 use Rattle.rational.specs.Extended.{Ext, ◌≤ₑ◌, ◌<ₑ◌, ◌+ₑ◌, min_ext}
 use Rattle.rational.specs.declared.Extended.TheVariants.{Fin, Inf}
 use Rattle.rational.proofs.Grid.{whole_int}
 use Rattle.rational.proofs.Laws.{le_or_lt, le_of_lt, le_refl}
-use Rattle.rational.proofs.Linear.{with3, with4}
-use Rattle.rational.proofs.ExtendedOrder.{add_ext_comm}
+use Rattle.rational.proofs.Linear.{with1, with3, with4}
+use Rattle.rational.proofs.ExtendedOrder.{add_ext_comm, zero_add_ext}
 use Rattle.upp_curve.specs.declared.affine_segment.line.Line.{Line}
 use Rattle.upp_curve.specs.declared.affine_segment.line.Piece.{Piece}
 use Rattle.upp_curve.specs.affine_segment.Pieces.{Each, StartsAtZero}
@@ -27,7 +27,7 @@ use Rattle.upp_normal.proofs.UnrolledPieces.{each_with}
 use Rattle.curve_call.specs.Lower.{IsLowerOf}
 use Rattle.element_envelope.specs.ConvolutionWindows.{OperandWindows, IsConvolutionWindow, WindowPiece, WindowsFrom, IsConvolutionFrom}
 use Rattle.element_envelope.specs.Copies.{IsLeastCopy, LowAtStarts}
-use Rattle.element_envelope.specs.CopyWindows.{CopyRoom, IsCopyWindow, HaveWindowRoom}
+use Rattle.element_envelope.specs.CopyWindows.{CopyRoom, IsCopyWindow, HaveWindowRoom, IsUnmoved, CopyBeside, IsLowerWithCopy}
 use Rattle.element_envelope.specs.CopyPieces.{copy_start, skipped}
 use Rattle.element_envelope.specs.ElementRoom.{WindowTime}
 use Rattle.element_envelope.specs.JoinedWindows.{lead_of}
@@ -37,7 +37,7 @@ use Rattle.element_envelope.specs.OneSide.{IsOneSided}
 use Rattle.element_envelope.specs.Turnings.{IsThinned, AreCopies}
 use Rattle.element_envelope.proofs.Arching.{same_arches, lesser_arches, nothing_arches}
 use Rattle.element_envelope.proofs.LeastCopies.{copy_rules}
-use Rattle.element_envelope.proofs.CopyArches.{copy_arches}
+use Rattle.element_envelope.proofs.CopyArches.{copy_arches, operand_arches}
 use Rattle.element_envelope.proofs.CopyReads.{copy_pieces, copy_starts, copy_before, copy_after, lead_upto, copy_stands, copy_fits}
 use Rattle.element_envelope.proofs.ElementSizes.{time_gap_fits}
 use Rattle.element_envelope.proofs.OperandElements.{operand_pieces}
@@ -46,6 +46,7 @@ use Rattle.element_envelope.proofs.EnvelopeHalves.{LowerReady, lower_ready}
 use Rattle.element_envelope.proofs.PairWindows.{LatePiece, early_piece}
 use Rattle.element_envelope.proofs.NearCopies.{each_without}
 use Rattle.element_envelope.proofs.OneSide.{one_side_suffices}
+use Rattle.element_envelope.proofs.OwnWindows.{own_window}
 use Rattle.element_envelope.proofs.StartSplits.{turned_split}
 use Rattle.element_envelope.proofs.StartTurns.{turns_suffice}
 use Rattle.element_envelope.proofs.SumLower.{sum_lower}
@@ -161,6 +162,29 @@ pub ok_none : {E : Type 0} (r : Result (Vec Piece Global) E) (from end : ℚ) (p
     → IfOk r (λ w. w.items ≡ nothing_at (int (pos 0)) ∷ []) → IfOk r (λ w. IsCopyWindow from end ps g w.items)
 ok_none (Ok w) from end ps g h k = subst (IsCopyWindow from end ps g) (sym k) h
 ok_none (Err e) from end ps g h k = k
+
+-- one that is moved nowhere is what is copied
+pub unmoved_is : (from end : ℚ) (p : Piece) (g : List Piece) → IsUnmoved p → CopyRoom from end (p ∷ []) g → IsCopyWindow from end (p ∷ []) g g
+unmoved_is from end p g U o = record {
+  starts = o.copied.starts;
+  reads = λ t low late high. subst (IsLeastCopy (p ∷ []) g t) (same t) (copy_rules.one p g t (subst (λ x. x ≤ℚ t) (sym U.start) low));
+  stands = λ r. own_window r.sizes end g r.copied;
+  arches = λ r. operand_arches r.sizes end end g r.copied;
+}
+  where
+    same : (t : ℚ) → p.at +ₑ read g (t -ℚ p.x) ≡ read g t
+    same t =
+        ap₂ (λ (v : Ext) (x : ℚ). v +ₑ read g (t -ℚ x)) U.at U.start ∙ zero_add_ext (read g (t -ℚ int (pos 0)))
+        ∙ ap (λ s. read g s) (with1 t (λ c. omega (arith, c.le, c.lt, c.same)))
+
+-- beside pieces that are made
+pub with_copy_ready : (from end : ℚ) (ms : List Piece) (p : Piece) (g ws : List Piece) → CopyBeside from end ms p g → IsCopyWindow from end (p ∷ []) g ws → LowerReady end ms ws
+with_copy_ready from end ms p g ws B W = lower_ready B.room.sizes end ms ws B.room.limited B.made (W.stands B.room)
+
+pub ok_with_copy : {E : Type 0} (r : Result (Vec Piece Global) E) (from end : ℚ) (ms : List Piece) (p : Piece) (g ws : List Piece) → IsCopyWindow from end (p ∷ []) g ws
+    → IfOk r (λ w. IsLowerOf ms ws end w.items) → IfOk r (λ w. IsLowerWithCopy from end ms p g w.items)
+ok_with_copy (Ok w) from end ms p g ws W k = record { copy = ws; is = W; lower = k }
+ok_with_copy (Err e) from end ms p g ws W k = k
 
 -- ---- lists of no start, and of one
 pub empty_is : (ps : List Piece) → length ps ≡ 0 → ps ≡ []
@@ -306,10 +330,9 @@ pub record SideCopies (from end : ℚ) (f g ks a b : List Piece) : Type 0 where
   pub copies : IsCopyWindow from end ks g a
   pub own : IsCopyWindow from end (piece ∷ []) f b
 
-pub side_ready : (from end : ℚ) (f g ks a b : List Piece) → WindowsFrom from end f g → SideCopies from end f g ks a b → LowerReady end a b
+pub side_beside : (from end : ℚ) (f g ks a more : List Piece) (p : Piece) → IsOneSided f g ks → g ≡ p ∷ more → IsCopyWindow from end ks g a → WindowsFrom from end f g → CopyBeside from end a p f
 unfolding side_room own_room
-side_ready from end f g ks a b r S =
-    lower_ready r.sizes end a b r.limited (S.copies.stands (side_room from end f g ks S.sided r)) (S.own.stands (own_room from end f g S.more S.piece S.first r))
+side_beside from end f g ks a more p O e A r = record { room = own_room from end f g more p e r; made = A.stands (side_room from end f g ks O r) }
 
 pub side_convolves : (from end : ℚ) (f g ks a b qs : List Piece) → WindowsFrom from end f g → LowAtStarts f → LowAtStarts g → SideCopies from end f g ks a b → IsLowerOf a b end qs → IsConvolutionFrom f g from end qs
 unfolding side_room own_room

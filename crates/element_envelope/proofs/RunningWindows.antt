@@ -26,7 +26,7 @@ use Rattle.upp_normal.proofs.AnswerRoom.{operand_line_fits}
 use Rattle.curve_call.specs.Lower.{IsLowerOf}
 use Rattle.element_envelope.specs.Arches.{IsBare, Arches}
 use Rattle.element_envelope.specs.ConvolutionWindows.{WindowPiece, WindowsFrom, IsConvolutionFrom}
-use Rattle.element_envelope.specs.CopyWindows.{IsCopyWindow, HaveWindowRoom}
+use Rattle.element_envelope.specs.CopyWindows.{IsCopyWindow, HaveWindowRoom, CopyBeside}
 use Rattle.element_envelope.specs.ElementRoom.{WindowTime}
 use Rattle.element_envelope.specs.RunningLines.{moved_to, MovesTo, line_from, reached, passed, running_piece, running, StartsBelow, IsOneLine, RunningRoom, StepRoom}
 use Rattle.element_envelope.specs.SumWindows.{SumStart, SumLineAt, SumPiece, SumWindow}
@@ -34,7 +34,6 @@ use Rattle.element_envelope.proofs.Arching.{around_low, line_middle, same_arches
 use Rattle.element_envelope.proofs.CopyReads.{line_later_stands, copy_fits}
 use Rattle.element_envelope.proofs.CopyWindows.{own_room, single_is}
 use Rattle.element_envelope.proofs.ElementSizes.{rise_whole, rise_within, sum_within}
-use Rattle.element_envelope.proofs.EnvelopeHalves.{LowerReady, lower_ready}
 use Rattle.element_envelope.proofs.RunningLines.{running_suffices}
 use Rattle.element_envelope.proofs.SumLower.{sum_lower}
 use Rattle.element_envelope.proofs.SumSteps.{line_value_on}
@@ -201,10 +200,9 @@ lines_stand from end f g l a O e r =
 lines_arch : (from end : ℚ) (f g : List Piece) (l : Line) (a : List Piece) → a ≡ running l Inf None f → (r : WindowsFrom from end f g) → Arches r.sizes.dt end (read a)
 lines_arch from end f g l a e r = subst (λ z. Arches r.sizes.dt end (read z)) (sym e) (running_arches r.sizes end l f r.left.starts r.left.each)
 
-pub line_ready : (from end : ℚ) (f g : List Piece) (l : Line) (a b : List Piece) → WindowsFrom from end f g → LineCopies from end f g l a b → LowerReady end a b
+pub line_beside : (from end : ℚ) (f g : List Piece) (l : Line) (a : List Piece) (p : Piece) → (O : IsOneLine l g) → O.piece ≡ p → a ≡ running l Inf None f → WindowsFrom from end f g → CopyBeside from end a p f
 unfolding own_room
-line_ready from end f g l a b r C =
-    lower_ready r.sizes end a b r.limited (lines_stand from end f g l a C.line C.lines r) (C.own.stands (own_room from end f g [] C.line.piece C.line.is r))
+line_beside from end f g l a p O s e r = record { room = own_room from end f g [] p (O.is ∙ ap (λ z. z ∷ []) s) r; made = lines_stand from end f g l a O e r }
 
 pub line_convolves : (from end : ℚ) (f g : List Piece) (l : Line) (a b qs : List Piece) → WindowsFrom from end f g → LineCopies from end f g l a b → IsLowerOf a b end qs → IsConvolutionFrom f g from end qs
 unfolding own_room

@@ -7,7 +7,7 @@ ghost use Rattle.element_envelope.specs.Copies.{LowAtStarts};
 ghost use Rattle.element_envelope.specs.CopyWindows.{CopyRoom, IsCopyWindow};
 ghost use Rattle.element_envelope.specs.Turnings.{AreCopies};
 
-use crate::copies::{copy_window, least_copies};
+use crate::copies::{least_copies, lower_with_copy};
 use crate::cutting::cut;
 use crate::least::{MadePieces, envelope};
 use crate::near::{lowest, near_starts};
@@ -78,8 +78,7 @@ fn by_one_side(
         return Ok(None);
     };
     let copies = near_copies(alloc, &starts, g, from, end)?;
-    let own = copy_window(alloc, &g[0], f, from, end)?;
-    Ok(Some(window_lower(alloc, &copies, &own, end)?))
+    Ok(Some(lower_with_copy(alloc, &copies, &g[0], f, from, end)?))
 }
 
 // By copies: at the starts of one of both alone, where that is enough.
@@ -136,8 +135,7 @@ fn by_line(
         return Ok(None);
     };
     let lines = running_lines(alloc, &line, f)?;
-    let own = copy_window(alloc, &g[0], f, from, end)?;
-    Ok(Some(window_lower(alloc, &lines, &own, end)?))
+    Ok(Some(lower_with_copy(alloc, &lines, &g[0], f, from, end)?))
 }
 
 /// The convolution of two windows, at each time from `from` on and before `end`, as pieces. Are both nowhere above the

@@ -1,6 +1,6 @@
 //! The least of copies of pieces, each moved to the start of another piece and as high as the value there.
 
-ghost use Rattle.std.specs.Prelude.{[], ◌≡◌, ◌∷◌, ◌++◌, IfOk};
+ghost use Rattle.std.specs.Prelude.{[], ◌≡◌, ◌∷◌, ◌++◌, IfOk, IsTrue};
 ghost use Rattle.rational.specs.Rational.{◌-ℚ◌, neg_ℚ};
 ghost use Rattle.rational.specs.Ratio.{SumFits};
 ghost use Rattle.upp_curve.specs.affine_segment.Pieces.{Each};
@@ -8,9 +8,10 @@ ghost use Rattle.upp_curve.specs.Fitting.{LaterFits};
 ghost use Rattle.upp_curve.specs.Unrolled.{each_later, upto};
 ghost use Rattle.element_envelope.specs.JoinedWindows.{lead_of};
 ghost use Rattle.element_envelope.specs.CopyWindows.{CopyRoom, IsCopyWindow};
+ghost use Rattle.element_envelope.specs.CopyWindows.{IsUnmoved, CopyBeside, IsLowerWithCopy};
 ghost use Rattle.element_envelope.specs.CopyPieces.{copy_start, skipped};
 
-use crate::least::nothing;
+use crate::least::{MadePieces, nothing};
 use crate::window::lead;
 use curve_call::window_lower;
 use fraction128::{Frac, difference, is_less, sum};
@@ -18,6 +19,7 @@ use rational::Extended;
 use std::alloc::{AllocError, Global};
 use upp_curve::affine_segment::Piece;
 use upp_curve::fitting::later;
+use upp_curve::same::same_ext;
 use upp_normal::count_before;
 
 // Where the first of some pieces starts when it is moved x later; x where there is none.
@@ -105,4 +107,33 @@ pub(crate) fn least_copies(
         return window_lower(alloc, &f, &g, end);
     }
     copy_window(alloc, &starts[0], pieces, from, end)
+}
+
+// Whether the copy at a start is what is copied: it is moved nowhere. From a later time on it is not, for pieces are left
+// out of it then.
+fn is_unmoved(start: &Piece, from: Frac) -> bool
+    ensures { IsTrue result → IsUnmoved start.now }
+{
+    let zero = Frac::zero();
+    from == zero && start.x == zero && same_ext(start.at, Extended::Fin(zero))
+}
+
+/// The lesser of pieces that are made and of the copy at one start. Where that is what is copied, as at the start of a
+/// bucket, none is made: it may be as large as all else. Only a lack of memory is an error.
+pub(crate) fn lower_with_copy(
+    alloc: Global,
+    made: &[Piece],
+    start: &Piece,
+    pieces: &[Piece],
+    from: Frac,
+    end: Frac,
+) -> MadePieces
+    requires { CopyBeside from end made.now start.now pieces.now }
+    ensures { IfOk result (λ w. IsLowerWithCopy from end made.now start.now pieces.now w.items) }
+{
+    if is_unmoved(start, from) {
+        return window_lower(alloc, made, pieces, end);
+    }
+    let copy = copy_window(alloc, start, pieces, from, end)?;
+    window_lower(alloc, made, &copy, end)
 }

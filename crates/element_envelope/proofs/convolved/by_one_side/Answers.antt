@@ -3,8 +3,7 @@ use Rattle.std.proofs.Common.{sym, subst, Global}
 use Rattle.upp_curve.specs.declared.affine_segment.line.Piece.{Piece}
 use Rattle.element_envelope.specs.CopyWindows.{IsCopyWindow}
 use Rattle.element_envelope.specs.OneSide.{IsOneSided}
-use Rattle.element_envelope.proofs.CopyWindows.{SideCopies, first_operand, second_operand, first_is, side_room, own_room, side_ready, side_convolves}
-use Rattle.element_envelope.proofs.convolved.by_one_side.Goals.{After-deref-3}
+use Rattle.element_envelope.proofs.CopyWindows.{first_operand, second_operand, first_is, side_room, side_beside, side_convolves}
 use Rattle.element_envelope.proofs.convolved.by_one_side.Goals as goal
 
 pub starts_of_one_side-requires-clause-first : goal.starts_of_one_side-requires-clause-first
@@ -21,31 +20,24 @@ pub near_copies-requires-clause-room : goal.near_copies-requires-clause-room
 near_copies-requires-clause-room c =
     side_room c.args.from c.args.end c.args.f.now c.args.g.now c.deref.result.now (side_starts _ c.in-Some.starts c.args.f.now c.args.g.now c.deref.result.now c.in-Some.is c.deref.ensures.value c.in_ok-starts.ensures) c.requires.windows
 
-pub copy_window-requires : goal.copy_window-requires
-copy_window-requires c =
+pub lower_with_copy-requires : goal.lower_with_copy-requires
+lower_with_copy-requires c =
     let H = first_is c.args.g.now c.index-g-0.result c.requires.windows.right.starts c.index-g-0.is in
-    own_room c.args.from c.args.end c.args.f.now c.args.g.now H.0 c.index-g-0.result H.1 c.requires.windows
+    side_beside c.args.from c.args.end c.args.f.now c.args.g.now c.deref.result.now c.deref-2.result.now H.0 c.index-g-0.result
+    (side_starts _ c.in-Some.starts c.args.f.now c.args.g.now c.deref.result.now c.in-Some.is c.deref.ensures.value c.in_ok-starts.ensures) H.1
+    (subst (IsCopyWindow c.args.from c.args.end c.deref.result.now c.args.g.now) (sym c.deref-2.ensures.value) c.in_ok-copies.ensures) c.requires.windows
 
-copies : (c : After-deref-3) → SideCopies c.args.from c.args.end c.args.f.now c.args.g.now c.deref.result.now c.deref-2.result.now c.deref-3.result.now
-copies c =
+pub returns : goal.returns
+returns c =
     let H = first_is c.args.g.now c.index-g-0.result c.requires.windows.right.starts c.index-g-0.is in
+    let L = c.in_ok-lower_with_copy.ensures in
+    side_convolves c.args.from c.args.end c.args.f.now c.args.g.now c.deref.result.now c.deref-2.result.now L.copy _ c.requires.windows c.requires.left c.requires.right
     record {
       sided = side_starts _ c.in-Some.starts c.args.f.now c.args.g.now c.deref.result.now c.in-Some.is c.deref.ensures.value c.in_ok-starts.ensures;
       piece = c.index-g-0.result;
       more = H.0;
       first = H.1;
       copies = subst (IsCopyWindow c.args.from c.args.end c.deref.result.now c.args.g.now) (sym c.deref-2.ensures.value) c.in_ok-copies.ensures;
-      own = subst (IsCopyWindow c.args.from c.args.end _ c.args.f.now) (sym c.deref-3.ensures.value) c.in_ok-own.ensures;
+      own = L.is;
     }
-
-pub window_lower-requires-clause-cuts : goal.window_lower-requires-clause-cuts
-window_lower-requires-clause-cuts c =
-    (side_ready c.args.from c.args.end c.args.f.now c.args.g.now c.deref.result.now _ _ c.requires.windows (copies (goal.at.window_lower-requires-clause-cuts c).After-deref-3)).cuts
-
-pub window_lower-requires-clause-fits : goal.window_lower-requires-clause-fits
-window_lower-requires-clause-fits c =
-    (side_ready c.args.from c.args.end c.args.f.now c.args.g.now c.deref.result.now _ _ c.requires.windows (copies (goal.at.window_lower-requires-clause-fits c).After-deref-3)).fits
-
-pub returns : goal.returns
-returns c =
-    side_convolves c.args.from c.args.end c.args.f.now c.args.g.now c.deref.result.now _ _ _ c.requires.windows c.requires.left c.requires.right (copies (goal.at.returns c).After-deref-3) c.in_ok-window_lower.ensures
+    L.lower
