@@ -14,4 +14,5 @@ pub mod PartSteps
 pub mod PartSums
 pub mod PathSteps
 pub mod SharedCounts
+pub mod LastServices
 pub mod OperatorStopping

@@ -1,5 +1,6 @@
 pub mod Tallies
 pub mod Sharing
+pub mod Recent
 pub mod Partial
 pub mod Parts
 pub mod Evaluates

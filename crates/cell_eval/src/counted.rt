@@ -1,6 +1,7 @@
 //! The evaluator of the program.
 
 use crate::inputs::Inputs;
+use crate::recent::Recent;
 use net_cells::Cell;
 use net_cells::cell_table::{Evaluator, Table, Value};
 use net_model::Network;
@@ -9,11 +10,13 @@ use std::alloc::Global;
 use std::sync::ledger::Ledger;
 use upp_limits::OpFault;
 
-/// Makes values by the definitions, and counts each operator on curves in the caller's counter.
+/// Makes values by the definitions, and counts each operator on curves in the caller's counter. The last service of a priority
+/// queue is kept, for the next one may be of the same: so it is that one, but counted as if it were made.
 #[derive(Drop)]
 pub struct Counted<'a, L: Ledger> {
     pub alloc: Global,
     pub steps: &'a mut Steps<L>,
+    pub recent: &'a mut Recent,
 }
 
 impl<'a, L: Ledger> Evaluator<Value> for Counted<'a, L> {
@@ -33,6 +36,6 @@ impl<'a, L: Ledger> Evaluator<Value> for Counted<'a, L> {
             net,
             table,
         };
-        inputs.value(cell, self.steps)
+        inputs.value(cell, self.recent, self.steps)
     }
 }

@@ -13,6 +13,7 @@ ghost use Rattle.cell_eval.specs.Evaluates.{MayBeMade, Evaluates};
 use crate::curve_sums::{flows_sum, queues_sum};
 use crate::inputs::{Answer, Inputs};
 use crate::named_cells::cell;
+use crate::recent::Recent;
 use crate::sharing::{again, copied, shared};
 use crate::sums::summed;
 use cell_numbers::{Pick, packet, place_of};
@@ -74,12 +75,17 @@ impl<T: Table<Value>> Inputs<'_, T> {
     }
 
     /// What a queue is served.
-    pub(crate) fn serving<L: Ledger>(&self, place: (u32, u32), steps: &mut Steps<L>) -> Answer
+    pub(crate) fn serving<L: Ledger>(
+        &self,
+        place: (u32, u32),
+        recent: &mut Recent,
+        steps: &mut Steps<L>,
+    ) -> Answer
         requires { MayBeMade self.now.net.now (T.at self.now.table.now) (cell_of QueueService place.0 place.1) }
         ensures { Evaluates self.now.net.now (T.at self.now.table.now) (cell_of QueueService place.0 place.1) steps.old steps.new
             (answer_of meaning_of result) }
     {
-        self.queue_service(place, steps)
+        self.queue_service(place, recent, steps)
     }
 
     /// What a flow is served along its path.

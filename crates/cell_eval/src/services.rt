@@ -21,6 +21,7 @@ ghost use Rattle.outcomes.specs.Spending.{Counts};
 ghost use Rattle.cell_numbers.specs.TableValues.{IsCurveAt};
 
 use crate::inputs::{Answer, Inputs};
+use crate::recent::Recent;
 use crate::sharing::{copied, shared};
 use arrayvec::ArrayVec;
 use cell_numbers::{Pick, curve_at, longest_at};
@@ -29,7 +30,6 @@ use net_cells::{Cell, Kind, Leaving, leaves, server};
 use net_model::Network;
 use outcomes::Steps;
 use residuals::drr::drr_service;
-use residuals::priority::priority_service;
 use std::alloc::Global;
 use std::sync::ledger::Ledger;
 use upp_curve::Curve;
@@ -42,6 +42,7 @@ fn above_others<T: Table<Value>, L: Ledger>(
     net: &Network,
     service: &Curve,
     place: (u32, u32),
+    recent: &mut Recent,
     steps: &mut Steps<L>,
 ) -> Result<Value, OpFault>
     requires finite { IsFinite (value_at service.now) }
@@ -59,8 +60,7 @@ fn above_others<T: Table<Value>, L: Ledger>(
         b: place.1,
     };
     let lower = longest_at(net, place.0, Pick::AfterQueue(place.1));
-    let made = priority_service(alloc, service, curve_at(table, above), lower, steps);
-    shared(alloc, made)
+    recent.service_above(alloc, service, curve_at(table, above), lower, steps)
 }
 
 // The longest packet of each of the first queues.
@@ -100,7 +100,12 @@ fn by_share<L: Ledger>(
 
 impl<T: Table<Value>> Inputs<'_, T> {
     /// The curve that serves a queue.
-    pub(crate) fn queue_service<L: Ledger>(&self, place: (u32, u32), steps: &mut Steps<L>) -> Answer
+    pub(crate) fn queue_service<L: Ledger>(
+        &self,
+        place: (u32, u32),
+        recent: &mut Recent,
+        steps: &mut Steps<L>,
+    ) -> Answer
         requires queue { place.1 < at.queues self.now.net.now place.0 }
         requires above { EachBefore (IsCurveAt (T.at self.now.table.now))
             (left_of self.now.net.now place.0 place.1 (at.discipline self.now.net.now place.0)) }
@@ -120,6 +125,7 @@ impl<T: Table<Value>> Inputs<'_, T> {
                     self.net,
                     &found.service,
                     place,
+                    recent,
                     steps,
                 ),
                 Leaving::Share { quanta } => {

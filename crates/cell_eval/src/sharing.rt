@@ -1,5 +1,6 @@
 //! Curves that are shared.
 
+ghost use Rattle.std.specs.Prelude.{Ok};
 ghost use Rattle.curve_call.specs.Again.{IsAgain};
 ghost use Rattle.net_cells.specs.Formulas.{value_of};
 ghost use Rattle.net_cells.specs.cell_table.Gives.{Gives};
@@ -28,15 +29,22 @@ pub fn shared(alloc: Global, made: Result<Curve, OpFault>) -> Result<Value, OpFa
     }
 }
 
+/// A shared curve, shared once more.
+pub fn once_more(handle: &Rc<Curve>) -> Result<Value, OpFault>
+    ensures { IsShared (Ok handle.now.value) (answer_of meaning_of result) }
+{
+    match handle.clone() {
+        Ok(made) => Ok(Value::Curve(made)),
+        Err(_) => Err(OpFault::NoMemory),
+    }
+}
+
 /// A cell's curve, shared once more.
 pub fn again<T: Table<Value>>(table: &T, cell: Cell) -> Result<Value, OpFault>
     requires { IsCurveAt (T.at table.now) cell }
     ensures { Gives (T.at table.now) (value_of cell) (answer_of meaning_of result) }
 {
-    match curve_at(table, cell).clone() {
-        Ok(handle) => Ok(Value::Curve(handle)),
-        Err(_) => Err(OpFault::NoMemory),
-    }
+    once_more(curve_at(table, cell))
 }
 
 /// A curve of the network, once more.

@@ -10,8 +10,8 @@ ghost use Rattle.net_cells.specs.Work.{work};
 ghost use Rattle.net_cells.specs.MemoryEnds.{MemoryEnds};
 ghost use Rattle.cell_eval.specs.flow_analysis.Analyses.{IsAnalysisOf, IsRefusal};
 
-use crate::Counted;
 use crate::flow_analysis::each_cell::analysed;
+use crate::{Counted, Recent};
 use net_cells::cell_table::{Analysis, AnalysisFault, CellValue, Evaluator, Table, Value};
 use net_cells::cells;
 use net_model::Network;
@@ -58,6 +58,11 @@ pub fn analyse<L: Ledger>(
     ensures spends { SpendsSteps (IsEqual (sum_by (work net.now) (evaluation_order net.now order.now)))
         AnalysisFault.NoMemory (MemoryEnds net.now (evaluation_order net.now order.now)) steps.old steps.new result }
 {
-    let mut counted = Counted { alloc, steps };
+    let mut recent = Recent::new();
+    let mut counted = Counted {
+        alloc,
+        steps,
+        recent: &mut recent,
+    };
     analysed_in_order(alloc, net, order, &mut counted)
 }

@@ -13,7 +13,7 @@ ghost use Rattle.commands.specs.edit.EditCounts.{CountsInTurn, CountsOnEdits};
 
 use crate::edit::rows::all_answered;
 use crate::edit_report::edit_text_in;
-use cell_eval::Counted;
+use cell_eval::{Counted, Recent};
 use cell_store::edit_store::Store;
 use command_replies::{Answer, Status, cell_too_many, cell_too_wide, goes_round};
 use net_cells::cell_table::{AnalysisFault, Evaluator, Value};
@@ -94,7 +94,12 @@ pub(crate) fn on_network<L: Ledger>(
 {
     match order(alloc, net) {
         Ok(servers) => {
-            let mut counted = Counted { alloc, steps };
+            let mut recent = Recent::new();
+            let mut counted = Counted {
+                alloc,
+                steps,
+                recent: &mut recent,
+            };
             in_order(alloc, net, &servers, edits, form, &mut counted)
         }
         Err(GraphFault::Cycle(walk)) => goes_round(alloc, net, &walk),
