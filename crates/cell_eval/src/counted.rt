@@ -11,7 +11,7 @@ use std::sync::ledger::Ledger;
 use upp_limits::OpFault;
 
 /// Makes values by the definitions, and counts each operator on curves in the caller's counter. The last service of a priority
-/// queue is kept, for the next one may be of the same: so it is that one, but counted as if it were made.
+/// queue is kept: where the next is made of the same it is shared, and counted as if it were made.
 #[derive(Drop)]
 pub struct Counted<'a, L: Ledger> {
     pub alloc: Global,

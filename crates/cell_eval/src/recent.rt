@@ -43,7 +43,8 @@ impl Model for Last {
 }
 
 impl Last {
-    // Whether it was made of these; the curves are compared by what is stored, the longer ones last.
+    // Whether it was made of these; the curves are compared by what is stored, that of the queues before as the last, since it is
+    // the longest.
     fn is_of(&self, service: &Curve, higher: &Curve, lower: u32) -> bool
         ensures { IsTrue result → IsMadeOf service.now higher.now lower self.now }
     {
@@ -98,7 +99,8 @@ fn kept(
     })
 }
 
-/// The last service of a priority queue that was made, if any, and what it was made of.
+/// The last service of a priority queue that was made, if any, and what it was made of. These curves stay in memory until
+/// another one is made.
 #[derive(Drop)]
 pub struct Recent {
     last: Option<Last>,
@@ -149,6 +151,8 @@ impl Recent {
         match self.found(service, higher, lower, steps) {
             Some(found) => found,
             None => {
+                // The one before is let go first, so that no more is in memory than without it.
+                self.last = None;
                 let made = shared(
                     alloc,
                     priority_service(alloc, service, higher, lower, steps),

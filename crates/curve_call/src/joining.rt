@@ -131,7 +131,8 @@ fn join_apart(kept: &mut Vec<Piece>, own: &Piece, at: &Ext) -> Result<(), AllocE
 #[inline(always)]
 fn join_lower(kept: &mut Vec<Piece>, own: &Piece, other: &Piece) -> Result<(), AllocError>
     ensures { OnOk result ((all : List SpecPiece) → JoinsTo all kept.old.items
-        → JoinsTo (all ++ record { x = own.now.x; at = min_ext own.now.at other.now.at; line = own.now.line } ∷ []) kept.new.items) }
+        → JoinsTo (all ++ record { x = own.now.x; at = min_ext own.now.at other.now.at; line = own.now.line } ∷ [])
+        kept.new.items) }
 {
     if is_at_most(&own.at, &other.at) {
         return join(kept, own);
@@ -148,11 +149,12 @@ fn side(is_left: bool, b: &Both) -> &Piece
     if is_left { &b.left } else { &b.right }
 }
 
-// The same, of the line that is nowhere above the other.
+// Adds the beginning of a stretch of which the lower line is told.
 #[inline(always)]
 fn join_first(kept: &mut Vec<Piece>, b: &Both, below: bool) -> Result<(), AllocError>
     requires { b.now.left.x ≡ b.now.right.x }
-    ensures { OnOk result ((all : List SpecPiece) → JoinsTo all kept.old.items → JoinsTo (all ++ first_piece Lower below b.now ∷ []) kept.new.items) }
+    ensures { OnOk result ((all : List SpecPiece) → JoinsTo all kept.old.items
+        → JoinsTo (all ++ first_piece Lower below b.now ∷ []) kept.new.items) }
 {
     join_lower(kept, side(below, b), side(!below, b))?;
     Ok(())

@@ -1,8 +1,8 @@
 //! How two lines lie on an open stretch.
 
-ghost use Rattle.std.specs.Prelude.{◌≡◌, ◌≢◌, true, Some, None, IfSome};
+ghost use Rattle.std.specs.Prelude.{◌≡◌, ◌≢◌, Some, None, IfSome};
 ghost use Rattle.upp_curve.specs.declared.affine_segment.line.Line.{Line};
-ghost use Rattle.rational.specs.Rational.{ℚ, den};
+ghost use Rattle.rational.specs.Rational.{ℚ};
 ghost use Rattle.curve_call.specs.Lies.{IsLie, LiesBy, MeetsAt, CrossFits};
 
 use crate::short::short_product;
@@ -55,28 +55,26 @@ fn meeting_lie(rises: bool, x: Frac, from: Frac, to: Frac) -> Lie
     }
 }
 
-// Whether the numbers of a line are whole.
 #[inline(always)]
-fn are_whole(line: &Line) -> bool
-    ensures { result ≡ true → (den line.now.icept ≡ 1) × (den line.now.slope ≡ 1) }
-{
-    line.icept.denominator() == 1 && line.slope.denominator() == 1
+fn is_whole(x: Frac) -> bool {
+    x.denominator() == 1
 }
 
 // Which of two lines is nowhere above the other from one time to another, where products of short numbers tell that: their
-// slopes' difference times both times is then on one side of what they are apart at 0. Of fractions no difference is made.
+// slopes' difference times both times is then on one side of what they are apart at 0. Of other slopes and times no
+// difference of fractions is made.
 #[inline(always)]
 fn order_between(a: &Line, b: &Line, from: Frac, to: Frac) -> Option<bool>
     requires { CrossFits (Some a.now) (Some b.now) }
     ensures { IfSome result (λ below. LiesBy below (Some a.now) (Some b.now) from to None) }
 {
-    if !are_whole(a) || !are_whole(b) {
+    if !is_whole(a.slope) || !is_whole(b.slope) {
         return None;
     }
-    let apart = difference(b.icept, a.icept);
     let closing = difference(a.slope, b.slope);
     let first = short_product(closing, from)?;
     let last = short_product(closing, to)?;
+    let apart = difference(b.icept, a.icept);
     if !is_less(apart, first) && !is_less(apart, last) {
         return Some(true);
     }

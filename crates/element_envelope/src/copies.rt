@@ -7,8 +7,7 @@ ghost use Rattle.upp_curve.specs.affine_segment.Pieces.{Each};
 ghost use Rattle.upp_curve.specs.Fitting.{LaterFits};
 ghost use Rattle.upp_curve.specs.Unrolled.{each_later, upto};
 ghost use Rattle.element_envelope.specs.JoinedWindows.{lead_of};
-ghost use Rattle.element_envelope.specs.CopyWindows.{CopyRoom, IsCopyWindow};
-ghost use Rattle.element_envelope.specs.CopyWindows.{IsUnmoved, CopyBeside, IsLowerWithCopy};
+ghost use Rattle.element_envelope.specs.CopyWindows.{CopyRoom, IsCopyWindow, IsUnmoved, CopyBeside, IsLowerWithCopy};
 ghost use Rattle.element_envelope.specs.CopyPieces.{copy_start, skipped};
 
 use crate::least::{MadePieces, nothing};
