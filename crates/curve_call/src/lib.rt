@@ -45,10 +45,10 @@ pub use least::{
     is_slower, least_below, least_below_until, least_periods, least_times, side_periods,
 };
 pub use lower::window_lower;
-pub use made::{MadePieces, excess_value, lines_apart};
+pub use made::{Made, MadePieces, excess_value, lines_apart};
 pub use rises::rise_over;
 pub use sides::{Side, period_or};
-pub use stretch::{Both, overlay};
+pub use stretch::{Both, Walk, overlay};
 pub use sum::window_sum;
 pub use times::{begin, common_period, own_period};
 pub use upp_normal::steady_time;

@@ -22,7 +22,7 @@ pub type MadePieces = Result<Vec<Piece>, AllocError>;
 
 /// What is made of two windows.
 #[derive(Clone, Copy)]
-pub(crate) enum Made {
+pub enum Made {
     /// The lower of the two.
     Lower,
     /// The upper of the two.

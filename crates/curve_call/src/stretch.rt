@@ -41,10 +41,10 @@ pub(crate) fn readable_line(line: &Option<Line>, x: Frac) -> Ext
 
 /// Where the walk over both windows stands: the number of the next piece of each, and the present stretch.
 #[derive(Clone, Copy)]
-pub(crate) struct Walk {
-    pub(crate) i: usize,
-    pub(crate) j: usize,
-    pub(crate) here: Both,
+pub struct Walk {
+    pub i: usize,
+    pub j: usize,
+    pub here: Both,
 }
 
 /// The walk at its start, with the first piece of each window.

@@ -19,6 +19,7 @@ pub mod Rests
 pub mod CopyReads
 pub mod CopyArches
 pub mod CopyWindows
+pub mod WholeCopies
 pub mod StartTests
 pub mod StartTurns
 pub mod Growth

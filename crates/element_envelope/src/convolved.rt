@@ -15,11 +15,11 @@ use crate::one_side::starts_of_one_side;
 use crate::pace::pace_of;
 use crate::running::{only_line, running_lines};
 use crate::starts::{are_low_at_starts, turning_starts};
-use curve_call::window_lower;
 use fraction128::Frac;
 use rational::Extended;
 use std::alloc::{AllocError, Global};
 use upp_curve::affine_segment::Piece;
+use whole_windows::lower_by_either;
 
 // The least of the copies of g at some starts, of which those are left out that are so far above an earlier one that their
 // copies are nowhere below its copy.
@@ -58,7 +58,7 @@ fn by_starts(alloc: Global, f: &[Piece], g: &[Piece], from: Frac, end: Frac) -> 
 {
     let left = copies_at(alloc, f, g, from, end)?;
     let right = copies_at(alloc, g, f, from, end)?;
-    window_lower(alloc, &left, &right, end)
+    lower_by_either(alloc, &left, &right, end)
 }
 
 // By the copies of g at those starts of f that count, and that of f at the first start of g; none where that may not be enough.

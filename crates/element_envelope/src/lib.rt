@@ -13,6 +13,7 @@ mod pace;
 mod pair;
 mod running;
 mod starts;
+mod whole_copies;
 mod window;
 
 pub use beside::lower_envelope;

@@ -13,16 +13,16 @@ both c = record {
   second = subst (AreCopies c.args.from c.args.end c.args.g.now c.args.f.now) (sym c.deref-2.ensures.value) c.in_ok-right.ensures;
 }
 
-pub window_lower-requires-clause-cuts : goal.window_lower-requires-clause-cuts
-window_lower-requires-clause-cuts c =
-    (both_ready c.args.from c.args.end c.args.f.now c.args.g.now _ _ c.requires.windows (both (goal.at.window_lower-requires-clause-cuts c).After-deref-2)).cuts
+pub lower_by_either-requires-clause-cuts : goal.lower_by_either-requires-clause-cuts
+lower_by_either-requires-clause-cuts c =
+    (both_ready c.args.from c.args.end c.args.f.now c.args.g.now _ _ c.requires.windows (both (goal.at.lower_by_either-requires-clause-cuts c).After-deref-2)).cuts
 
-pub window_lower-requires-clause-fits : goal.window_lower-requires-clause-fits
-window_lower-requires-clause-fits c =
-    (both_ready c.args.from c.args.end c.args.f.now c.args.g.now _ _ c.requires.windows (both (goal.at.window_lower-requires-clause-fits c).After-deref-2)).fits
+pub lower_by_either-requires-clause-fits : goal.lower_by_either-requires-clause-fits
+lower_by_either-requires-clause-fits c =
+    (both_ready c.args.from c.args.end c.args.f.now c.args.g.now _ _ c.requires.windows (both (goal.at.lower_by_either-requires-clause-fits c).After-deref-2)).fits
 
 pub returns : goal.returns
 returns c =
-    ok_both c.window_lower.result c.args.from c.args.end c.deref.result.now c.deref-2.result.now c.args.f.now c.args.g.now
+    ok_both c.lower_by_either.result c.args.from c.args.end c.deref.result.now c.deref-2.result.now c.args.f.now c.args.g.now
     (λ qs L. both_convolve c.args.from c.args.end c.args.f.now c.args.g.now _ _ qs c.requires.windows c.requires.left c.requires.right (both (goal.at.returns c).After-deref-2) L)
-    c.window_lower.ensures
+    c.lower_by_either.ensures

@@ -3,7 +3,7 @@ use Rattle.std.proofs.lemmas.List.{take-append-drop}
 use Rattle.upp_curve.specs.declared.affine_segment.line.Piece.{Piece}
 use Rattle.element_envelope.specs.CopyWindows.{IsCopyWindow}
 use Rattle.element_envelope.proofs.CopyWindows.{no_starts, empty_is, ok_none, front_room, rest_room, halves_ready, halves, ok_halves}
-use Rattle.element_envelope.proofs.copies.+least_copies.Goals as goal
+use Rattle.element_envelope.proofs.copies.+plain_copies.Goals as goal
 
 -- the two parts make the whole
 joined_is : (front back ps : List Piece) (k : ℕ) → front ≡ take k ps → back ≡ drop k ps → front ++ back ≡ ps
@@ -13,14 +13,14 @@ pub returns-then-starts-eq0 : goal.returns-then-starts-eq0
 returns-then-starts-eq0 t c =
     ok_none c.nothing.result c.args.from c.args.end c.args.starts.now c.args.pieces.now (no_starts c.args.from c.args.end c.args.starts.now c.args.pieces.now (empty_is c.args.starts.now c.if-starts-eq0.true)) c.nothing.ensures
 
-pub least_copies-requires : goal.least_copies-requires
-least_copies-requires t c = (
+pub plain_copies-requires : goal.plain_copies-requires
+plain_copies-requires t c = (
   omega (arith, c.split_at.ensures.front_len, c.if-starts-gt1.true),
   front_room c.args.from c.args.end c.args.starts.now c.split_at.result.0.now c.split_at.result.1.now c.args.pieces.now (joined_is _ _ c.args.starts.now _ c.split_at.ensures.front c.split_at.ensures.back) c.requires,
 )
 
-pub least_copies-requires-then-starts-gt1 : goal.least_copies-requires-then-starts-gt1
-least_copies-requires-then-starts-gt1 t c = (
+pub plain_copies-requires-then-starts-gt1 : goal.plain_copies-requires-then-starts-gt1
+plain_copies-requires-then-starts-gt1 t c = (
   omega (arith, c.split_at.ensures.back_len, c.if-starts-gt1.true),
   rest_room c.args.from c.args.end c.args.starts.now c.split_at.result.0.now c.split_at.result.1.now c.args.pieces.now (joined_is _ _ c.args.starts.now _ c.split_at.ensures.front c.split_at.ensures.back) c.requires,
 )

@@ -1,0 +1,10 @@
+use mir.Syntax.{w128}
+use Rattle.std.proofs.Common.{rules, SFits, to_z-of_z}
+use Rattle.whole_windows.proofs.Numbers.{order_of}
+use Rattle.whole_windows.proofs.pieces.order_at.Goals as goal
+
+pub returns : goal.returns
+returns c =
+    let fa : SFits w128 c.wide_value-left.result = search rules in
+    let fb : SFits w128 c.wide_value-right.result = search rules in
+    order_of _ _ _ _ _ c.wide_value-left.ensures.value c.wide_value-right.ensures.value (simp to_z-of_z at c.wide_order.ensures)
